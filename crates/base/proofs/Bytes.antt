@@ -1,0 +1,54 @@
+-- Laws of byte strings: when two are equal, and that what is made of bytes is bytes. Assumes nothing.
+use mathlib.Core.Path.{_≡_, refl, ap₂}
+use mathlib.Core.Bool.{true, false}
+use mathlib.Core.List.{List, [], _∷_, _++_}
+use Prim.Native.Nat.{ℕ, zero, suc, _+_, _<_, suc-le-suc}
+use native.Mathlib.Omega.{arith}
+use lib.Dec.{lit<}
+use lib.ListN.{length, getD, take, drop}
+use lib.Seq.{getD-drop}
+use borrow.Author.Tests.{eqb-true, eq-eqb}
+use Rattle.base.specs.Bytes.{Bytes, AllBytes, sameBytes, joined}
+use Rattle.base.proofs.Tests.{true-not-false, not-true-false, and-left, and-right}
+
+pub same-equal : (a b : Bytes) → sameBytes a b ≡ true → a ≡ b
+unfolding sameBytes
+same-equal [] [] e = refl
+same-equal [] (y ∷ b) e = true-not-false e refl
+same-equal (x ∷ a) [] e = true-not-false e refl
+same-equal (x ∷ a) (y ∷ b) e = ap₂ _∷_ (eqb-true x y (search and-left)) (same-equal a b (search and-right))
+
+pub same-refl : (a : Bytes) → sameBytes a a ≡ true
+unfolding sameBytes
+same-refl [] = refl
+same-refl (x ∷ a) = rw (eq-eqb x x refl, same-refl a)
+
+pub equal-same : (a b : Bytes) → a ≡ b → sameBytes a b ≡ true
+equal-same a b e = rw e (same-refl b)
+
+pub other-same : (a b : Bytes) → (a ≡ b → ⊥) → sameBytes a b ≡ false
+other-same a b n = not-true-false (sameBytes a b) (λ e. n (same-equal a b e))
+
+pub same-other : (a b : Bytes) → sameBytes a b ≡ false → a ≡ b → ⊥
+same-other a b n e = true-not-false (equal-same a b e) n
+
+-- ---- bytes below 256
+
+pub bytes-drop : (n : ℕ) (b : Bytes) → AllBytes b → AllBytes (drop n b)
+bytes-drop n b a i = rw (getD-drop n b i 0) (a (n + i))
+
+pub bytes-take : (n : ℕ) (b : Bytes) → AllBytes b → AllBytes (take n b)
+bytes-take zero b a i = lit< tt
+bytes-take (suc n) [] a i = lit< tt
+bytes-take (suc n) (x ∷ b) a zero = a 0
+bytes-take (suc n) (x ∷ b) a (suc i) = bytes-take n b (λ j. a (suc j)) i
+
+pub bytes-append : (a b : Bytes) → AllBytes a → AllBytes b → AllBytes (a ++ b)
+bytes-append [] b p q i = q i
+bytes-append (x ∷ a) b p q zero = p 0
+bytes-append (x ∷ a) b p q (suc i) = bytes-append a b (λ j. p (suc j)) q i
+
+pub bytes-joined : (xs : List Bytes) → ((i : ℕ) → i < length xs → AllBytes (getD xs i [])) → AllBytes (joined xs)
+unfolding joined
+bytes-joined [] p i = lit< tt
+bytes-joined (x ∷ xs) p i = bytes-append x (joined xs) (p 0 (omega arith)) (bytes-joined xs (λ j h. p (suc j) (suc-le-suc h))) i

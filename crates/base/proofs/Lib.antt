@@ -1,0 +1,8 @@
+pub mod Tests
+pub mod Search
+pub mod Count
+pub mod Mask
+pub mod Bytes
+pub mod Parts
+pub mod Splice
+pub mod Number

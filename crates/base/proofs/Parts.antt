@@ -1,0 +1,56 @@
+-- Laws of byte strings cut in parts of one size and joined again. Assumes nothing.
+use mathlib.Core.Path.{_≡_, refl, sym, ap, _∙_}
+use mathlib.Core.List.{List, [], _∷_, _++_, append-assoc}
+use Prim.Native.Nat.{ℕ, zero, suc, _+_, _*_, _-_, _≤_, _<_, suc-le-suc}
+use native.Mathlib.Nat.{mul-suc, mul-zero, add-comm, le-of-eq, le-of-suc-le-suc}
+use native.Mathlib.Omega.{arith}
+use lib.ListN.{length, getD, take, drop, length-append, length-drop}
+use lib.Seq.{take-at, drop-at, take-add, take-all, drop-drop}
+use Rattle.base.specs.Bytes.{Bytes, partAt, parts, joined}
+
+-- the length of a part from a to a + s, as the code asks it
+pub part-size : (a s : ℕ) → (a + s) - a ≡ s
+part-size a s = omega arith
+
+-- a part up to the end
+pub rest-part : (b : Bytes) (at : ℕ) → take (length b - at) (drop at b) ≡ drop at b
+rest-part b at = take-all (length b - at) (drop at b) (le-of-eq (length-drop at b))
+
+pub length-parts : (k size : ℕ) (b : Bytes) → length (parts k size b) ≡ k
+unfolding parts
+length-parts zero size b = refl
+length-parts (suc k) size b = ap suc (length-parts k size (drop size b))
+
+size-more : (size k : ℕ) → size + size * k ≡ size * suc k
+size-more size k = add-comm size (size * k) ∙ sym (mul-suc size k)
+
+pub parts-at : (k size : ℕ) (b : Bytes) (i : ℕ) → i < k → getD (parts k size b) i [] ≡ partAt size b i
+unfolding parts
+parts-at zero size b i h = absurd (omega arith)
+parts-at (suc k) size b zero h = rw (mul-zero size)
+parts-at (suc k) size b (suc i) h =
+    parts-at k size (drop size b) i (le-of-suc-le-suc h) ∙ ap (take size) (drop-drop (size * i) size b ∙ ap (λ (n : ℕ). drop n b) (size-more size i))
+
+-- parts joined are the bytes that were cut
+pub joined-parts : (k size : ℕ) (b : Bytes) → joined (parts k size b) ≡ take (size * k) b
+unfolding parts joined
+joined-parts zero size b = rw (mul-zero size)
+joined-parts (suc k) size b = rw (joined-parts k size (drop size b), ← take-add size (size * k) b) (ap (λ (n : ℕ). take n b) (size-more size k))
+
+-- byte strings of one size, joined
+module _ (size : ℕ) where
+  abbrev pub EachSize : List Bytes → Type 0
+  EachSize xs = (i : ℕ) → i < length xs → length (getD xs i []) ≡ size
+
+  pub length-joined : (xs : List Bytes) → EachSize xs → length (joined xs) ≡ size * length xs
+  unfolding joined
+  length-joined [] e = sym (mul-zero size)
+  length-joined (x ∷ xs) e = rw (length-append, e 0 (omega arith), length-joined xs (λ i h. e (suc i) (suc-le-suc h))) (size-more size (length xs))
+
+  -- cut in parts of that size they are what was joined
+  pub parts-joined : (xs : List Bytes) (rest : Bytes) → EachSize xs → parts (length xs) size (joined xs ++ rest) ≡ xs
+  unfolding parts joined
+  parts-joined [] rest e = refl
+  parts-joined (x ∷ xs) rest e =
+      let l : length x ≡ size = e 0 (omega arith) in
+      rw (append-assoc x (joined xs) rest, take-at x (joined xs ++ rest) size l, drop-at x (joined xs ++ rest) size l, parts-joined xs rest (λ i h. e (suc i) (suc-le-suc h)))

@@ -1,0 +1,82 @@
+-- Laws of the first number below a bound that passes a test: the turns of the loop that looks for it, and what it is. Assumes nothing.
+use mathlib.Core.Path.{_≡_, refl, sym}
+use mathlib.Core.Bool.{Bool, true, false, cond}
+use mathlib.Core.Logic.{inl, inr}
+use Prim.Native.Nat.{ℕ, zero, suc, _+_, _≤_, _<_}
+use native.Mathlib.Nat.{eq-or-lt-of-le, le-of-suc-le-suc}
+use native.Mathlib.Numerals.{add-one}
+use native.Mathlib.Omega.{arith}
+use lib.Dec.{ltb}
+use borrow.Author.Tests.{lt-ltb, le-ltb, ltb-true, ltb-false}
+use Rattle.base.specs.Search.{firstBelow, anyBelow}
+use Rattle.base.proofs.Tests.{by-test, true-not-false, not-true-false}
+
+module _ (f : ℕ → Bool) where
+  pub first-le : (k : ℕ) → firstBelow f k ≤ k
+  unfolding firstBelow
+  first-le zero = omega arith
+  first-le (suc k) = go (ltb (firstBelow f k) k) (f k) (first-le k)
+    where
+      go : (t u : Bool) → firstBelow f k ≤ k → cond t (firstBelow f k) (cond u k (suc k)) ≤ suc k
+      go true u h = omega arith
+      go false true h = omega arith
+      go false false h = omega arith
+
+  -- before the first turn
+  pub first-none : firstBelow f 0 ≡ 0
+  unfolding firstBelow
+  first-none = refl
+
+  -- one turn of the loop that looks for it: none so far, and not here
+  pub first-past : (k : ℕ) → firstBelow f k ≡ k → f k ≡ false → firstBelow f (k + 1) ≡ k + 1
+  unfolding firstBelow
+  first-past k e n = rw (add-one k, e, le-ltb k k (omega arith), n)
+
+  -- here is the first
+  pub first-hit : (j k : ℕ) → j < k → firstBelow f j ≡ j → f j ≡ true → firstBelow f k ≡ j
+  unfolding firstBelow
+  first-hit j zero h e y = absurd (omega arith)
+  first-hit j (suc k) h e y = elim (eq-or-lt-of-le (le-of-suc-le-suc h)) [
+    | inl q ↦ let e′ : firstBelow f k ≡ k = rw q at e in let y′ : f k ≡ true = rw q at y in rw (e′, le-ltb k k (omega arith), y′) (sym q)
+    | inr l ↦ let i = first-hit j k l e y in rw (i, lt-ltb j k l)
+  ]
+
+  -- what the first is: it passes, and none before it does
+  pub first-passes : (k : ℕ) → firstBelow f k < k → f (firstBelow f k) ≡ true
+  unfolding firstBelow
+  first-passes zero h = absurd (omega arith)
+  first-passes (suc k) h = go (ltb (firstBelow f k) k) refl (f k) refl h (first-passes k)
+    where
+      go : (t : Bool) → ltb (firstBelow f k) k ≡ t → (u : Bool) → f k ≡ u → cond t (firstBelow f k) (cond u k (suc k)) < suc k → (firstBelow f k < k → f (firstBelow f k) ≡ true)
+          → f (cond t (firstBelow f k) (cond u k (suc k))) ≡ true
+      go true q u p h ih = ih (ltb-true _ _ q)
+      go false q true p h ih = p
+      go false q false p h ih = absurd (omega arith)
+
+  pub first-before : (k j : ℕ) → j < firstBelow f k → f j ≡ false
+  unfolding firstBelow
+  first-before zero j h = absurd (omega arith)
+  first-before (suc k) j h = go (ltb (firstBelow f k) k) refl (f k) refl h (first-before k j) (first-le k)
+    where
+      go : (t : Bool) → ltb (firstBelow f k) k ≡ t → (u : Bool) → f k ≡ u → j < cond t (firstBelow f k) (cond u k (suc k)) → (j < firstBelow f k → f j ≡ false) → firstBelow f k ≤ k → f j ≡ false
+      go true q u p h ih l = ih h
+      go false q true p h ih l = ih (omega (arith, ltb-false (firstBelow f k) k q))
+      go false q false p h ih l = elim (eq-or-lt-of-le (le-of-suc-le-suc h)) [ inl e ↦ rw e p | inr i ↦ ih (omega (arith, ltb-false (firstBelow f k) k q)) ]
+
+  -- where none below k passes, there is no first, and the other way round
+  pub any-false : (k : ℕ) → ((j : ℕ) → j < k → f j ≡ false) → anyBelow f k ≡ false
+  unfolding anyBelow
+  any-false k n = not-true-false _ (λ e. let l = ltb-true _ _ e in true-not-false (first-passes k l) (n _ l))
+
+  pub any-false-at : (k : ℕ) → anyBelow f k ≡ false → (j : ℕ) → j < k → f j ≡ false
+  unfolding anyBelow
+  any-false-at k e j h = first-before k j (omega (arith, ltb-false (firstBelow f k) k e))
+
+  pub any-true : (k j : ℕ) → j < k → f j ≡ true → anyBelow f k ≡ true
+  any-true k j h y = by-test (anyBelow f k) (λ e. e) (λ e. true-not-false y (any-false-at k e j h))
+
+-- two tests that agree below k have one first
+pub first-same : (f g : ℕ → Bool) (k : ℕ) → ((j : ℕ) → j < k → f j ≡ g j) → firstBelow f k ≡ firstBelow g k
+unfolding firstBelow
+first-same f g zero h = refl
+first-same f g (suc k) h = rw (first-same f g k (λ j l. h j (omega arith)), h k (omega arith))

@@ -1,0 +1,76 @@
+-- Laws of bytes put into bytes: what stands up to the end of what was put, the length, each element afterwards, and two puts in a row.
+-- Assumes nothing.
+use mathlib.Core.Path.{_≡_, sym, ap, ap₂, _∙_}
+use mathlib.Core.List.{_++_, append-assoc, append-nil}
+use Prim.Native.Nat.{ℕ, _+_, _-_, _≤_, _<_}
+use native.Mathlib.Nat.{add-assoc, le-of-eq}
+use native.Mathlib.Omega.{arith}
+use lib.ListN.{length, getD, take, drop, length-append, length-drop, List·getD-append, drop-of-length-le}
+use lib.Seq.{sets, sets-eq, take-length, take-all, take-at, drop-at, drop-drop, getD-take, getD-drop, getD-append-add, length-take-le}
+use Rattle.base.specs.Bytes.{Bytes, splice}
+
+-- what a callee that copies `part` to the front of `&mut b[at..]` leaves of the whole
+pub splice-of-copy : (b part ys : Bytes) (at : ℕ) → ys ≡ take (length part) part ++ drop (length part) (take (length b - at) (drop at b))
+    → take at b ++ (ys ++ drop (length b - at) (drop at b)) ≡ splice b at part
+unfolding splice
+splice-of-copy b part ys at e =
+    let l : length (drop at b) ≤ length b - at = le-of-eq (length-drop at b) in
+    rw (e, take-length part, take-all (length b - at) (drop at b) l, drop-of-length-le (drop at b) l, append-nil (part ++ drop (length part) (drop at b)), drop-drop (length part) at b)
+
+-- what a run of stores leaves
+pub splice-of-stores : (b part : Bytes) (at : ℕ) → at + length part ≤ length b → sets b at part ≡ splice b at part
+unfolding splice
+splice-of-stores b part at h = sets-eq part b at h ∙ append-assoc (take at b) part (drop (at + length part) b)
+
+module _ (b : Bytes) (at : ℕ) (part : Bytes) (within : at ≤ length b) where
+  abbrev front : Bytes
+  front = take at b ++ part
+
+  before : length (take at b) ≡ at
+  before = length-take-le at b within
+
+  front-length : length front ≡ at + length part
+  front-length = length-append (take at b) part ∙ ap (λ (n : ℕ). n + length part) before
+
+  grouped : splice b at part ≡ front ++ drop (at + length part) b
+  unfolding splice
+  grouped = sym (append-assoc (take at b) part (drop (at + length part) b))
+
+  pub take-splice : take (at + length part) (splice b at part) ≡ take at b ++ part
+  take-splice = ap (take (at + length part)) grouped ∙ take-at front (drop (at + length part) b) (at + length part) front-length
+
+  pub drop-splice : (n : ℕ) → drop (at + length part + n) (splice b at part) ≡ drop (at + length part + n) b
+  drop-splice n =
+      sym (drop-drop n (at + length part) (splice b at part))
+      ∙ ap (drop n) (ap (drop (at + length part)) grouped ∙ drop-at front (drop (at + length part) b) (at + length part) front-length)
+      ∙ drop-drop n (at + length part) b
+
+  -- what is put right behind is put with it
+  pub splice-append : (more : Bytes) → splice (splice b at part) (at + length part) more ≡ splice b at (part ++ more)
+  unfolding splice
+  splice-append more =
+      ap₂ (λ (x y : Bytes). x ++ (more ++ y)) take-splice (drop-splice (length more))
+      ∙ simp (append-assoc, length-append, add-assoc)
+
+  -- the elements before, in and after the part
+  pub splice-low : (i : ℕ) → i < at → getD (splice b at part) i 0 ≡ getD b i 0
+  unfolding splice
+  splice-low i h = List·getD-append (take at b) (part ++ drop (at + length part) b) 0 i (omega (arith, before)) ∙ getD-take at b i 0 h
+
+  pub splice-in : (i : ℕ) → i < length part → getD (splice b at part) (at + i) 0 ≡ getD part i 0
+  unfolding splice
+  splice-in i h =
+      ap (λ (n : ℕ). getD (take at b ++ (part ++ drop (at + length part) b)) (n + i) 0) (sym before)
+      ∙ getD-append-add (take at b) (part ++ drop (at + length part) b) i 0 ∙ List·getD-append part (drop (at + length part) b) 0 i h
+
+  pub splice-high : (i : ℕ) → at + length part ≤ i → getD (splice b at part) i 0 ≡ getD b i 0
+  splice-high i h =
+      let e : i ≡ at + length part + 0 + (i - (at + length part)) = omega arith in
+      ap (λ (n : ℕ). getD (splice b at part) n 0) e ∙ sym (getD-drop (at + length part + 0) (splice b at part) (i - (at + length part)) 0)
+      ∙ ap (λ (l : Bytes). getD l (i - (at + length part)) 0) (drop-splice 0)
+      ∙ getD-drop (at + length part + 0) b (i - (at + length part)) 0 ∙ ap (λ (n : ℕ). getD b n 0) (sym e)
+
+pub length-splice : (b : Bytes) (at : ℕ) (part : Bytes) → at + length part ≤ length b → length (splice b at part) ≡ length b
+length-splice b at part fits =
+    ap length (grouped b at part (omega arith)) ∙ length-append (front b at part (omega arith)) (drop (at + length part) b)
+    ∙ omega (arith, front-length b at part (omega arith), length-drop (at + length part) b)

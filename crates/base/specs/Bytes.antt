@@ -1,0 +1,38 @@
+-- Byte strings: their parts, their equality, and one put into another. Assumes nothing.
+use mathlib.Core.Bool.{Bool, true, false, _&&_}
+use mathlib.Core.List.{List, [], _∷_, _++_}
+use Prim.Native.Nat.{ℕ, zero, suc, _+_, _*_, _<_}
+use lib.Dec.{eqb}
+use lib.ListN.{length, getD, take, drop}
+
+abbrev pub Bytes : Type 0
+Bytes = List ℕ
+
+-- every element is a byte
+abbrev pub AllBytes : Bytes → Type 0
+AllBytes b = (i : ℕ) → getD b i 0 < 256
+
+-- whether two byte strings are equal
+unfoldable pub sameBytes : Bytes → Bytes → Bool
+sameBytes [] [] = true
+sameBytes [] (y ∷ ys) = false
+sameBytes (x ∷ xs) [] = false
+sameBytes (x ∷ xs) (y ∷ ys) = eqb x y && sameBytes xs ys
+
+-- part i of a byte string that is cut in parts of so many bytes
+abbrev pub partAt : ℕ → Bytes → ℕ → Bytes
+partAt size b i = take size (drop (size * i) b)
+
+-- the first k such parts
+unfoldable pub parts : ℕ → ℕ → Bytes → List Bytes
+parts zero size b = []
+parts (suc k) size b = take size b ∷ parts k size (drop size b)
+
+-- byte strings one after the other
+unfoldable pub joined : List Bytes → Bytes
+joined [] = []
+joined (x ∷ xs) = x ++ joined xs
+
+-- the bytes `b` with `part` put at index `at`, the others as they were
+unfoldable pub splice : Bytes → ℕ → Bytes → Bytes
+splice b at part = take at b ++ (part ++ drop (at + length part) b)

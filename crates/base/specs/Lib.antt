@@ -1,0 +1,6 @@
+-- What the layers' definitions share. Nothing of document 01 stands here.
+pub mod Search
+pub mod Count
+pub mod Mask
+pub mod Bytes
+pub mod Number

@@ -1,0 +1,16 @@
+-- Numbers of two bytes, the high byte first. Assumes nothing.
+use mathlib.Core.List.{[], _∷_}
+use Prim.Native.Nat.{ℕ, _+_, _*_, _/_, _%_}
+use lib.ListN.{getD}
+use Rattle.base.specs.Bytes.{Bytes}
+
+abbrev pub number : ℕ → ℕ → ℕ
+number high low = high * 256 + low
+
+-- the number at index i of a byte string
+abbrev pub numberAt : Bytes → ℕ → ℕ
+numberAt b i = number (getD b i 0) (getD b (i + 1) 0)
+
+-- the bytes of a number
+abbrev pub pair : ℕ → Bytes
+pair x = x / 256 ∷ x % 256 ∷ []

@@ -1,0 +1,13 @@
+-- The first number below a bound that passes a test: every 'index of the first such', 'lowest such place' and 'all different'. Assumes nothing.
+use mathlib.Core.Bool.{Bool, cond}
+use Prim.Native.Nat.{ℕ, zero, suc}
+use lib.Dec.{ltb}
+
+-- the least number below k that passes the test, and k if there is none
+unfoldable pub firstBelow : (ℕ → Bool) → ℕ → ℕ
+firstBelow test zero = zero
+firstBelow test (suc k) = cond (ltb (firstBelow test k) k) (firstBelow test k) (cond (test k) k (suc k))
+
+-- whether some number below k passes the test
+unfoldable pub anyBelow : (ℕ → Bool) → ℕ → Bool
+anyBelow test k = ltb (firstBelow test k) k

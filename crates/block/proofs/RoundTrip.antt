@@ -1,0 +1,203 @@
+-- Bytes and fields determine each other: a fitting content's encoding reads to that content, and no other bytes do.
+-- Assumes nothing.
+use mathlib.Core.Path.{_≡_, refl, sym, ap, _∙_, subst}
+use mathlib.Core.Bool.{false}
+use mathlib.Core.Logic.{_≢_}
+use mathlib.Core.List.{List, [], _∷_, _++_, map}
+use Prim.Native.Nat.{ℕ, zero, suc, _+_, _*_, _/_, _%_, _≤_, _<_, suc-le-suc}
+use native.Mathlib.Omega.{arith}
+use lib.Dec.{eqb, ltb}
+use lib.ListN.{length, getD, take, drop, length-drop, take-append-drop}
+use lib.Seq.{length-take-le, take-all, drop-drop}
+use borrow.Author.Tests.{le-ltb, ne-eqb, ltb-false, eqb-false}
+use Rattle.base.specs.Bytes.{Bytes, AllBytes, sameBytes, partAt, joined}
+use Rattle.base.proofs.Tests.{or-left, or-right}
+use Rattle.base.proofs.Search.{any-false, any-false-at}
+use Rattle.base.proofs.Bytes.{other-same, same-other, bytes-take, bytes-drop, bytes-append, bytes-joined}
+use Rattle.base.proofs.Number.{number-pair, number-below, number-high, number-low, high-below}
+use Rattle.block.specs.Limits.{headerSize, referenceSize, requestSize, maxSlot}
+use Rattle.block.specs.Layout.{Content, siteOf, sequenceOf, referenceCount, requestCount, referenceList, requestList, referenceAt, requestAt, requestBytes, referencesIn, requestsIn, content, contentOf, encode}
+use Rattle.block.specs.Reading.{badRequest, badRequestAt, repeatedAt, fieldsOf, reading}
+use Rattle.block.specs.Codec.{Digest, Admissible, noRequest, Fitting, Reads, Gives, RoundTrip}
+use Rattle.block.specs.Steps.{Shaped}
+use Rattle.block.specs.declared.Request.{Request}
+use Rattle.block.specs.declared.Fields.{Fields}
+use Rattle.block.specs.declared.Reading.the-variants.{Block}
+use Rattle.block.proofs.Lists.{references-length, references-at, requests-length, requests-at}
+use Rattle.block.proofs.Shape.{reference-list-length, request-list-length, references-counted, requests-counted}
+use Rattle.block.proofs.Encoding.{encode-content, encode-length, encode-references, encode-requests, references-held, requests-held}
+use Rattle.block.proofs.Accepted.{Accepted, AcceptedAs, accepted-reading, reading-accepted}
+
+-- ---- from a fitting content to bytes
+
+good-request : (q : Request) → Admissible q → badRequest q ≡ false
+good-request q a = rw (le-ltb maxSlot (q .slot) (a .slot), ne-eqb (q .number) 0 (λ e. omega (arith, a .some)))
+
+request-bytes : (qs : List Request) → ((i : ℕ) → i < length qs → Admissible (getD qs i noRequest)) → AllBytes (joined (map requestBytes qs))
+unfolding joined
+request-bytes [] a i = omega arith
+request-bytes (q ∷ qs) a zero = omega (arith, a 0 (omega arith) .slot)
+request-bytes (q ∷ qs) a (suc zero) = high-below (q .number) (a 0 (omega arith) .number)
+request-bytes (q ∷ qs) a (suc (suc zero)) = omega arith
+request-bytes (q ∷ qs) a (suc (suc (suc i))) = request-bytes qs (λ j h. a (suc j) (suc-le-suc h)) i
+
+module _ (c : Content) (f : Fitting c) where
+  abbrev sized : (i : ℕ) → i < length (c .references) → length (getD (c .references) i []) ≡ referenceSize
+  sized i h = f .digests i h .size
+
+  encode-bytes : AllBytes (encode c)
+  unfolding encode
+  encode-bytes zero = f .site
+  encode-bytes (suc zero) = high-below (c .sequence) (f .sequence)
+  encode-bytes (suc (suc zero)) = omega arith
+  encode-bytes (suc (suc (suc zero))) = omega (arith, f .fewReferences)
+  encode-bytes (suc (suc (suc (suc zero)))) = omega (arith, f .fewRequests)
+  encode-bytes (suc (suc (suc (suc (suc i))))) =
+      bytes-append (joined (c .references)) (joined (map requestBytes (c .requests)))
+      (bytes-joined (c .references) (λ j h. f .digests j h .bytes)) (request-bytes (c .requests) (f .admissible)) i
+
+  encode-shaped : Shaped (encode c)
+  unfolding encode
+  encode-shaped =
+      record {
+        header = omega (arith, encode-length c sized);
+        references = f .fewReferences;
+        requests = f .fewRequests;
+        exact = encode-length c sized;
+      }
+
+  -- the entries of the encoding's two lists are those of the content
+  reference-there : (i : ℕ) → i < length (c .references) → referenceAt (referenceList (encode c)) i ≡ getD (c .references) i []
+  reference-there i h =
+      let l : length (joined (c .references)) / referenceSize ≡ length (c .references) = sym (references-length (joined (c .references))) ∙ ap length (references-held c sized) in
+      ap (λ (x : Bytes). referenceAt x i) (encode-references c sized)
+      ∙ sym (references-at (joined (c .references)) i (omega arith)) ∙ ap (λ (x : List Bytes). getD x i []) (references-held c sized)
+
+  request-there : (i : ℕ) → i < length (c .requests) → requestAt (requestList (encode c)) i ≡ getD (c .requests) i noRequest
+  request-there i h =
+      let l : length (joined (map requestBytes (c .requests))) / requestSize ≡ length (c .requests) = sym (requests-length (joined (map requestBytes (c .requests)))) ∙ ap length (requests-held c sized) in
+      ap (λ (x : Bytes). requestAt x i) (encode-requests c sized)
+      ∙ sym (requests-at (joined (map requestBytes (c .requests))) i (omega arith)) ∙ ap (λ (x : List Request). getD x i noRequest) (requests-held c sized)
+
+  not-repeated : (i : ℕ) → i < length (c .references) → repeatedAt (referenceList (encode c)) i ≡ false
+  not-repeated i h =
+      any-false (λ j. sameBytes (referenceAt (referenceList (encode c)) j) (referenceAt (referenceList (encode c)) i)) i
+      (λ j l. rw (reference-there j (omega arith), reference-there i h) (other-same _ _ (f .different i j l h)))
+
+  encode-accepted : Accepted (encode c)
+  unfolding encode
+  encode-accepted =
+      record {
+        shape = encode-shaped;
+        requests = any-false (badRequestAt (requestList (encode c))) (length (c .requests)) (λ i h. ap badRequest (request-there i h) ∙ good-request _ (f .admissible i h));
+        references = any-false (repeatedAt (referenceList (encode c))) (length (c .references)) not-repeated;
+      }
+
+  encode-content-back : contentOf (encode c) ≡ c
+  unfolding contentOf content encode
+  encode-content-back =
+      rw (encode-references c sized, encode-requests c sized, references-held c sized, requests-held c sized, number-pair (c .sequence))
+
+-- ---- from bytes that are read to their content
+
+module _ (b : Bytes) (a : AllBytes b) (r : Accepted b) where
+  abbrev s : Shaped b
+  s = r .shape
+
+  list-bytes : AllBytes (referenceList b)
+  list-bytes = bytes-take (referenceSize * referenceCount b) (drop headerSize b) (bytes-drop headerSize b a)
+
+  requests-bytes : AllBytes (requestList b)
+  requests-bytes = bytes-drop (headerSize + referenceSize * referenceCount b) b a
+
+  lists-rest : referenceList b ++ requestList b ≡ drop headerSize b
+  lists-rest =
+      ap (λ (x : Bytes). referenceList b ++ x) (sym (drop-drop (referenceSize * referenceCount b) headerSize b)) ∙ take-append-drop (referenceSize * referenceCount b) (drop headerSize b)
+
+  -- the content is one that fits
+  digest-there : (i : ℕ) → i < referenceCount b → Digest (referenceAt (referenceList b) i)
+  digest-there i h =
+      record {
+        bytes = bytes-take referenceSize (drop (referenceSize * i) (referenceList b)) (bytes-drop (referenceSize * i) (referenceList b) list-bytes);
+        size = length-take-le referenceSize (drop (referenceSize * i) (referenceList b)) (omega (arith, length-drop (referenceSize * i) (referenceList b), reference-list-length b s));
+      }
+
+  different-there : (i j : ℕ) → j < i → i < referenceCount b → referenceAt (referenceList b) j ≢ referenceAt (referenceList b) i
+  different-there i j l h =
+      same-other _ _ (any-false-at (λ k. sameBytes (referenceAt (referenceList b) k) (referenceAt (referenceList b) i)) i
+      (any-false-at (repeatedAt (referenceList b)) (referenceCount b) (r .references) i h) j l)
+
+  admissible-there : (i : ℕ) → i < requestCount b → Admissible (requestAt (requestList b) i)
+  admissible-there i h =
+      let e : badRequest (requestAt (requestList b) i) ≡ false = any-false-at (badRequestAt (requestList b)) (requestCount b) (r .requests) i h in
+      let q : Request = requestAt (requestList b) i in
+      let p : AllBytes (partAt requestSize (requestList b) i) = bytes-take requestSize (drop (requestSize * i) (requestList b)) (bytes-drop (requestSize * i) (requestList b) requests-bytes) in
+      let n : q .number ≢ 0 = eqb-false (q .number) 0 (or-right (ltb maxSlot (q .slot)) (eqb (q .number) 0) e) in
+      record {
+        slot = ltb-false maxSlot (q .slot) (or-left (ltb maxSlot (q .slot)) (eqb (q .number) 0) e);
+        some = positive (q .number) n;
+        number = number-below _ _ (p 1) (p 2);
+      }
+    where
+      positive : (x : ℕ) → x ≢ 0 → 1 ≤ x
+      positive zero n = absurd (n refl)
+      positive (suc x) n = omega arith
+
+  fitting : Fitting (contentOf b)
+  unfolding contentOf content
+  fitting =
+      let p : length (referencesIn (referenceList b)) ≡ referenceCount b = references-length (referenceList b) ∙ references-counted b s in
+      let q : length (requestsIn (requestList b)) ≡ requestCount b = requests-length (requestList b) ∙ requests-counted b s in
+      let at : (i : ℕ) → i < referenceCount b → getD (referencesIn (referenceList b)) i [] ≡ referenceAt (referenceList b) i =
+          λ i h. references-at (referenceList b) i (omega (arith, references-counted b s)) in
+      record {
+        site = a 0;
+        sequence = number-below _ _ (a 1) (a 2);
+        fewReferences = omega (arith, s .references);
+        digests = λ i h. rw (at i (omega arith)) (digest-there i (omega arith));
+        different = λ i j l h. rw (at i (omega arith), at j (omega arith)) (different-there i j l (omega arith));
+        fewRequests = omega (arith, s .requests);
+        admissible = λ i h. rw (requests-at (requestList b) i (omega (arith, requests-counted b s))) (admissible-there i (omega arith));
+      }
+
+  -- and the bytes are its encoding
+  encode-back : encode (contentOf b) ≡ b
+  unfolding contentOf
+  encode-back =
+      encode-content (siteOf b) (sequenceOf b) (referenceList b) (requestList b) (omega (arith, reference-list-length b s)) (omega (arith, request-list-length b s)) requests-bytes
+      ∙ rw (references-counted b s, requests-counted b s, lists-rest, number-high _ _ (a 2), number-low _ _ (a 2)) (header b (s .header))
+    where
+      header : (x : Bytes) → 5 ≤ length x → getD x 0 0 ∷ getD x 1 0 ∷ getD x 2 0 ∷ getD x 3 0 ∷ getD x 4 0 ∷ drop 5 x ≡ x
+      header [] h = absurd (omega arith)
+      header (x₀ ∷ []) h = absurd (omega arith)
+      header (x₀ ∷ x₁ ∷ []) h = absurd (omega arith)
+      header (x₀ ∷ x₁ ∷ x₂ ∷ []) h = absurd (omega arith)
+      header (x₀ ∷ x₁ ∷ x₂ ∷ x₃ ∷ []) h = absurd (omega arith)
+      header (x₀ ∷ x₁ ∷ x₂ ∷ x₃ ∷ x₄ ∷ rest) h = refl
+
+-- ---- from what reading hands back to the content
+
+fields-given : (b : Bytes) (f : Fields) → reading b ≡ Block f → Gives f b
+unfolding contentOf content
+fields-given b f e =
+    let a = reading-accepted b f e in
+    let s = a .accepted .shape in
+    let p : f .references ≡ referenceCount b = ap (λ (x : Fields). x .references) (a .fields) in
+    let q : f .requests ≡ requestCount b = ap (λ (x : Fields). x .requests) (a .fields) in
+    record {
+      content = rw (a .fields);
+      references = references-length (referenceList b) ∙ references-counted b s ∙ sym p;
+      requests = requests-length (requestList b) ∙ requests-counted b s ∙ sym q;
+    }
+
+-- ---- all of it
+
+pub round-trip : RoundTrip
+round-trip =
+    record {
+      written = λ c f. (encode-bytes c f, record { accepted = accepted-reading (encode c) (encode-accepted c f); content = encode-content-back c f });
+      only = λ b c a r.
+          let k = reading-accepted b (fieldsOf b) (r .accepted) .accepted in
+          (sym (encode-back b a k) ∙ ap encode (r .content), subst Fitting (r .content) (fitting b a k));
+      fields = fields-given;
+    }

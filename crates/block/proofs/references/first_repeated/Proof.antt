@@ -1,0 +1,72 @@
+-- `first_repeated` meets its contract. The loop's invariant: none of the references passed equals an earlier one. Assumes nothing.
+use native.Mathlib.Omega.{arith}
+use mathlib.Core.Path.{_≡_, sym, ap, _∙_}
+use mathlib.Core.Bool.{true, false}
+use Prim.Native.Nat.{ℕ, _≤_, _<_, _-_, _/_}
+use lib.ListN.{length}
+use borrow.Author.Needs.{needs}
+use borrow.Author.Tests.{lt-ltb, le-ltb}
+use Rattle.base.specs.Search.{firstBelow, anyBelow}
+use Rattle.base.specs.Bytes.{Bytes}
+use Rattle.base.proofs.Search.{first-none, first-past, first-hit}
+use Rattle.block.specs.Limits.{referenceSize}
+use Rattle.block.specs.Layout.{referenceAt}
+use Rattle.block.specs.Reading.{repeatedAt}
+use Rattle.block.specs.Steps.{firstSame}
+use Rattle.block.proofs.references.first_repeated.Statement.{statement}
+use Rattle.block.proofs.references.first_repeated.Tie as tie
+
+-- what a search for reference i among those before it shows
+found : (list key : Bytes) (i j : ℕ) → key ≡ referenceAt list i → j ≡ firstSame list i key → j < i → repeatedAt list i ≡ true
+unfolding anyBelow
+found list key i j e s h = lt-ltb _ i (rw (s, e) at h)
+
+unfound : (list key : Bytes) (i j : ℕ) → key ≡ referenceAt list i → j ≡ firstSame list i key → i ≤ j → repeatedAt list i ≡ false
+unfolding anyBelow
+unfound list key i j e s h = le-ltb _ i (rw (s, e) at h)
+
+abbrev Inv-loop : tie.InvT-loop
+Inv-loop list k i₀ i = (i ≤ k) × (k ≡ length list / referenceSize) × (firstBelow (repeatedAt list) i ≡ i)
+
+abbrev μ-loop : tie.MeasureT-loop
+μ-loop list k i₀ i = k - i
+
+loop-holds : tie.Need-loop-holds Inv-loop μ-loop
+loop-holds c = (omega arith, search needs, first-none _)
+
+returns : tie.Need-returns Inv-loop μ-loop
+returns c =
+    let m = c .before .before in
+    let l = m .before .before .loop in
+    let list = m .before .before .before .before .args .list .now in
+    sym (first-hit (repeatedAt list) (l .i) (length list / referenceSize) (omega arith) (l .inv .2)
+    (found list _ (l .i) _ (m .reference .ensures) (c .before .first-same .ensures) (c .if1 .taken)))
+
+loop-again : tie.Need-loop-again Inv-loop μ-loop
+loop-again c =
+    let m = c .before .before in
+    let l = m .before .before .loop in
+    let list = m .before .before .before .before .args .list .now in
+    (omega arith, search needs, first-past (repeatedAt list) (l .i) (l .inv .2)
+    (unfound list _ (l .i) _ (m .reference .ensures) (c .before .first-same .ensures) (c .if1 .left)))
+
+returns-2 : tie.Need-returns-2 Inv-loop μ-loop
+returns-2 c =
+    let l = c .before .loop in
+    let e : l .i ≡ length (c .before .before .before .args .list .now) / referenceSize = omega arith in
+    sym (rw e at (l .inv .2))
+
+pub first-repeated-spec : {M : Type 1} → statement M
+first-repeated-spec =
+    tie.close
+    (tie.spec
+    Inv-loop
+    μ-loop
+    loop-holds
+    (λ c κs. search needs)
+    (λ c κs. search needs)
+    returns
+    (λ c. search needs)
+    (λ c. search needs)
+    loop-again
+    returns-2)

@@ -1,0 +1,81 @@
+-- `counted_request` meets its contract. The loop's invariant: what counts among the requests left is what counts among all.
+-- Assumes nothing.
+use native.Mathlib.Omega.{arith}
+use mathlib.Core.Path.{_≡_, refl, sym, ap, _∙_}
+use mathlib.Core.Bool.{true, false}
+use mathlib.Core.List.{List}
+use Prim.Native.Nat.{ℕ, suc, _+_, _≤_, _<_, _-_, _/_}
+use native.Mathlib.Numerals.{add-one}
+use lib.Dec.{eqb}
+use lib.ListN.{length, drop, drop-of-length-le}
+use borrow.Author.Needs.{needs}
+use borrow.Author.Tests.{eq-eqb, ne-eqb}
+use Rattle.base.specs.Bytes.{Bytes}
+use Rattle.block.specs.Limits.{requestSize}
+use Rattle.block.specs.Layout.{requestAt, requestsIn, countedRequest}
+use Rattle.block.specs.declared.Request.{Request}
+use Rattle.block.proofs.Lists.{requests-length, requests-drop}
+use Rattle.block.proofs.requests.counted_request.Statement.{statement}
+use Rattle.block.proofs.requests.counted_request.Tie as tie
+
+-- the requests from index i on
+abbrev from : Bytes → ℕ → List Request
+from list i = drop i (requestsIn list)
+
+here : (list : Bytes) (slot i : ℕ) → i < length list / requestSize → requestAt list i .slot ≡ slot → countedRequest (from list i) slot ≡ requestAt list i .number
+unfolding countedRequest
+here list slot i h e = rw (requests-drop list i h, eq-eqb _ _ e)
+
+past : (list : Bytes) (slot i : ℕ) → i < length list / requestSize → (requestAt list i .slot ≡ slot → ⊥) → countedRequest (from list i) slot ≡ countedRequest (from list (i + 1)) slot
+unfolding countedRequest
+past list slot i h n = rw (add-one i, requests-drop list i h, ne-eqb _ _ n)
+
+none : (list : Bytes) (slot i : ℕ) → length list / requestSize ≤ i → countedRequest (from list i) slot ≡ 0
+unfolding countedRequest
+none list slot i h = rw (drop-of-length-le (requestsIn list) {i = i} (omega (arith, requests-length list)))
+
+abbrev Inv-loop : tie.InvT-loop
+Inv-loop list slot k i₀ i = (i ≤ k) × (k ≡ length list / requestSize) × (countedRequest (requestsIn list) slot ≡ countedRequest (from list i) slot)
+
+abbrev μ-loop : tie.MeasureT-loop
+μ-loop list slot k i₀ i = k - i
+
+loop-holds : tie.Need-loop-holds Inv-loop μ-loop
+loop-holds c = (omega arith, search needs, refl)
+
+returns : tie.Need-returns Inv-loop μ-loop
+returns c =
+    let m = c .before .before in
+    let l = m .before .before .loop in
+    let a = m .before .before .before .before .args in
+    let e = m .request .ensures in
+    ap (λ (q : Request). q .number) e
+    ∙ sym (l .inv .2 ∙ here (a .list .now) (a .slot) (l .i) (omega arith) (ap (λ (q : Request). q .slot) (sym e) ∙ c .if1 .taken))
+
+loop-again : tie.Need-loop-again Inv-loop μ-loop
+loop-again c =
+    let m = c .before .before in
+    let l = m .before .before .loop in
+    let a = m .before .before .before .before .args in
+    let e = m .request .ensures in
+    (omega arith, search needs, l .inv .2 ∙ past (a .list .now) (a .slot) (l .i) (omega arith) (λ q. c .if1 .left (ap (λ (x : Request). x .slot) e ∙ q)))
+
+returns-2 : tie.Need-returns-2 Inv-loop μ-loop
+returns-2 c =
+    let l = c .before .loop in
+    let a = c .before .before .before .args in
+    sym (l .inv .2 ∙ none (a .list .now) (a .slot) (l .i) (omega arith))
+
+pub counted-request-spec : {M : Type 1} → statement M
+counted-request-spec =
+    tie.close
+    (tie.spec
+    Inv-loop
+    μ-loop
+    loop-holds
+    (λ c κs. search needs)
+    returns
+    (λ c. search needs)
+    (λ c. search needs)
+    loop-again
+    returns-2)

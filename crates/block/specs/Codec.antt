@@ -1,0 +1,57 @@
+-- Document 01, "The block": "bytes and fields determine each other". `RoundTrip` is the promise; proofs/RoundTrip.antt shows it.
+use mathlib.Core.Path.{_≡_}
+use mathlib.Core.Logic.{_≢_}
+use mathlib.Core.List.{[]}
+use Prim.Native.Nat.{ℕ, _+_, _*_, _≤_, _<_}
+use lib.ListN.{length, getD, take, drop}
+use Rattle.base.specs.Bytes.{Bytes, AllBytes}
+use Rattle.block.specs.Limits.{headerSize, referenceSize, maxReferences, maxRequests, maxSlot}
+use Rattle.block.specs.Layout.{Content, content, contentOf, encode}
+use Rattle.block.specs.Reading.{fieldsOf, reading}
+use Rattle.block.specs.declared.Request.{Request}
+use Rattle.block.specs.declared.Fields.{Fields}
+use Rattle.block.specs.declared.Reading.the-variants.{Block}
+
+-- bytes as a digest has them
+pub record Digest (x : Bytes) : Type 0 where
+  pub bytes : AllBytes x
+  pub size : length x ≡ referenceSize
+
+-- a slot from 0 to 7, and a number from 1 to 65,535
+pub record Admissible (q : Request) : Type 0 where
+  pub slot : q .slot ≤ maxSlot
+  pub some : 1 ≤ q .number
+  pub number : q .number < 65536
+
+-- what stands for an entry past a list's end; no law depends on it
+abbrev pub noRequest : Request
+noRequest = record { slot = 0; number = 0 }
+
+-- a content that fits the block's fields
+pub record Fitting (c : Content) : Type 0 where
+  pub site : c .site < 256
+  pub sequence : c .sequence < 65536
+  pub fewReferences : length (c .references) ≤ maxReferences
+  pub digests : (i : ℕ) → i < length (c .references) → Digest (getD (c .references) i [])
+  pub different : (i j : ℕ) → j < i → i < length (c .references) → getD (c .references) j [] ≢ getD (c .references) i []
+  pub fewRequests : length (c .requests) ≤ maxRequests
+  pub admissible : (i : ℕ) → i < length (c .requests) → Admissible (getD (c .requests) i noRequest)
+
+-- reading accepts b, and c is its content
+pub record Reads (b : Bytes) (c : Content) : Type 0 where
+  pub accepted : reading b ≡ Block (fieldsOf b)
+  pub content : contentOf b ≡ c
+
+-- the numbers f and the two parts of b that they set out are b's content
+pub record Gives (f : Fields) (b : Bytes) : Type 0 where
+  pub content : content (f .site) (f .sequence) (take (referenceSize * f .references) (drop headerSize b)) (drop (headerSize + referenceSize * f .references) b) ≡ contentOf b
+  pub references : length (contentOf b .references) ≡ f .references
+  pub requests : length (contentOf b .requests) ≡ f .requests
+
+pub record RoundTrip : Type 0 where
+  -- the bytes of a fitting content read to that content
+  pub written : (c : Content) → Fitting c → AllBytes (encode c) × Reads (encode c) c
+  -- and no other bytes do
+  pub only : (b : Bytes) (c : Content) → AllBytes b → Reads b c → (b ≡ encode c) × Fitting c
+  -- what reading hands back is that content
+  pub fields : (b : Bytes) (f : Fields) → reading b ≡ Block f → Gives f b

@@ -1,0 +1,56 @@
+-- Document 01, "The block": reading checks 3, 6 and 7, in that order. The numbers are those of "What is turned down".
+use mathlib.Core.Bool.{Bool, cond, not, _&&_, _||_}
+use Prim.Native.Nat.{ℕ}
+use lib.Dec.{eqb, leb, ltb}
+use lib.ListN.{length}
+use Rattle.base.specs.Search.{firstBelow, anyBelow}
+use Rattle.base.specs.Bytes.{Bytes, sameBytes}
+use Rattle.block.specs.Limits.{headerSize, maxReferences, maxRequests, maxSlot, blockSize}
+use Rattle.block.specs.Layout.{siteOf, sequenceOf, referenceCount, requestCount, referenceList, requestList, referenceAt, requestAt}
+use Rattle.block.specs.declared.Request.{Request}
+use Rattle.block.specs.declared.Fields.{Fields}
+use Rattle.block.specs.declared.Answer.{Answer}
+use Rattle.block.specs.declared.Reading.{Reading}
+use Rattle.block.specs.declared.Reading.the-variants.{Block, Misshapen, BadRequest, RepeatedReference}
+
+-- 3: block under 5 bytes, p over 16, r over 8, or wrong length
+unfoldable pub wellShaped : Bytes → Bool
+wellShaped b =
+    leb headerSize (length b) && (leb (referenceCount b) maxReferences && (leb (requestCount b) maxRequests && eqb (length b) (blockSize (referenceCount b) (requestCount b))))
+
+-- 6: slot over 7, or number 0
+abbrev pub badRequest : Request → Bool
+badRequest q = ltb maxSlot (q .slot) || eqb (q .number) 0
+
+abbrev pub badRequestAt : Bytes → ℕ → Bool
+badRequestAt list i = badRequest (requestAt list i)
+
+-- 7: a reference equal to an earlier one
+abbrev pub repeatedAt : Bytes → ℕ → Bool
+repeatedAt list i = anyBelow (λ j. sameBytes (referenceAt list j) (referenceAt list i)) i
+
+-- the numbers of a block that passes
+abbrev pub fieldsOf : Bytes → Fields
+fieldsOf b = record { site = siteOf b; sequence = sequenceOf b; references = referenceCount b; requests = requestCount b }
+
+unfoldable pub reading : Bytes → Reading
+reading b =
+    cond (not (wellShaped b)) Misshapen
+    (cond (anyBelow (badRequestAt (requestList b)) (requestCount b)) (BadRequest (firstBelow (badRequestAt (requestList b)) (requestCount b)))
+    (cond (anyBelow (repeatedAt (referenceList b)) (referenceCount b)) (RepeatedReference (firstBelow (repeatedAt (referenceList b)) (referenceCount b)))
+    (Block (fieldsOf b))))
+
+-- document 01's number and value of each case; 0 is none
+abbrev pub answerOf : Reading → Answer
+answerOf (Block f) = record { refusal = 0; value = 0 }
+answerOf Misshapen = record { refusal = 3; value = 0 }
+answerOf (BadRequest i) = record { refusal = 6; value = i }
+answerOf (RepeatedReference i) = record { refusal = 7; value = i }
+
+-- what follows from the fields where the reader accepts, and from the answer where it refuses
+module _ {A : Type 0} where
+  abbrev pub whenRead : Reading → (Fields → A) → (Answer → A) → A
+  whenRead (Block f) accepted refused = accepted f
+  whenRead Misshapen accepted refused = refused (answerOf Misshapen)
+  whenRead (BadRequest i) accepted refused = refused (answerOf (BadRequest i))
+  whenRead (RepeatedReference i) accepted refused = refused (answerOf (RepeatedReference i))

@@ -1,0 +1,35 @@
+-- What the contracts of inner functions cite: what an entry point has tested. Nothing here need be believed.
+use mathlib.Core.Path.{_≡_}
+use mathlib.Core.Bool.{cond}
+use Prim.Native.Nat.{ℕ, _+_, _*_, _/_, _≤_, _<_}
+use lib.ListN.{length}
+use Rattle.base.specs.Search.{firstBelow, anyBelow}
+use Rattle.base.specs.Bytes.{Bytes, sameBytes}
+use Rattle.block.specs.Limits.{headerSize, referenceSize, requestSize, maxReferences, maxRequests, blockSize}
+use Rattle.block.specs.Layout.{referenceCount, requestCount, referenceAt}
+use Rattle.block.specs.Reading.{badRequestAt, repeatedAt}
+
+-- bytes that pass check 3
+pub record Shaped (b : Bytes) : Type 0 where
+  pub header : headerSize ≤ length b
+  pub references : referenceCount b ≤ maxReferences
+  pub requests : requestCount b ≤ maxRequests
+  pub exact : length b ≡ blockSize (referenceCount b) (requestCount b)
+
+-- two lists that a block holds, and an output that holds the block
+pub record Writable (references requests output : Bytes) : Type 0 where
+  pub referencesWhole : length references ≡ referenceSize * (length references / referenceSize)
+  pub referencesFew : length references ≤ referenceSize * maxReferences
+  pub requestsWhole : length requests ≡ requestSize * (length requests / requestSize)
+  pub requestsFew : length requests ≤ requestSize * maxRequests
+  pub room : headerSize + length references + length requests ≤ length output
+
+-- the searches of checks 6 and 7, over a list's own length
+abbrev pub firstBad : Bytes → ℕ
+firstBad list = firstBelow (badRequestAt list) (length list / requestSize)
+
+abbrev pub firstSame : Bytes → ℕ → Bytes → ℕ
+firstSame list k key = firstBelow (λ j. sameBytes (referenceAt list j) key) k
+
+abbrev pub firstRepeated : Bytes → ℕ
+firstRepeated list = firstBelow (repeatedAt list) (length list / referenceSize)

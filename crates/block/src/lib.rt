@@ -1,0 +1,113 @@
+// A block's bytes: reading, the entries of its two lists, and writing. Promises: reading is document 01's, every block that the
+// reader accepts is the one encoding of its content, and writing gives that encoding (specs/Codec.antt). Assumes nothing of the
+// bytes: any are read or refused.
+pub mod references;
+pub mod requests;
+pub mod writing;
+
+ghost use mathlib.Core.Path.{_≡_};
+ghost use Rattle.block.specs.Reading.{wellShaped, reading, answerOf};
+ghost use Rattle.block.specs.Steps.{Shaped};
+
+// Sizes in bytes, and the limits of a block.
+pub const HEADER_SIZE: usize = 5;
+pub const REFERENCE_SIZE: usize = 32;
+pub const REQUEST_SIZE: usize = 3;
+pub const MAX_REFERENCES: usize = 16;
+pub const MAX_REQUESTS: usize = 8;
+pub const MAX_SLOT: u8 = 7;
+pub const MAX_REQUEST_LIST_SIZE: usize = REQUEST_SIZE * MAX_REQUESTS;
+pub const MAX_BLOCK_SIZE: usize = HEADER_SIZE + REFERENCE_SIZE * MAX_REFERENCES + MAX_REQUEST_LIST_SIZE;
+
+// A slot and the amendment number that is asked for it.
+pub struct Request {
+    pub slot: u8,
+    pub number: u16,
+}
+
+// A block's numbers: its two lists are parts of its bytes, so many entries long.
+#[repr(C)]
+pub struct Fields {
+    pub site: u8,
+    pub sequence: u16,
+    pub references: usize,
+    pub requests: usize,
+}
+
+pub enum Reading {
+    Block(Fields),
+    Misshapen,
+    BadRequest(usize),
+    RepeatedReference(usize),
+}
+
+// A refusal's number, 0 for none, and the value that goes with it.
+#[repr(C)]
+pub struct Answer {
+    pub refusal: u8,
+    pub value: usize,
+}
+
+// Document 01's number and value of a reading.
+pub fn answer_of(r: Reading) -> Answer
+    ensures { λ a. ⌜ a ≡ answerOf r ⌝ }
+{
+    match r {
+        Reading::Block(_) => Answer { refusal: 0, value: 0 },
+        Reading::Misshapen => Answer { refusal: 3, value: 0 },
+        Reading::BadRequest(i) => Answer { refusal: 6, value: i },
+        Reading::RepeatedReference(i) => Answer { refusal: 7, value: i },
+    }
+}
+
+// Check 3.
+fn well_shaped(block: &[u8]) -> bool
+    ensures { λ r. ⌜ r ≡ wellShaped (now (block .entry)) ⌝ }
+{
+    if block.len() < HEADER_SIZE {
+        return false;
+    }
+    let p = base::wide(block[3]);
+    let r = base::wide(block[4]);
+    if MAX_REFERENCES < p {
+        return false;
+    }
+    if MAX_REQUESTS < r {
+        return false;
+    }
+    block.len() == HEADER_SIZE + REFERENCE_SIZE * p + REQUEST_SIZE * r
+}
+
+// Checks 6 and 7, and the fields.
+fn read_shaped(block: &[u8]) -> Reading
+    requires { ⌜ Shaped (now block) ⌝ }
+    ensures { λ r. ⌜ r ≡ reading (now (block .entry)) ⌝ }
+{
+    let p = base::wide(block[3]);
+    let r = base::wide(block[4]);
+    let middle = HEADER_SIZE + REFERENCE_SIZE * p;
+    let bad = requests::first_bad(&block[middle..]);
+    if bad < r {
+        return Reading::BadRequest(bad);
+    }
+    let repeated = references::first_repeated(&block[HEADER_SIZE..middle]);
+    if repeated < p {
+        return Reading::RepeatedReference(repeated);
+    }
+    Reading::Block(Fields {
+        site: block[0],
+        sequence: base::number_of(block[1], block[2]),
+        references: p,
+        requests: r,
+    })
+}
+
+// Reads a block: its fields, or the first check that it fails with the index of the first such entry.
+pub fn read_block(block: &[u8]) -> Reading
+    ensures { λ r. ⌜ r ≡ reading (now (block .entry)) ⌝ }
+{
+    if !well_shaped(block) {
+        return Reading::Misshapen;
+    }
+    read_shaped(block)
+}

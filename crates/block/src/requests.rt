@@ -1,0 +1,65 @@
+// The request list of a block: the bytes `&block[5 + 32 * p..]`.
+use crate::MAX_SLOT;
+use crate::REQUEST_SIZE;
+use crate::Request;
+
+ghost use mathlib.Core.Path.{_≡_};
+ghost use Prim.Native.Nat.{_+_, _*_, _≤_};
+ghost use lib.ListN.{length};
+ghost use Rattle.block.specs.Limits.{requestSize};
+ghost use Rattle.block.specs.Layout.{requestAt, requestsIn, countedRequest};
+ghost use Rattle.block.specs.Reading.{badRequest};
+ghost use Rattle.block.specs.Steps.{firstBad};
+
+// Request i of the list.
+pub fn request(list: &[u8], i: usize) -> Request
+    requires { ⌜ requestSize * i + requestSize ≤ length (now list) ⌝ }
+    ensures { λ r. ⌜ r ≡ requestAt (now (list .entry)) i ⌝ }
+{
+    let at = REQUEST_SIZE * i;
+    Request {
+        slot: list[at],
+        number: base::number_of(list[at + 1], list[at + 2]),
+    }
+}
+
+// Check 6 of one request.
+fn is_bad(q: Request) -> bool
+    ensures { λ r. ⌜ r ≡ badRequest q ⌝ }
+{
+    if MAX_SLOT < q.slot {
+        return true;
+    }
+    q.number == 0
+}
+
+// The index of the first bad request of the list, or as many as there are.
+pub fn first_bad(list: &[u8]) -> usize
+    ensures { λ r. ⌜ r ≡ firstBad (now (list .entry)) ⌝ }
+{
+    let k = list.len() / REQUEST_SIZE;
+    let mut i = 0;
+    while i < k {
+        if is_bad(request(list, i)) {
+            return i;
+        }
+        i += 1;
+    }
+    k
+}
+
+// The counted request of a slot: the number of the first of the list that names it, or 0.
+pub fn counted_request(list: &[u8], slot: u8) -> u16
+    ensures { λ r. ⌜ r ≡ countedRequest (requestsIn (now (list .entry))) slot ⌝ }
+{
+    let k = list.len() / REQUEST_SIZE;
+    let mut i = 0;
+    while i < k {
+        let q = request(list, i);
+        if q.slot == slot {
+            return q.number;
+        }
+        i += 1;
+    }
+    0
+}

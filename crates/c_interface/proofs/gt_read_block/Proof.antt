@@ -1,0 +1,41 @@
+-- `gt_read_block` meets its contract: the reader accepted, or it refused. Assumes nothing.
+use mathlib.Core.Path.{_≡_, ap, sym, _∙_}
+use mathlib.Core.List.{[], _∷_}
+use types.Run.{OneOf}
+use denote.Enum.Declared.{tagOf}
+use borrow.Author.Needs.{needs}
+use Rattle.base.specs.Bytes.{Bytes}
+use Rattle.block.specs.Reading.{reading, answerOf}
+use Rattle.block.specs.declared.Answer.{Answer}
+use Rattle.block.specs.declared.Fields.{Fields}
+use Rattle.block.specs.declared.Reading.{Reading}
+use Rattle.block.specs.declared.Reading.the-variants.{Block}
+use Rattle.block.proofs.Reading.{the-type}
+use Rattle.block.proofs.Refused.{refused}
+use Rattle.c_interface.specs.Calls.{done, noFields, blockReading}
+use Rattle.c_interface.specs.declared.BlockReading.{BlockReading}
+use Rattle.c_interface.proofs.gt_read_block.Statement.{statement}
+use Rattle.c_interface.proofs.gt_read_block.Tie as tie
+
+way-refused : (b : Bytes) (r : Reading) (a : Answer) → r ≡ reading b → OneOf (1 ∷ 2 ∷ 3 ∷ []) (tagOf the-type r) → a ≡ answerOf r
+    → _≡_ {A = BlockReading} (record { answer = a; fields = noFields }) (blockReading b)
+unfolding blockReading
+way-refused b r a e k q = rw (← e, q) (sym (refused _ _ r k))
+
+way-accepted : (b : Bytes) (r : Reading) (f : Fields) → r ≡ reading b → r ≡ Block f → _≡_ {A = BlockReading} (record { answer = done; fields = f }) (blockReading b)
+unfolding blockReading
+way-accepted b r f e q = rw (← e, q)
+
+returns : tie.Need-returns
+returns c =
+    let m = c .before in
+    way-refused _ _ _ (m .before .read-block .ensures) (m .match .keys2) (c .answer-of .ensures)
+
+returns-2 : tie.Need-returns-2
+returns-2 c =
+    let m = c .before in
+    way-accepted _ _ _ (m .before .before .read-block .ensures) (m .reading .given .1)
+
+pub gt-read-block-spec : {M : Type 1} → statement M
+gt-read-block-spec =
+    tie.close (tie.spec (λ c κs. search needs) (λ c. search needs) (λ c κs. search needs) returns returns-2)

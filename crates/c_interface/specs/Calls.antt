@@ -1,0 +1,61 @@
+-- What the calls of C programs answer and leave, over document 01's digest and reading. The numbers are those of its "What is turned
+-- down": 13 for an index not below the count, 17 for an output that is too short, with the length needed.
+use mathlib.Core.Bool.{cond}
+use Prim.Native.Nat.{ℕ}
+use lib.Dec.{leb, ltb}
+use lib.ListN.{length}
+use Rattle.base.specs.Bytes.{Bytes, splice}
+use Rattle.sha256.specs.Sha256.{sha256}
+use Rattle.block.specs.Limits.{referenceSize}
+use Rattle.block.specs.Layout.{referenceList, requestList, referenceAt, requestAt}
+use Rattle.block.specs.Reading.{reading, whenRead}
+use Rattle.block.specs.declared.Answer.{Answer}
+use Rattle.block.specs.declared.Fields.{Fields}
+use Rattle.c_interface.specs.declared.BlockReading.{BlockReading}
+use Rattle.c_interface.specs.declared.Requested.{Requested}
+
+abbrev pub done : Answer
+done = record { refusal = 0; value = 0 }
+
+abbrev pub noSuchEntry : Answer
+noSuchEntry = record { refusal = 13; value = 0 }
+
+-- ---- a digest, or a reference, which is one, at the front of the output
+
+abbrev pub putAnswer : Bytes → Answer
+putAnswer output = cond (ltb (length output) referenceSize) (record { refusal = 17; value = referenceSize }) done
+
+abbrev pub putOutput : Bytes → Bytes → Bytes
+putOutput part output = cond (ltb (length output) referenceSize) output (splice output 0 part)
+
+-- gt_digest
+unfoldable pub digestOutput : Bytes → Bytes → Bytes
+digestOutput message output = putOutput (sha256 message) output
+
+-- ---- gt_read_block: beside a refusal all fields are 0
+
+abbrev pub noFields : Fields
+noFields = record { site = 0; sequence = 0; references = 0; requests = 0 }
+
+unfoldable pub blockReading : Bytes → BlockReading
+blockReading b = whenRead (reading b) (λ f. record { answer = done; fields = f }) (λ a. record { answer = a; fields = noFields })
+
+-- ---- gt_reference
+
+unfoldable pub referenceAnswer : Bytes → ℕ → Bytes → Answer
+referenceAnswer b index output = whenRead (reading b) (λ f. cond (leb (f .references) index) noSuchEntry (putAnswer output)) (λ a. a)
+
+unfoldable pub referenceOutput : Bytes → ℕ → Bytes → Bytes
+referenceOutput b index output =
+    whenRead (reading b) (λ f. cond (leb (f .references) index) output (putOutput (referenceAt (referenceList b) index) output)) (λ a. output)
+
+-- ---- gt_request: beside a refusal slot and number are 0
+
+abbrev pub noRequest : Answer → Requested
+noRequest a = record { answer = a; slot = 0; number = 0 }
+
+abbrev pub requestThere : Bytes → ℕ → Requested
+requestThere list index = record { answer = done; slot = requestAt list index .slot; number = requestAt list index .number }
+
+unfoldable pub requested : Bytes → ℕ → Requested
+requested b index = whenRead (reading b) (λ f. cond (leb (f .requests) index) (noRequest noSuchEntry) (requestThere (requestList b) index)) noRequest

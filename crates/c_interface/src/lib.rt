@@ -1,0 +1,126 @@
+// What programs in C call: the digest, and block reading with the entries of a block's two lists. Promises: each call answers and
+// leaves what specs/Calls.antt says, for all bytes and numbers. Assumes: the C program lends what host/giangotum.h asks for.
+use block::Answer;
+use block::Fields;
+use block::REFERENCE_SIZE;
+use block::Reading;
+
+ghost use mathlib.Core.Path.{_≡_};
+ghost use lib.ListN.{length};
+ghost use Rattle.block.specs.Limits.{referenceSize};
+ghost use Rattle.c_interface.specs.Calls.{putAnswer, putOutput, digestOutput, blockReading, referenceAnswer, referenceOutput, requested};
+
+#[repr(C)]
+pub struct BlockReading {
+    pub answer: Answer,
+    pub fields: Fields,
+}
+
+#[repr(C)]
+pub struct Requested {
+    pub answer: Answer,
+    pub slot: u8,
+    pub number: u16,
+}
+
+// Puts a digest at the front of the output, if there is room.
+fn put_digest(digest: &[u8], output: &mut [u8]) -> Answer
+    requires { ⌜ length (now digest) ≡ referenceSize ⌝ }
+    ensures { λ r. ⌜ r ≡ putAnswer (now (output .entry)) ⌝ }
+    ensures { λ _. ⌜ now (output .exit) ≡ putOutput (now (digest .entry)) (now (output .entry)) ⌝ }
+{
+    if output.len() < REFERENCE_SIZE {
+        return Answer {
+            refusal: 17,
+            value: REFERENCE_SIZE,
+        };
+    }
+    base::put(output, 0, digest);
+    Answer { refusal: 0, value: 0 }
+}
+
+// The message's digest, to the front of the output.
+#[no_mangle]
+pub extern "C" fn gt_digest(message: &[u8], output: &mut [u8]) -> Answer
+    ensures { λ r. ⌜ r ≡ putAnswer (now (output .entry)) ⌝ }
+    ensures { λ _. ⌜ now (output .exit) ≡ digestOutput (now (message .entry)) (now (output .entry)) ⌝ }
+{
+    put_digest(&sha256::digest(message), output)
+}
+
+// A block's fields, or the reader's refusal.
+#[no_mangle]
+pub extern "C" fn gt_read_block(bytes: &[u8]) -> BlockReading
+    ensures { λ r. ⌜ r ≡ blockReading (now (bytes .entry)) ⌝ }
+{
+    let reading = block::read_block(bytes);
+    let Reading::Block(fields) = reading else {
+        return BlockReading {
+            answer: block::answer_of(reading),
+            fields: Fields {
+                site: 0,
+                sequence: 0,
+                references: 0,
+                requests: 0,
+            },
+        };
+    };
+    BlockReading {
+        answer: Answer { refusal: 0, value: 0 },
+        fields,
+    }
+}
+
+// A reference of a block, to the front of the output.
+#[no_mangle]
+pub extern "C" fn gt_reference(bytes: &[u8], index: usize, output: &mut [u8]) -> Answer
+    ensures { λ r. ⌜ r ≡ referenceAnswer (now (bytes .entry)) index (now (output .entry)) ⌝ }
+    ensures { λ _. ⌜ now (output .exit) ≡ referenceOutput (now (bytes .entry)) index (now (output .entry)) ⌝ }
+{
+    let reading = block::read_block(bytes);
+    let Reading::Block(fields) = reading else {
+        return block::answer_of(reading);
+    };
+    let p = fields.references;
+    if p <= index {
+        return Answer {
+            refusal: 13,
+            value: 0,
+        };
+    }
+    let middle = block::HEADER_SIZE + REFERENCE_SIZE * p;
+    put_digest(block::references::reference(&bytes[block::HEADER_SIZE..middle], index), output)
+}
+
+// A request of a block.
+#[no_mangle]
+pub extern "C" fn gt_request(bytes: &[u8], index: usize) -> Requested
+    ensures { λ r. ⌜ r ≡ requested (now (bytes .entry)) index ⌝ }
+{
+    let reading = block::read_block(bytes);
+    let Reading::Block(fields) = reading else {
+        return Requested {
+            answer: block::answer_of(reading),
+            slot: 0,
+            number: 0,
+        };
+    };
+    let p = fields.references;
+    if fields.requests <= index {
+        return Requested {
+            answer: Answer {
+                refusal: 13,
+                value: 0,
+            },
+            slot: 0,
+            number: 0,
+        };
+    }
+    let middle = block::HEADER_SIZE + REFERENCE_SIZE * p;
+    let request = block::requests::request(&bytes[middle..], index);
+    Requested {
+        answer: Answer { refusal: 0, value: 0 },
+        slot: request.slot,
+        number: request.number,
+    }
+}

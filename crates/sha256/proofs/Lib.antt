@@ -1,0 +1,4 @@
+mod Hashing
+pub mod Laws
+mod Padded
+mod Worked

@@ -1,0 +1,55 @@
+-- `full` is safe and ends. Assumes nothing.
+use borrow.Author.Needs.{needs}
+use Prim.Native.Nat.{_≤_, _-_}
+use mathlib.Core.Path.{_≡_}
+use lib.ListN.{length}
+use Rattle.vectors.proofs.blocks.full.Statement.{statement}
+use Rattle.vectors.proofs.blocks.full.Tie as tie
+
+abbrev Inv-loop : tie.InvT-loop
+Inv-loop b₀ i₀ b i = (i ≤ 512) × (length b ≡ 549)
+
+abbrev μ-loop : tie.MeasureT-loop
+μ-loop b₀ i₀ b i = 512 - i
+
+abbrev Inv-loop2 : tie.InvT-loop2
+Inv-loop2 b₀ i₀ b i = (i ≤ 8) × (length b ≡ 549)
+
+abbrev μ-loop2 : tie.MeasureT-loop2
+μ-loop2 b₀ i₀ b i = 8 - i
+
+pub full-spec : {M : Type 1} → statement M
+full-spec =
+    tie.close
+    (tie.spec
+    Inv-loop
+    μ-loop
+    Inv-loop2
+    μ-loop2
+    (λ c. search needs)
+    (λ c. search needs)
+    (λ c. search needs)
+    (λ c. search needs)
+    (λ c. search needs)
+    (λ c. search needs)
+    (λ c. search needs)
+    (λ c. search needs)
+    (λ c. search needs)
+    (λ c. search needs)
+    (λ c. search needs)
+    (λ c. search needs)
+    (λ c. search needs)
+    (λ c. search needs)
+    (λ c. search needs)
+    (λ c. search needs)
+    (λ c. search needs)
+    (λ c. search needs)
+    (λ c. search needs)
+    (λ c. search needs)
+    (λ c. search needs)
+    (λ c. search needs)
+    (λ c. search needs)
+    (λ c. search needs)
+    (λ c. search needs)
+    (λ c. search needs)
+    (λ c. search needs))

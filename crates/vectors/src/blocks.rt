@@ -1,0 +1,176 @@
+// Reading at every limit, each refusal with its index, and the order of the checks where several faults meet.
+use block::Reading;
+use crate::line::Line;
+
+fn show(name: &[u8], bytes: &[u8]) {
+    let line = Line::new().text(name).text(b": ");
+    let reading = block::read_block(bytes);
+    let Reading::Block(fields) = reading else {
+        let answer = block::answer_of(reading);
+        line.text(b"refusal ")
+            .number(base::wide(answer.refusal))
+            .text(b" value ")
+            .number(answer.value)
+            .show();
+        return;
+    };
+    line.text(b"read, site ")
+        .number(base::wide(fields.site))
+        .text(b" seq ")
+        .number(fields.sequence as usize)
+        .text(b" references ")
+        .number(fields.references)
+        .text(b" requests ")
+        .number(fields.requests)
+        .show();
+}
+
+// The same for the first n bytes.
+fn show_front(name: &[u8], block: [u8; 549], n: usize) {
+    if n <= 549 {
+        show(name, &block[..n]);
+    }
+}
+
+// A block of 16 references and 8 requests, with zeros after its 541 bytes: reference i is 32 times i + 1, request i asks for i + 1 in slot i.
+fn full() -> [u8; 549] {
+    let mut b = [0u8; 549];
+    b[0] = 3;
+    b[1] = 1;
+    b[2] = 2;
+    b[3] = 16;
+    b[4] = 8;
+    for i in 0..512 {
+        b[5 + i] = (i / 32 + 1) as u8;
+    }
+    for i in 0..8 {
+        b[517 + 3 * i] = i as u8;
+        b[519 + 3 * i] = (i + 1) as u8;
+    }
+    b
+}
+
+// The block with request i asking for a number in a slot.
+fn with_request(block: [u8; 549], i: usize, slot: u8, number: u8) -> [u8; 549] {
+    let mut b = block;
+    if i < 8 {
+        b[517 + 3 * i] = slot;
+        b[519 + 3 * i] = number;
+    }
+    b
+}
+
+// The block with reference i made equal to reference j.
+fn with_reference(block: [u8; 549], i: usize, j: usize) -> [u8; 549] {
+    let mut b = block;
+    if i < 16 {
+        if j < 16 {
+            for k in 0..32 {
+                b[5 + 32 * i + k] = (j + 1) as u8;
+            }
+        }
+    }
+    b
+}
+
+// The block with other counts.
+fn with_counts(block: [u8; 549], p: u8, r: u8) -> [u8; 549] {
+    let mut b = block;
+    b[3] = p;
+    b[4] = r;
+    b
+}
+
+fn show_shortest() {
+    show(b"no bytes", b"");
+    show(b"4 bytes", &[0u8; 4]);
+    show(b"5 bytes, p and r 0", &[0u8; 5]);
+    show(b"6 bytes, p and r 0", &[0u8; 6]);
+    show(b"site 255, seq 65535", &[255, 255, 255, 0, 0]);
+}
+
+fn show_longest() {
+    let b = full();
+    show_front(b"540 bytes, p 16, r 8", b, 540);
+    show_front(b"541 bytes, p 16, r 8", b, 541);
+    show_front(b"542 bytes, p 16, r 8", b, 542);
+}
+
+fn show_counts() {
+    let b = full();
+    show_front(b"549 bytes, p 17, r 0", with_counts(b, 17, 0), 549);
+    show_front(b"517 bytes, p 16, r 0", with_counts(b, 16, 0), 517);
+    show_front(b"32 bytes, p 0, r 9", with_counts(b, 0, 9), 32);
+}
+
+fn show_requests() {
+    let b = full();
+    show_front(b"slot 8 at 3", with_request(b, 3, 8, 1), 541);
+    show_front(b"number 0 at 4", with_request(b, 4, 4, 0), 541);
+    let c = with_request(b, 7, 255, 1);
+    show_front(b"slot 255 at 7, number 0 at 2", with_request(c, 2, 2, 0), 541);
+}
+
+fn show_counted_of(list: &[u8], slot: u8) {
+    Line::new()
+        .text(b"slot ")
+        .number(base::wide(slot))
+        .text(b" counts ")
+        .number(block::requests::counted_request(list, slot) as usize)
+        .show();
+}
+
+// Slot 0 is requested twice, and slot 5 not at all.
+fn show_counted() {
+    let b = with_request(full(), 5, 0, 9);
+    show_front(b"slot 0 at 0 and at 5", b, 541);
+    show_counted_of(&b[517..541], 0);
+    show_counted_of(&b[517..541], 4);
+    show_counted_of(&b[517..541], 5);
+}
+
+fn show_references() {
+    let b = full();
+    show_front(b"reference 5 as 1", with_reference(b, 5, 1), 541);
+    let c = with_reference(b, 9, 2);
+    show_front(b"reference 9 as 2, 4 as 3", with_reference(c, 4, 3), 541);
+    show_front(b"reference 15 as 14", with_reference(b, 15, 14), 541);
+}
+
+fn show_orders() {
+    let b = with_reference(full(), 1, 0);
+    show_front(b"number 0 at 4, reference 1 as 0", with_request(b, 4, 4, 0), 541);
+    show_front(b"slot 8 at 7, reference 1 as 0", with_request(b, 7, 8, 1), 541);
+    show_front(b"542 bytes, reference 1 as 0", b, 542);
+    let c = with_request(b, 0, 8, 1);
+    show_front(b"540 bytes, slot 8 at 0, reference 1 as 0", c, 540);
+    show_front(b"p 17, slot 8 at 0, reference 1 as 0", with_counts(c, 17, 8), 541);
+}
+
+// A block written into a longer output is read back, and the output's other bytes stay.
+fn show_written() {
+    let mut output = [7u8; 549];
+    let references = full();
+    let requests = full();
+    block::writing::write_block(
+        9,
+        258,
+        &references[5..69],
+        &requests[517..523],
+        &mut output,
+    );
+    let after = output[75];
+    show_front(b"written, p 2, r 2", output, 75);
+    Line::new().text(b"after it: ").number(base::wide(after)).show();
+}
+
+pub fn show_all() {
+    show_shortest();
+    show_longest();
+    show_counts();
+    show_requests();
+    show_counted();
+    show_references();
+    show_orders();
+    show_written();
+}

@@ -1,0 +1,45 @@
+"""valgrind sees no error and no leak in the programs, whatever they read."""
+
+import random
+
+import bad_inputs
+import generate
+from programs import CALLS, DOME, VALGRIND, digests, dome, expect, expect_same_lines, output_of, run
+from reference import text_of
+from test_examples import ARRIVALS
+
+
+def expect_clean(stream):
+    expect_same_lines(dome(stream, under=VALGRIND), text_of(stream))
+
+
+def test_example():
+    expect_clean(ARRIVALS)
+
+
+def test_bad_inputs():
+    # One stream: a cut arrival takes what follows for its own bytes, which is bad input too.
+    expect_clean(b"".join(case.stream for case in bad_inputs.CASES))
+
+
+def test_random_arrivals():
+    rng = random.Random(5)
+    stream = generate.stream_of(generate.damaged(rng) for _ in range(500))
+    stream += generate.stream_of(generate.lawful(rng) for _ in range(500))
+    expect_clean(stream + generate.over_long(rng) + generate.over_long(rng)[:1000])
+
+
+def test_calls():
+    output_of([*VALGRIND, CALLS])
+
+
+def test_digests():
+    messages = [bytes(length) for length in range(200)]
+    expect(digests(messages, under=VALGRIND) == digests(messages), "other digests under valgrind")
+
+
+def test_dome_takes_no_dynamic_memory():
+    ended = run(["valgrind", DOME], ARRIVALS)
+    said = ended.stderr.decode()
+    expect(ended.returncode == 0 and ended.stdout.decode() == text_of(ARRIVALS), said)
+    expect("total heap usage: 0 allocs" in said, said)
