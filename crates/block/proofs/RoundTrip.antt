@@ -149,7 +149,7 @@ module _ (b : Bytes) (a : AllBytes b) (r : Accepted b) where
       let p : length (referencesIn (referenceList b)) ≡ referenceCount b = references-length (referenceList b) ∙ references-counted b s in
       let q : length (requestsIn (requestList b)) ≡ requestCount b = requests-length (requestList b) ∙ requests-counted b s in
       let at : (i : ℕ) → i < referenceCount b → getD (referencesIn (referenceList b)) i [] ≡ referenceAt (referenceList b) i =
-          λ i h. references-at (referenceList b) i (omega (arith, references-counted b s)) in
+      λ i h. references-at (referenceList b) i (omega (arith, references-counted b s)) in
       record {
         site = a 0;
         sequence = number-below _ _ (a 1) (a 2);

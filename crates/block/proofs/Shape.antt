@@ -30,8 +30,12 @@ shaped b e =
 pub well-shaped : (b : Bytes) → Shaped b → wellShaped b ≡ true
 unfolding wellShaped
 well-shaped b s =
-    rw (le-leb headerSize (length b) (s .header), le-leb (referenceCount b) maxReferences (s .references), le-leb (requestCount b) maxRequests (s .requests),
-    eq-eqb (length b) (blockSize (referenceCount b) (requestCount b)) (s .exact))
+    rw (
+      le-leb headerSize (length b) (s .header),
+      le-leb (referenceCount b) maxReferences (s .references),
+      le-leb (requestCount b) maxRequests (s .requests),
+      eq-eqb (length b) (blockSize (referenceCount b) (requestCount b)) (s .exact),
+    )
 
 module _ (b : Bytes) (s : Shaped b) where
   -- a block is at most 541 bytes long

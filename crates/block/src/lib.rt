@@ -11,13 +11,22 @@ ghost use Rattle.block.specs.Steps.{Shaped};
 
 // Sizes in bytes, and the limits of a block.
 pub const HEADER_SIZE: usize = 5;
+
 pub const REFERENCE_SIZE: usize = 32;
+
 pub const REQUEST_SIZE: usize = 3;
+
 pub const MAX_REFERENCES: usize = 16;
+
 pub const MAX_REQUESTS: usize = 8;
+
 pub const MAX_SLOT: u8 = 7;
+
 pub const MAX_REQUEST_LIST_SIZE: usize = REQUEST_SIZE * MAX_REQUESTS;
-pub const MAX_BLOCK_SIZE: usize = HEADER_SIZE + REFERENCE_SIZE * MAX_REFERENCES + MAX_REQUEST_LIST_SIZE;
+
+pub const MAX_BLOCK_SIZE: usize = HEADER_SIZE
+    + REFERENCE_SIZE * MAX_REFERENCES
+    + MAX_REQUEST_LIST_SIZE;
 
 // A slot and the amendment number that is asked for it.
 pub struct Request {
@@ -53,10 +62,22 @@ pub fn answer_of(r: Reading) -> Answer
     ensures { λ a. ⌜ a ≡ answerOf r ⌝ }
 {
     match r {
-        Reading::Block(_) => Answer { refusal: 0, value: 0 },
-        Reading::Misshapen => Answer { refusal: 3, value: 0 },
-        Reading::BadRequest(i) => Answer { refusal: 6, value: i },
-        Reading::RepeatedReference(i) => Answer { refusal: 7, value: i },
+        Reading::Block(_) => Answer {
+            refusal: 0,
+            value: 0,
+        },
+        Reading::Misshapen => Answer {
+            refusal: 3,
+            value: 0,
+        },
+        Reading::BadRequest(i) => Answer {
+            refusal: 6,
+            value: i,
+        },
+        Reading::RepeatedReference(i) => Answer {
+            refusal: 7,
+            value: i,
+        },
     }
 }
 

@@ -1,6 +1,5 @@
 // The reference list of a block: the bytes `&block[5..5 + 32 * p]`.
 use crate::REFERENCE_SIZE;
-
 ghost use mathlib.Core.Path.{_≡_};
 ghost use Prim.Native.Nat.{_+_, _*_, _≤_};
 ghost use lib.ListN.{length};

@@ -2,7 +2,6 @@
 use crate::MAX_SLOT;
 use crate::REQUEST_SIZE;
 use crate::Request;
-
 ghost use mathlib.Core.Path.{_≡_};
 ghost use Prim.Native.Nat.{_+_, _*_, _≤_};
 ghost use lib.ListN.{length};

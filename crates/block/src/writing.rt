@@ -2,7 +2,6 @@
 use crate::HEADER_SIZE;
 use crate::REFERENCE_SIZE;
 use crate::REQUEST_SIZE;
-
 ghost use mathlib.Core.Path.{_≡_};
 ghost use Rattle.base.specs.Bytes.{splice};
 ghost use Rattle.block.specs.Layout.{content, encode};

@@ -4,7 +4,6 @@ use block::Answer;
 use block::Fields;
 use block::REFERENCE_SIZE;
 use block::Reading;
-
 ghost use mathlib.Core.Path.{_≡_};
 ghost use lib.ListN.{length};
 ghost use Rattle.block.specs.Limits.{referenceSize};
@@ -36,7 +35,10 @@ fn put_digest(digest: &[u8], output: &mut [u8]) -> Answer
         };
     }
     base::put(output, 0, digest);
-    Answer { refusal: 0, value: 0 }
+    Answer {
+        refusal: 0,
+        value: 0,
+    }
 }
 
 // The message's digest, to the front of the output.
@@ -66,7 +68,10 @@ pub extern "C" fn gt_read_block(bytes: &[u8]) -> BlockReading
         };
     };
     BlockReading {
-        answer: Answer { refusal: 0, value: 0 },
+        answer: Answer {
+            refusal: 0,
+            value: 0,
+        },
         fields,
     }
 }
@@ -89,7 +94,10 @@ pub extern "C" fn gt_reference(bytes: &[u8], index: usize, output: &mut [u8]) ->
         };
     }
     let middle = block::HEADER_SIZE + REFERENCE_SIZE * p;
-    put_digest(block::references::reference(&bytes[block::HEADER_SIZE..middle], index), output)
+    put_digest(
+        block::references::reference(&bytes[block::HEADER_SIZE..middle], index),
+        output,
+    )
 }
 
 // A request of a block.
@@ -119,7 +127,10 @@ pub extern "C" fn gt_request(bytes: &[u8], index: usize) -> Requested
     let middle = block::HEADER_SIZE + REFERENCE_SIZE * p;
     let request = block::requests::request(&bytes[middle..], index);
     Requested {
-        answer: Answer { refusal: 0, value: 0 },
+        answer: Answer {
+            refusal: 0,
+            value: 0,
+        },
         slot: request.slot,
         number: request.number,
     }

@@ -1,6 +1,6 @@
 // Reading at every limit, each refusal with its index, and the order of the checks where several faults meet.
-use block::Reading;
 use crate::line::Line;
+use block::Reading;
 
 fn show(name: &[u8], bytes: &[u8]) {
     let line = Line::new().text(name).text(b": ");
@@ -108,7 +108,11 @@ fn show_requests() {
     show_front(b"slot 8 at 3", with_request(b, 3, 8, 1), 541);
     show_front(b"number 0 at 4", with_request(b, 4, 4, 0), 541);
     let c = with_request(b, 7, 255, 1);
-    show_front(b"slot 255 at 7, number 0 at 2", with_request(c, 2, 2, 0), 541);
+    show_front(
+        b"slot 255 at 7, number 0 at 2",
+        with_request(c, 2, 2, 0),
+        541,
+    );
 }
 
 fn show_counted_of(list: &[u8], slot: u8) {
@@ -139,12 +143,24 @@ fn show_references() {
 
 fn show_orders() {
     let b = with_reference(full(), 1, 0);
-    show_front(b"number 0 at 4, reference 1 as 0", with_request(b, 4, 4, 0), 541);
-    show_front(b"slot 8 at 7, reference 1 as 0", with_request(b, 7, 8, 1), 541);
+    show_front(
+        b"number 0 at 4, reference 1 as 0",
+        with_request(b, 4, 4, 0),
+        541,
+    );
+    show_front(
+        b"slot 8 at 7, reference 1 as 0",
+        with_request(b, 7, 8, 1),
+        541,
+    );
     show_front(b"542 bytes, reference 1 as 0", b, 542);
     let c = with_request(b, 0, 8, 1);
     show_front(b"540 bytes, slot 8 at 0, reference 1 as 0", c, 540);
-    show_front(b"p 17, slot 8 at 0, reference 1 as 0", with_counts(c, 17, 8), 541);
+    show_front(
+        b"p 17, slot 8 at 0, reference 1 as 0",
+        with_counts(c, 17, 8),
+        541,
+    );
 }
 
 // A block written into a longer output is read back, and the output's other bytes stay.
@@ -152,16 +168,13 @@ fn show_written() {
     let mut output = [7u8; 549];
     let references = full();
     let requests = full();
-    block::writing::write_block(
-        9,
-        258,
-        &references[5..69],
-        &requests[517..523],
-        &mut output,
-    );
+    block::writing::write_block(9, 258, &references[5..69], &requests[517..523], &mut output);
     let after = output[75];
     show_front(b"written, p 2, r 2", output, 75);
-    Line::new().text(b"after it: ").number(base::wide(after)).show();
+    Line::new()
+        .text(b"after it: ")
+        .number(base::wide(after))
+        .show();
 }
 
 pub fn show_all() {

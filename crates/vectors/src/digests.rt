@@ -14,7 +14,10 @@ fn show(name: &[u8], message: &[u8]) {
 pub fn show_all() {
     show(b"nothing", b"");
     show(b"abc", b"abc");
-    show(b"448 bits", b"abcdbcdecdefdefgefghfghighijhijkijkljklmklmnlmnomnopnopq");
+    show(
+        b"448 bits",
+        b"abcdbcdecdefdefgefghfghighijhijkijkljklmklmnlmnomnopnopq",
+    );
     show(
         b"896 bits",
         b"abcdefghbcdefghicdefghijdefghijkefghijklfghijklmghijklmnhijklmnoijklmnopjklmnopqklmnopqrlmnopqrsmnopqrstnopqrstu",

@@ -38,9 +38,12 @@ loop-again : tie.Need-loop-again Inv-loop μ-loop
 loop-again c =
     let m = c .before .before in
     let l = m .before .before .loop in
-    let a = m .before .before .before .before .before .args in
-    (omega arith, search needs, first-past (is (a .list .now) (a .key .now)) (l .j) (l .inv .2)
-    (ap (λ (x : Bytes). sameBytes x (a .key .now)) (sym (m .reference .ensures)) ∙ sym (c .before .same .ensures) ∙ c .if1 .left))
+    let a = m .before .before .before .before .before .args in (
+      omega arith,
+      search needs,
+      first-past (is (a .list .now) (a .key .now)) (l .j) (l .inv .2)
+          (ap (λ (x : Bytes). sameBytes x (a .key .now)) (sym (m .reference .ensures)) ∙ sym (c .before .same .ensures) ∙ c .if1 .left),
+    )
 
 returns-2 : tie.Need-returns-2 Inv-loop μ-loop
 returns-2 c =

@@ -32,9 +32,12 @@ loop-again : tie.Need-loop-again Inv-loop μ-loop
 loop-again c =
     let m = c .before .before in
     let l = m .before .before .loop in
-    let list = m .before .before .before .before .args .list .now in
-    (omega arith, search needs, first-past (badRequestAt list) (l .i) (l .inv .2)
-    (ap badRequest (sym (m .request .ensures)) ∙ sym (c .before .is-bad .ensures) ∙ c .if1 .left))
+    let list = m .before .before .before .before .args .list .now in (
+      omega arith,
+      search needs,
+      first-past (badRequestAt list) (l .i) (l .inv .2)
+          (ap badRequest (sym (m .request .ensures)) ∙ sym (c .before .is-bad .ensures) ∙ c .if1 .left),
+    )
 
 returns-2 : tie.Need-returns-2 Inv-loop μ-loop
 returns-2 c =
