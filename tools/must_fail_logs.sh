@@ -1,11 +1,13 @@
 #!/usr/bin/env bash
 # Checks the logs that rt ci left of the must-fail edits: each edit has one, and none shows an edit that was refused
-# only because a proof file names what the edited code no longer has. Such an edit says nothing about the contract.
+# only for a name: a proof file that names what the edited code no longer has, or an edit that names what is not in
+# scope. Such an edit says nothing about the contract.
 set -u
 cd "$(dirname "$0")/.." || exit 1
 shopt -s nullglob
 
-phrase='that can be named from here'
+unfit='that can be named from here'
+unknown='is not in scope'
 edits=0
 bad=0
 
@@ -15,7 +17,7 @@ complain() { # MESSAGE
 }
 
 for log in target/must-fail/*/*/.log; do
-    grep -q -F -e "$phrase" "$log"
+    grep -q -F -e "$unfit" -e "$unknown" "$log"
     case $? in
     0) complain "$log: refused for a name, not for a fact" ;;
     1) ;;

@@ -1,7 +1,7 @@
 -- Laws of masks: what the code's `m | 1 << p` makes, how many ones a mask has, and what its bits are. They hold at every width. Assumes nothing.
 use mathlib.Core.Path.{_≡_, refl, sym, ap, ap₂, _∙_, subst}
 use mathlib.Core.Bool.{Bool, true, false, cond}
-use mathlib.Core.Logic.{_⊎_, inl, inr, ⊎-elim}
+use mathlib.Core.Logic.{_⊎_, ⊎-elim}
 use Prim.Native.Nat.{ℕ, zero, suc, _+_, _-_, _*_, _/_, _%_, _^_, _≤_, _<_, min, max, suc-le-suc}
 use native.Mathlib.Nat.{pow-suc, mul-assoc, mul-add-div-right, mul-add-mod-self-right, div-eq-of-lt, eq-or-lt-of-le, le-of-suc-le-suc, div-one, mod-lt, mod-eq-of-lt, div-add-mod', zero-div}
 use native.Mathlib.Omega.{arith}

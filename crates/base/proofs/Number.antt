@@ -1,6 +1,6 @@
 -- Laws of numbers of two bytes: a number and its pair of bytes determine each other. Assumes nothing.
 use mathlib.Core.Path.{_≡_}
-use Prim.Native.Nat.{ℕ, _+_, _*_, _/_, _%_, _<_}
+use Prim.Native.Nat.{ℕ, _/_, _%_, _<_}
 use native.Mathlib.Omega.{arith}
 use Rattle.base.specs.Number.{number, numberAt, pair}
 

@@ -1,5 +1,5 @@
 -- What it means that the reader accepts, as a record. Assumes nothing.
-use mathlib.Core.Path.{_≡_, refl, sym}
+use mathlib.Core.Path.{_≡_, refl}
 use mathlib.Core.Bool.{Bool, true, false, not, cond}
 use Prim.Native.Nat.{ℕ, _≤_}
 use native.Mathlib.Omega.{arith}
@@ -11,7 +11,6 @@ use Rattle.block.specs.Layout.{referenceCount, requestCount, referenceLi
 use Rattle.block.specs.Reading.{wellShaped, badRequestAt, repeatedAt, fieldsOf, reading}
 use Rattle.block.specs.Steps.{Shaped}
 use Rattle.block.specs.declared.Fields.{Fields}
-use Rattle.block.specs.declared.Reading.{Reading}
 use Rattle.block.specs.declared.Reading.the-variants.{Block, Misshapen, BadRequest, RepeatedReference}
 use Rattle.block.proofs.Shape.{shaped, well-shaped}
 

@@ -1,14 +1,14 @@
 -- The encoding of a content: its length and its fields, and the encoding of what two lists of bytes hold. Assumes nothing.
-use mathlib.Core.Path.{_≡_, refl, sym, ap, ap₂, _∙_}
+use mathlib.Core.Path.{_≡_, refl, sym, ap, _∙_}
 use mathlib.Core.List.{List, [], _∷_, _++_, map, append-nil}
 use Prim.Native.Nat.{ℕ, zero, suc, _+_, _*_, _/_, _%_, _-_, _≤_, _<_}
 use native.Mathlib.Omega.{arith}
 use native.Mathlib.Nat.{mul-suc, add-comm}
-use lib.ListN.{length, getD, take, drop, length-append, length-map}
+use lib.ListN.{length, getD, take, length-append}
 use lib.Seq.{take-all, take-at, drop-at, drop-drop}
 use Rattle.base.specs.Bytes.{Bytes, AllBytes, parts, joined}
 use Rattle.base.proofs.Number.{number-high, number-low, number-pair}
-use Rattle.base.proofs.Parts.{length-parts, joined-parts, length-joined, parts-joined}
+use Rattle.base.proofs.Parts.{joined-parts, length-joined, parts-joined}
 use Rattle.block.specs.Limits.{headerSize, referenceSize, requestSize, blockSize}
 use Rattle.block.specs.Layout.{Content, requestOf, requestBytes, referencesIn, requestsIn, content, encode, referenceList, requestList}
 use Rattle.block.specs.declared.Request.{Request}

@@ -4,11 +4,11 @@ use mathlib.Core.Path.{_≡_, refl, sym, ap, _∙_, subst}
 use mathlib.Core.Bool.{false}
 use mathlib.Core.Logic.{_≢_}
 use mathlib.Core.List.{List, [], _∷_, _++_, map}
-use Prim.Native.Nat.{ℕ, zero, suc, _+_, _*_, _/_, _%_, _≤_, _<_, suc-le-suc}
+use Prim.Native.Nat.{ℕ, zero, suc, _+_, _*_, _/_, _≤_, _<_, suc-le-suc}
 use native.Mathlib.Omega.{arith}
 use lib.Dec.{eqb, ltb}
-use lib.ListN.{length, getD, take, drop, length-drop, take-append-drop}
-use lib.Seq.{length-take-le, take-all, drop-drop}
+use lib.ListN.{length, getD, drop, length-drop, take-append-drop}
+use lib.Seq.{length-take-le, drop-drop}
 use borrow.Author.Tests.{le-ltb, ne-eqb, ltb-false, eqb-false}
 use Rattle.base.specs.Bytes.{Bytes, AllBytes, sameBytes, partAt, joined}
 use Rattle.base.proofs.Tests.{or-left, or-right}
@@ -18,7 +18,7 @@ use Rattle.base.proofs.Number.{number-pair, number-below, number-high, number-l
 use Rattle.block.specs.Limits.{headerSize, referenceSize, requestSize, maxSlot}
 use Rattle.block.specs.Layout.{Content, siteOf, sequenceOf, referenceCount, requestCount, referenceList, requestList, referenceAt, requestAt, requestBytes, referencesIn, requestsIn, content, contentOf, encode}
 use Rattle.block.specs.Reading.{badRequest, badRequestAt, repeatedAt, fieldsOf, reading}
-use Rattle.block.specs.Codec.{Digest, Admissible, noRequest, Fitting, Reads, Gives, RoundTrip}
+use Rattle.block.specs.Codec.{Digest, Admissible, noRequest, Fitting, Gives, RoundTrip}
 use Rattle.block.specs.Steps.{Shaped}
 use Rattle.block.specs.declared.Request.{Request}
 use Rattle.block.specs.declared.Fields.{Fields}
@@ -26,7 +26,7 @@ use Rattle.block.specs.declared.Reading.the-variants.{Block}
 use Rattle.block.proofs.Lists.{references-length, references-at, requests-length, requests-at}
 use Rattle.block.proofs.Shape.{reference-list-length, request-list-length, references-counted, requests-counted}
 use Rattle.block.proofs.Encoding.{encode-content, encode-length, encode-references, encode-requests, references-held, requests-held}
-use Rattle.block.proofs.Accepted.{Accepted, AcceptedAs, accepted-reading, reading-accepted}
+use Rattle.block.proofs.Accepted.{Accepted, accepted-reading, reading-accepted}
 
 -- ---- from a fitting content to bytes
 

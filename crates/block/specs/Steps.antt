@@ -1,9 +1,8 @@
 -- What the contracts of inner functions cite: what an entry point has tested. Nothing here need be believed.
 use mathlib.Core.Path.{_≡_}
-use mathlib.Core.Bool.{cond}
-use Prim.Native.Nat.{ℕ, _+_, _*_, _/_, _≤_, _<_}
+use Prim.Native.Nat.{ℕ, _+_, _*_, _/_, _≤_}
 use lib.ListN.{length}
-use Rattle.base.specs.Search.{firstBelow, anyBelow}
+use Rattle.base.specs.Search.{firstBelow}
 use Rattle.base.specs.Bytes.{Bytes, sameBytes}
 use Rattle.block.specs.Limits.{headerSize, referenceSize, requestSize, maxReferences, maxRequests, blockSize}
 use Rattle.block.specs.Layout.{referenceCount, requestCount, referenceAt}

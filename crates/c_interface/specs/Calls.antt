@@ -51,11 +51,11 @@ referenceOutput b index output =
 
 -- ---- gt_request: beside a refusal slot and number are 0
 
-abbrev pub noRequest : Answer → Requested
-noRequest a = record { answer = a; slot = 0; number = 0 }
+abbrev pub withoutRequest : Answer → Requested
+withoutRequest a = record { answer = a; slot = 0; number = 0 }
 
 abbrev pub requestThere : Bytes → ℕ → Requested
 requestThere list index = record { answer = done; slot = requestAt list index .slot; number = requestAt list index .number }
 
 unfoldable pub requested : Bytes → ℕ → Requested
-requested b index = whenRead (reading b) (λ f. cond (leb (f .requests) index) (noRequest noSuchEntry) (requestThere (requestList b) index)) noRequest
+requested b index = whenRead (reading b) (λ f. cond (leb (f .requests) index) (withoutRequest noSuchEntry) (requestThere (requestList b) index)) withoutRequest

@@ -92,8 +92,8 @@ fn show_shortest() {
 fn show_longest() {
     let b = full();
     show_front(b"540 bytes, p 16, r 8", b, 540);
-    show_front(b"541 bytes, p 16, r 8", b, 541);
-    show_front(b"542 bytes, p 16, r 8", b, 542);
+    show_front(b"541 bytes, p 16, r 8", b, block::MAX_BLOCK_SIZE);
+    show_front(b"542 bytes, p 16, r 8", b, block::MAX_BLOCK_SIZE + 1);
 }
 
 fn show_counts() {

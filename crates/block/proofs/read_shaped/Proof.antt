@@ -1,6 +1,6 @@
 -- `read_shaped` meets its contract: one law for each way out, over the parts that the code hands on. Assumes nothing.
-use mathlib.Core.Path.{_≡_, sym, ap, _∙_}
-use Prim.Native.Nat.{ℕ, _+_, _-_, _*_, _/_, _≤_, _<_}
+use mathlib.Core.Path.{_≡_, ap, _∙_}
+use Prim.Native.Nat.{ℕ, _+_, _-_, _*_, _≤_, _<_}
 use native.Mathlib.Omega.{arith}
 use lib.ListN.{length, getD, take, drop}
 use borrow.Author.Needs.{needs}
@@ -11,9 +11,8 @@ use Rattle.base.specs.Number.{numberAt}
 use Rattle.base.proofs.Parts.{part-size, rest-part}
 use Rattle.block.specs.Limits.{headerSize, referenceSize}
 use Rattle.block.specs.Layout.{referenceCount, requestCount, referenceList, requestList}
-use Rattle.block.specs.Reading.{badRequestAt, repeatedAt, fieldsOf, reading}
+use Rattle.block.specs.Reading.{badRequestAt, repeatedAt, reading}
 use Rattle.block.specs.Steps.{Shaped, firstBad, firstRepeated}
-use Rattle.block.specs.declared.Fields.{Fields}
 use Rattle.block.specs.declared.Reading.the-variants.{Block, BadRequest, RepeatedReference}
 use Rattle.block.proofs.Shape.{well-shaped, references-counted, requests-counted}
 use Rattle.block.proofs.read_shaped.Statement.{statement}

@@ -1,5 +1,5 @@
 -- `gt_digest` meets its contract. Assumes nothing.
-use mathlib.Core.Path.{_≡_, ap, _∙_}
+use mathlib.Core.Path.{ap, _∙_}
 use borrow.Author.Needs.{needs}
 use Rattle.base.specs.Bytes.{Bytes}
 use Rattle.c_interface.specs.Calls.{putOutput, digestOutput}

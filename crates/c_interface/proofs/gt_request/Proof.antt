@@ -20,18 +20,18 @@ use Rattle.block.specs.declared.Reading.the-variants.{Block}
 use Rattle.block.proofs.Reading.{the-type}
 use Rattle.block.proofs.Refused.{refused}
 use Rattle.block.proofs.Accepted.{Lengths, lengths, reading-accepted}
-use Rattle.c_interface.specs.Calls.{done, noSuchEntry, noRequest, requested}
+use Rattle.c_interface.specs.Calls.{done, noSuchEntry, withoutRequest, requested}
 use Rattle.c_interface.specs.declared.Requested.{Requested}
 use Rattle.c_interface.proofs.gt_request.Statement.{statement}
 use Rattle.c_interface.proofs.gt_request.Tie as tie
 
 module _ (b : Bytes) (i : ℕ) (r : Reading) (e : r ≡ reading b) where
-  way-refused : (a : Answer) → OneOf (1 ∷ 2 ∷ 3 ∷ []) (tagOf the-type r) → a ≡ answerOf r → noRequest a ≡ requested b i
+  way-refused : (a : Answer) → OneOf (1 ∷ 2 ∷ 3 ∷ []) (tagOf the-type r) → a ≡ answerOf r → withoutRequest a ≡ requested b i
   unfolding requested
   way-refused a k q = rw (← e, q) (sym (refused _ _ r k))
 
   module _ (f : Fields) (q : r ≡ Block f) where
-    way-none : f .requests ≤ i → noRequest noSuchEntry ≡ requested b i
+    way-none : f .requests ≤ i → withoutRequest noSuchEntry ≡ requested b i
     unfolding requested
     way-none h = rw (← e, q, le-leb (f .requests) i h)
 

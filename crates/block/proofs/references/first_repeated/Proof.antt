@@ -1,6 +1,6 @@
 -- `first_repeated` meets its contract. The loop's invariant: none of the references passed equals an earlier one. Assumes nothing.
 use native.Mathlib.Omega.{arith}
-use mathlib.Core.Path.{_≡_, sym, ap, _∙_}
+use mathlib.Core.Path.{_≡_, sym}
 use mathlib.Core.Bool.{true, false}
 use Prim.Native.Nat.{ℕ, _≤_, _<_, _-_, _/_}
 use lib.ListN.{length}

@@ -1,6 +1,5 @@
 -- `write_front` is safe and ends. Assumes nothing.
 use mathlib.Core.Path.{sym}
-use native.Mathlib.Omega.{arith}
 use lib.Seq.{length-take-le}
 use borrow.Author.Needs.{needs}
 use Rattle.vectors.proofs.line.write_front.Statement.{statement}

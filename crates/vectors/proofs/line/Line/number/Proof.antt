@@ -1,8 +1,6 @@
 -- `number` is safe and ends. Assumes nothing.
 use borrow.Author.Needs.{needs}
 use Prim.Native.Nat.{_≤_, _-_}
-use mathlib.Core.Path.{_≡_}
-use lib.ListN.{length}
 use Rattle.vectors.proofs.line.Line.number.Statement.{statement}
 use Rattle.vectors.proofs.line.Line.number.Tie as tie
 
