@@ -1,3 +1,4 @@
+-- The laws of what specs/ defines, a file for each idea. Other crates' proofs cite them.
 pub mod Tests
 pub mod Search
 pub mod Count

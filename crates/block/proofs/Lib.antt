@@ -1,3 +1,4 @@
+-- The laws of blocks. RoundTrip is the promise of specs/Codec.antt; the files before it lead up to it.
 pub mod Lists
 pub mod Shape
 pub mod Encoding

@@ -44,7 +44,11 @@ pub record Reads (b : Bytes) (c : Content) : Type 0 where
 
 -- the numbers f and the two parts of b that they set out are b's content
 pub record Gives (f : Fields) (b : Bytes) : Type 0 where
-  pub content : content (f .site) (f .sequence) (take (referenceSize * f .references) (drop headerSize b)) (drop (headerSize + referenceSize * f .references) b) ≡ contentOf b
+  pub content :
+      content (f .site) (f .sequence)
+      (take (referenceSize * f .references) (drop headerSize b))
+      (drop (headerSize + referenceSize * f .references) b)
+      ≡ contentOf b
   pub references : length (contentOf b .references) ≡ f .references
   pub requests : length (contentOf b .requests) ≡ f .requests
 

@@ -16,7 +16,10 @@ use Rattle.block.specs.declared.Reading.the-variants.{Block, Misshapen, 
 -- 3: block under 5 bytes, p over 16, r over 8, or wrong length
 unfoldable pub wellShaped : Bytes → Bool
 wellShaped b =
-    leb headerSize (length b) && (leb (referenceCount b) maxReferences && (leb (requestCount b) maxRequests && eqb (length b) (blockSize (referenceCount b) (requestCount b))))
+    leb headerSize (length b)
+    && (leb (referenceCount b) maxReferences
+    && (leb (requestCount b) maxRequests
+    && eqb (length b) (blockSize (referenceCount b) (requestCount b))))
 
 -- 6: slot over 7, or number 0
 abbrev pub badRequest : Request → Bool
@@ -29,10 +32,11 @@ badRequestAt list i = badRequest (requestAt list i)
 abbrev pub repeatedAt : Bytes → ℕ → Bool
 repeatedAt list i = anyBelow (λ j. sameBytes (referenceAt list j) (referenceAt list i)) i
 
--- the numbers of a block that passes
+-- the numbers of a block that passes all three
 abbrev pub fieldsOf : Bytes → Fields
 fieldsOf b = record { site = siteOf b; sequence = sequenceOf b; references = referenceCount b; requests = requestCount b }
 
+-- the first check that fails decides, with the index of the first such entry
 unfoldable pub reading : Bytes → Reading
 reading b =
     cond (not (wellShaped b)) Misshapen
