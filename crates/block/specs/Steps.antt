@@ -4,7 +4,7 @@ use Prim.Native.Nat.{ℕ, _+_, _*_, _/_, _≤_}
 use lib.ListN.{length}
 use Rattle.base.specs.Search.{firstBelow}
 use Rattle.base.specs.Bytes.{Bytes, sameBytes}
-use Rattle.block.specs.Limits.{headerSize, referenceSize, requestSize, maxReferences, maxRequests, blockSize}
+use Rattle.block.specs.Limits.{headerSize, referenceSize, requestSize, maxReferences, maxRequests, maxRequestListSize, blockSize}
 use Rattle.block.specs.Layout.{referenceCount, requestCount, referenceAt}
 use Rattle.block.specs.Reading.{badRequestAt, repeatedAt}
 
@@ -20,7 +20,7 @@ pub record Writable (references requests output : Bytes) : Type 0 where
   pub referencesWhole : length references ≡ referenceSize * (length references / referenceSize)
   pub referencesFew : length references ≤ referenceSize * maxReferences
   pub requestsWhole : length requests ≡ requestSize * (length requests / requestSize)
-  pub requestsFew : length requests ≤ requestSize * maxRequests
+  pub requestsFew : length requests ≤ maxRequestListSize
   pub room : headerSize + length references + length requests ≤ length output
 
 -- the searches of checks 6 and 7, over a list's own length
