@@ -43,8 +43,9 @@ reading-accepted b f =
     go true t false p true q e = let z : _≡_ {A = ℕ} 0 1 = cc in absurd (omega arith)
     go true t false p false q e = record { accepted = record { shape = shaped b t; requests = p; references = q }; fields = cc }
 
--- how long a block of these fields is
+-- the count of references, and how long a block of these fields is
 pub record Lengths (b : Bytes) (f : Fields) : Type 0 where
+  pub counted : f .references ≡ referenceCount b
   pub references : f .references ≤ maxReferences
   pub requests : f .requests ≤ maxRequests
   pub exact : length b ≡ blockSize (f .references) (f .requests)
@@ -53,4 +54,4 @@ pub lengths : (b : Bytes) (f : Fields) → reading b ≡ Block f → Lengths b f
 lengths b f e =
     let a = reading-accepted b f e in
     let s = a .accepted .shape in
-    rw (a .fields) (record { references = s .references; requests = s .requests; exact = s .exact })
+    rw (a .fields) (record { counted = refl; references = s .references; requests = s .requests; exact = s .exact })

@@ -5,7 +5,8 @@ use mathlib.Core.List.{[], _∷_}
 use native.Mathlib.Omega.{arith}
 use types.Run.{OneOf}
 use denote.Enum.Declared.{tagOf}
-use Rattle.block.specs.Reading.{answerOf, whenRead}
+use Rattle.base.specs.Bytes.{Bytes}
+use Rattle.block.specs.Reading.{reading, answerOf, whenRead}
 use Rattle.block.specs.declared.Answer.{Answer}
 use Rattle.block.specs.declared.Fields.{Fields}
 use Rattle.block.specs.declared.Reading.{Reading}
@@ -13,10 +14,18 @@ use Rattle.block.specs.declared.Reading.the-variants.{Block, Misshapen, 
 use Rattle.block.proofs.Reading.{the-type}
 
 module _ {A : Type 0} (yes : Fields → A) (other : Answer → A) where
-  pub refused : (r : Reading) → OneOf (1 ∷ 2 ∷ 3 ∷ []) (tagOf the-type r) → whenRead r yes other ≡ other (answerOf r)
-  refused (Block f) (inl e) = absurd (omega arith)
-  refused (Block f) (inr (inl e)) = absurd (omega arith)
-  refused (Block f) (inr (inr e)) = absurd (omega arith)
-  refused Misshapen k = refl
-  refused (BadRequest i) k = refl
-  refused (RepeatedReference i) k = refl
+  by-tag : (r : Reading) → OneOf (1 ∷ 2 ∷ 3 ∷ []) (tagOf the-type r) → whenRead r yes other ≡ other (answerOf r)
+  by-tag (Block f) (inl e) = absurd (omega arith)
+  by-tag (Block f) (inr (inl e)) = absurd (omega arith)
+  by-tag (Block f) (inr (inr e)) = absurd (omega arith)
+  by-tag Misshapen k = refl
+  by-tag (BadRequest i) k = refl
+  by-tag (RepeatedReference i) k = refl
+
+  -- r is what reading b answered
+  module _ (b : Bytes) (r : Reading) (e : r ≡ reading b) where
+    pub when-refused : OneOf (1 ∷ 2 ∷ 3 ∷ []) (tagOf the-type r) → whenRead (reading b) yes other ≡ other (answerOf r)
+    when-refused k = rw (← e) (by-tag r k)
+
+    pub when-accepted : (f : Fields) → r ≡ Block f → whenRead (reading b) yes other ≡ yes f
+    when-accepted f q = rw (← e, q)

@@ -1,14 +1,15 @@
--- Check 3 as a test and as a record of what it shows, and the parts of bytes that pass it. Assumes nothing.
-use mathlib.Core.Path.{_≡_, _∙_}
+-- Check 3 as a test and as a record of what it shows, and the two lists of bytes that pass it. Assumes nothing.
+use mathlib.Core.Path.{_≡_, ap, _∙_}
 use mathlib.Core.Bool.{Bool, true, _&&_}
-use Prim.Native.Nat.{_+_, _*_, _/_, _-_, _≤_}
+use Prim.Native.Nat.{ℕ, _+_, _*_, _/_, _-_, _≤_}
 use native.Mathlib.Omega.{arith}
 use lib.Dec.{leb, eqb}
-use lib.ListN.{length, drop, length-drop}
+use lib.ListN.{length, take, drop, length-drop}
 use lib.Seq.{length-take-le}
 use borrow.Author.Tests.{leb-true, eqb-true, le-leb, eq-eqb}
 use Rattle.base.specs.Bytes.{Bytes}
 use Rattle.base.proofs.Tests.{and-left, and-right}
+use Rattle.base.proofs.Parts.{part-size, rest-part}
 use Rattle.block.specs.Limits.{headerSize, referenceSize, requestSize, maxReferences, maxRequests, blockSize, maxBlockSize}
 use Rattle.block.specs.Layout.{referenceCount, requestCount, referenceList, requestList}
 use Rattle.block.specs.Reading.{wellShaped}
@@ -36,6 +37,17 @@ well-shaped b s =
       le-leb (requestCount b) maxRequests (s .requests),
       eq-eqb (length b) (blockSize (referenceCount b) (requestCount b)) (s .exact),
     )
+
+-- the two lists as the code hands them on, from a count p in a local
+module _ (b : Bytes) (p : ℕ) (e : p ≡ referenceCount b) where
+  abbrev pub middle : ℕ
+  middle = headerSize + referenceSize * p
+
+  pub reference-part : take (middle - headerSize) (drop headerSize b) ≡ referenceList b
+  reference-part = ap (λ (n : ℕ). take n (drop headerSize b)) (part-size headerSize (referenceSize * p) ∙ ap (λ (n : ℕ). referenceSize * n) e)
+
+  pub request-part : take (length b - middle) (drop middle b) ≡ requestList b
+  request-part = rest-part b middle ∙ ap (λ (n : ℕ). drop (headerSize + referenceSize * n) b) e
 
 module _ (b : Bytes) (s : Shaped b) where
   -- a block is at most 541 bytes long

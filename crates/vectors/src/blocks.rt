@@ -1,6 +1,13 @@
 // Reading at every limit, each refusal with its index, and the order of the checks where several faults meet.
 use crate::line::Line;
+use block::MAX_BLOCK_SIZE;
 use block::Reading;
+
+// Room for a block of one reference too many.
+const ROOM: usize = 549;
+
+// Where the requests of a block of 16 references begin.
+const REQUESTS: usize = 517;
 
 fn show(name: &[u8], bytes: &[u8]) {
     let line = Line::new().text(name).text(b": ");
@@ -26,42 +33,41 @@ fn show(name: &[u8], bytes: &[u8]) {
 }
 
 // The same for the first n bytes.
-fn show_front(name: &[u8], block: [u8; 549], n: usize) {
-    if n <= 549 {
+fn show_front(name: &[u8], block: [u8; ROOM], n: usize) {
+    if n <= ROOM {
         show(name, &block[..n]);
     }
 }
 
 // A block of 16 references and 8 requests, with zeros after its 541 bytes: reference i is 32 times i + 1, request i asks for i + 1 in slot i.
-fn full() -> [u8; 549] {
-    let mut b = [0u8; 549];
+fn full() -> [u8; ROOM] {
+    let mut b = [0u8; ROOM];
     b[0] = 3;
     b[1] = 1;
     b[2] = 2;
     b[3] = 16;
     b[4] = 8;
-    for i in 0..512 {
-        b[5 + i] = (i / 32 + 1) as u8;
+    for i in 0..16 {
+        b = with_reference(b, i, i);
     }
     for i in 0..8 {
-        b[517 + 3 * i] = i as u8;
-        b[519 + 3 * i] = (i + 1) as u8;
+        b = with_request(b, i, i as u8, (i + 1) as u8);
     }
     b
 }
 
 // The block with request i asking for a number in a slot.
-fn with_request(block: [u8; 549], i: usize, slot: u8, number: u8) -> [u8; 549] {
+fn with_request(block: [u8; ROOM], i: usize, slot: u8, number: u8) -> [u8; ROOM] {
     let mut b = block;
     if i < 8 {
-        b[517 + 3 * i] = slot;
-        b[519 + 3 * i] = number;
+        b[REQUESTS + 3 * i] = slot;
+        b[REQUESTS + 3 * i + 2] = number;
     }
     b
 }
 
-// The block with reference i made equal to reference j.
-fn with_reference(block: [u8; 549], i: usize, j: usize) -> [u8; 549] {
+// The block with reference i made what reference j of a full block is.
+fn with_reference(block: [u8; ROOM], i: usize, j: usize) -> [u8; ROOM] {
     let mut b = block;
     if i < 16 {
         if j < 16 {
@@ -74,7 +80,7 @@ fn with_reference(block: [u8; 549], i: usize, j: usize) -> [u8; 549] {
 }
 
 // The block with other counts.
-fn with_counts(block: [u8; 549], p: u8, r: u8) -> [u8; 549] {
+fn with_counts(block: [u8; ROOM], p: u8, r: u8) -> [u8; ROOM] {
     let mut b = block;
     b[3] = p;
     b[4] = r;
@@ -91,27 +97,27 @@ fn show_shortest() {
 
 fn show_longest() {
     let b = full();
-    show_front(b"540 bytes, p 16, r 8", b, 540);
-    show_front(b"541 bytes, p 16, r 8", b, block::MAX_BLOCK_SIZE);
-    show_front(b"542 bytes, p 16, r 8", b, block::MAX_BLOCK_SIZE + 1);
+    show_front(b"540 bytes, p 16, r 8", b, MAX_BLOCK_SIZE - 1);
+    show_front(b"541 bytes, p 16, r 8", b, MAX_BLOCK_SIZE);
+    show_front(b"542 bytes, p 16, r 8", b, MAX_BLOCK_SIZE + 1);
 }
 
 fn show_counts() {
     let b = full();
-    show_front(b"549 bytes, p 17, r 0", with_counts(b, 17, 0), 549);
-    show_front(b"517 bytes, p 16, r 0", with_counts(b, 16, 0), 517);
+    show_front(b"549 bytes, p 17, r 0", with_counts(b, 17, 0), ROOM);
+    show_front(b"517 bytes, p 16, r 0", with_counts(b, 16, 0), REQUESTS);
     show_front(b"32 bytes, p 0, r 9", with_counts(b, 0, 9), 32);
 }
 
 fn show_requests() {
     let b = full();
-    show_front(b"slot 8 at 3", with_request(b, 3, 8, 1), 541);
-    show_front(b"number 0 at 4", with_request(b, 4, 4, 0), 541);
+    show_front(b"slot 8 at 3", with_request(b, 3, 8, 1), MAX_BLOCK_SIZE);
+    show_front(b"number 0 at 4", with_request(b, 4, 4, 0), MAX_BLOCK_SIZE);
     let c = with_request(b, 7, 255, 1);
     show_front(
         b"slot 255 at 7, number 0 at 2",
         with_request(c, 2, 2, 0),
-        541,
+        MAX_BLOCK_SIZE,
     );
 }
 
@@ -127,18 +133,26 @@ fn show_counted_of(list: &[u8], slot: u8) {
 // Slot 0 is requested twice, and slot 5 not at all.
 fn show_counted() {
     let b = with_request(full(), 5, 0, 9);
-    show_front(b"slot 0 at 0 and at 5", b, 541);
-    show_counted_of(&b[517..541], 0);
-    show_counted_of(&b[517..541], 4);
-    show_counted_of(&b[517..541], 5);
+    show_front(b"slot 0 at 0 and at 5", b, MAX_BLOCK_SIZE);
+    show_counted_of(&b[REQUESTS..MAX_BLOCK_SIZE], 0);
+    show_counted_of(&b[REQUESTS..MAX_BLOCK_SIZE], 4);
+    show_counted_of(&b[REQUESTS..MAX_BLOCK_SIZE], 5);
 }
 
 fn show_references() {
     let b = full();
-    show_front(b"reference 5 as 1", with_reference(b, 5, 1), 541);
+    show_front(b"reference 5 as 1", with_reference(b, 5, 1), MAX_BLOCK_SIZE);
     let c = with_reference(b, 9, 2);
-    show_front(b"reference 9 as 2, 4 as 3", with_reference(c, 4, 3), 541);
-    show_front(b"reference 15 as 14", with_reference(b, 15, 14), 541);
+    show_front(
+        b"reference 9 as 2, 4 as 3",
+        with_reference(c, 4, 3),
+        MAX_BLOCK_SIZE,
+    );
+    show_front(
+        b"reference 15 as 14",
+        with_reference(b, 15, 14),
+        MAX_BLOCK_SIZE,
+    );
 }
 
 fn show_orders() {
@@ -146,29 +160,39 @@ fn show_orders() {
     show_front(
         b"number 0 at 4, reference 1 as 0",
         with_request(b, 4, 4, 0),
-        541,
+        MAX_BLOCK_SIZE,
     );
     show_front(
         b"slot 8 at 7, reference 1 as 0",
         with_request(b, 7, 8, 1),
-        541,
+        MAX_BLOCK_SIZE,
     );
-    show_front(b"542 bytes, reference 1 as 0", b, 542);
+    show_front(b"542 bytes, reference 1 as 0", b, MAX_BLOCK_SIZE + 1);
     let c = with_request(b, 0, 8, 1);
-    show_front(b"540 bytes, slot 8 at 0, reference 1 as 0", c, 540);
+    show_front(
+        b"540 bytes, slot 8 at 0, reference 1 as 0",
+        c,
+        MAX_BLOCK_SIZE - 1,
+    );
     show_front(
         b"p 17, slot 8 at 0, reference 1 as 0",
         with_counts(c, 17, 8),
-        541,
+        MAX_BLOCK_SIZE,
     );
 }
 
 // A block written into a longer output is read back, and the output's other bytes stay.
 fn show_written() {
-    let mut output = [7u8; 549];
+    let mut output = [7u8; ROOM];
     let references = full();
     let requests = full();
-    block::writing::write_block(9, 258, &references[5..69], &requests[517..523], &mut output);
+    block::writing::write_block(
+        9,
+        258,
+        &references[5..69],
+        &requests[REQUESTS..REQUESTS + 6],
+        &mut output,
+    );
     let after = output[75];
     show_front(b"written, p 2, r 2", output, 75);
     Line::new()

@@ -1,22 +1,24 @@
 // A line of output, built up in place; what does not fit is left out.
 use libc::STDOUT_FILENO;
 
+const ROOM: usize = 160;
+
 pub struct Line {
-    pub bytes: [u8; 160],
+    pub bytes: [u8; ROOM],
     pub len: usize,
 }
 
 impl Line {
     pub fn new() -> Line {
         Line {
-            bytes: [0u8; 160],
+            bytes: [0u8; ROOM],
             len: 0,
         }
     }
 
     pub fn byte(mut self, b: u8) -> Line {
         let at = self.len;
-        if at < 160 {
+        if at < ROOM {
             self.bytes[at] = b;
             self.len = at + 1;
         }
@@ -72,8 +74,8 @@ impl Line {
     }
 }
 
-fn write_front(bytes: [u8; 160], len: usize) {
-    if len <= 160 {
+fn write_front(bytes: [u8; ROOM], len: usize) {
+    if len <= ROOM {
         io::write_all(STDOUT_FILENO, &bytes[..len]);
     }
 }

@@ -1,6 +1,6 @@
 -- `read_shaped` meets its contract: one law for each way out, over the parts that the code hands on. Assumes nothing.
 use mathlib.Core.Path.{_≡_, ap, _∙_}
-use Prim.Native.Nat.{ℕ, _+_, _-_, _*_, _≤_, _<_}
+use Prim.Native.Nat.{ℕ, _-_, _≤_, _<_}
 use native.Mathlib.Omega.{arith}
 use lib.ListN.{length, getD, take, drop}
 use borrow.Author.Needs.{needs}
@@ -8,31 +8,28 @@ use borrow.Author.Tests.{lt-ltb, le-ltb}
 use Rattle.base.specs.Search.{firstBelow, anyBelow}
 use Rattle.base.specs.Bytes.{Bytes}
 use Rattle.base.specs.Number.{numberAt}
-use Rattle.base.proofs.Parts.{part-size, rest-part}
-use Rattle.block.specs.Limits.{headerSize, referenceSize}
+use Rattle.block.specs.Limits.{headerSize}
 use Rattle.block.specs.Layout.{referenceCount, requestCount, referenceList, requestList}
 use Rattle.block.specs.Reading.{badRequestAt, repeatedAt, reading}
 use Rattle.block.specs.Steps.{Shaped, firstBad, firstRepeated}
 use Rattle.block.specs.declared.Reading.the-variants.{Block, BadRequest, RepeatedReference}
-use Rattle.block.proofs.Shape.{well-shaped, references-counted, requests-counted}
+use Rattle.block.proofs.Shape.{well-shaped, middle, reference-part, request-part, references-counted, requests-counted}
 use Rattle.block.proofs.read_shaped.Statement.{statement}
 use Rattle.block.proofs.read_shaped.Tie as tie
 
 module _ (b : Bytes) (s : Shaped b) (p r : ℕ) (ep : p ≡ referenceCount b) (er : r ≡ requestCount b) where
   -- the two searches, over the parts as the code makes them
   abbrev bad : ℕ
-  bad = firstBad (take (length b - (headerSize + referenceSize * p)) (drop (headerSize + referenceSize * p) b))
+  bad = firstBad (take (length b - middle b p ep) (drop (middle b p ep) b))
 
   abbrev repeated : ℕ
-  repeated = firstRepeated (take ((headerSize + referenceSize * p) - headerSize) (drop headerSize b))
+  repeated = firstRepeated (take (middle b p ep - headerSize) (drop headerSize b))
 
   bad-is : bad ≡ firstBelow (badRequestAt (requestList b)) (requestCount b)
-  bad-is = ap firstBad (rest-part b (headerSize + referenceSize * p) ∙ ap (λ (n : ℕ). drop (headerSize + referenceSize * n) b) ep) ∙ ap (firstBelow (badRequestAt (requestList b))) (requests-counted b s)
+  bad-is = ap firstBad (request-part b p ep) ∙ ap (firstBelow (badRequestAt (requestList b))) (requests-counted b s)
 
   repeated-is : repeated ≡ firstBelow (repeatedAt (referenceList b)) (referenceCount b)
-  repeated-is =
-      ap (λ (n : ℕ). firstRepeated (take n (drop headerSize b))) (part-size headerSize (referenceSize * p) ∙ ap (λ (n : ℕ). referenceSize * n) ep)
-      ∙ ap (firstBelow (repeatedAt (referenceList b))) (references-counted b s)
+  repeated-is = ap firstRepeated (reference-part b p ep) ∙ ap (firstBelow (repeatedAt (referenceList b))) (references-counted b s)
 
   way-bad : (i : ℕ) → i ≡ bad → i < r → BadRequest i ≡ reading b
   unfolding reading anyBelow

@@ -11,7 +11,7 @@ use Rattle.block.specs.declared.Fields.{Fields}
 use Rattle.block.specs.declared.Reading.{Reading}
 use Rattle.block.specs.declared.Reading.the-variants.{Block}
 use Rattle.block.proofs.Reading.{the-type}
-use Rattle.block.proofs.Refused.{refused}
+use Rattle.block.proofs.Refused.{when-refused, when-accepted}
 use Rattle.c_interface.specs.Calls.{done, noFields, blockReading}
 use Rattle.c_interface.specs.declared.BlockReading.{BlockReading}
 use Rattle.c_interface.proofs.gt_read_block.Statement.{statement}
@@ -20,11 +20,11 @@ use Rattle.c_interface.proofs.gt_read_block.Tie as tie
 way-refused : (b : Bytes) (r : Reading) (a : Answer) → r ≡ reading b → OneOf (1 ∷ 2 ∷ 3 ∷ []) (tagOf the-type r) → a ≡ answerOf r
     → _≡_ {A = BlockReading} (record { answer = a; fields = noFields }) (blockReading b)
 unfolding blockReading
-way-refused b r a e k q = rw (← e, q) (sym (refused _ _ r k))
+way-refused b r a e k q = rw q (sym (when-refused _ _ b r e k))
 
 way-accepted : (b : Bytes) (r : Reading) (f : Fields) → r ≡ reading b → r ≡ Block f → _≡_ {A = BlockReading} (record { answer = done; fields = f }) (blockReading b)
 unfolding blockReading
-way-accepted b r f e q = rw (← e, q)
+way-accepted b r f e q = sym (when-accepted _ _ b r e f q)
 
 returns : tie.Need-returns
 returns c =

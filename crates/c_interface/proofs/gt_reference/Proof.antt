@@ -12,15 +12,16 @@ use borrow.Author.Tests.{le-leb, lt-leb}
 use Rattle.base.specs.Bytes.{Bytes}
 use Rattle.base.proofs.Parts.{part-size}
 use Rattle.block.specs.Limits.{headerSize, referenceSize}
-use Rattle.block.specs.Layout.{referenceCount, referenceList, referenceAt}
+use Rattle.block.specs.Layout.{referenceList, referenceAt}
 use Rattle.block.specs.Reading.{reading, answerOf}
 use Rattle.block.specs.declared.Answer.{Answer}
 use Rattle.block.specs.declared.Fields.{Fields}
 use Rattle.block.specs.declared.Reading.{Reading}
 use Rattle.block.specs.declared.Reading.the-variants.{Block}
 use Rattle.block.proofs.Reading.{the-type}
-use Rattle.block.proofs.Refused.{refused}
-use Rattle.block.proofs.Accepted.{Lengths, lengths, reading-accepted}
+use Rattle.block.proofs.Shape.{reference-part}
+use Rattle.block.proofs.Refused.{when-refused, when-accepted}
+use Rattle.block.proofs.Accepted.{Lengths, lengths}
 use Rattle.c_interface.specs.Calls.{noSuchEntry, putAnswer, putOutput, referenceAnswer, referenceOutput}
 use Rattle.c_interface.proofs.gt_reference.Statement.{statement}
 use Rattle.c_interface.proofs.gt_reference.Tie as tie
@@ -28,32 +29,31 @@ use Rattle.c_interface.proofs.gt_reference.Tie as tie
 module _ (b o : Bytes) (i : ℕ) (r : Reading) (e : r ≡ reading b) where
   way-refused : (a : Answer) → OneOf (1 ∷ 2 ∷ 3 ∷ []) (tagOf the-type r) → a ≡ answerOf r → (a ≡ referenceAnswer b i o) × (o ≡ referenceOutput b i o)
   unfolding referenceAnswer referenceOutput
-  way-refused a k q = (rw (← e) (q ∙ sym (refused _ _ r k)), rw (← e) (sym (refused _ _ r k)))
+  way-refused a k q = (q ∙ sym (when-refused _ _ b r e k), sym (when-refused _ _ b r e k))
 
   module _ (f : Fields) (q : r ≡ Block f) where
-    way-none : f .references ≤ i → (noSuchEntry ≡ referenceAnswer b i o) × (o ≡ referenceOutput b i o)
-    unfolding referenceAnswer referenceOutput
-    way-none h = (rw (← e, q, le-leb (f .references) i h), rw (← e, q, le-leb (f .references) i h))
+    fits : Lengths b f
+    fits = lengths b f (sym e ∙ q)
 
     -- the list as the code hands it on
     abbrev list : Bytes
     list = take ((headerSize + referenceSize * f .references) - headerSize) (drop headerSize b)
 
-    list-is : list ≡ referenceList b
-    list-is =
-        let n : f .references ≡ referenceCount b = ap (λ (x : Fields). x .references) (reading-accepted b f (sym e ∙ q) .fields) in
-        ap (λ (k : ℕ). take k (drop headerSize b)) (part-size headerSize (referenceSize * f .references) ∙ ap (λ (k : ℕ). referenceSize * k) n)
+    way-none : f .references ≤ i → (noSuchEntry ≡ referenceAnswer b i o) × (o ≡ referenceOutput b i o)
+    unfolding referenceAnswer referenceOutput
+    way-none h = (rw (when-accepted _ _ b r e f q, le-leb (f .references) i h), rw (when-accepted _ _ b r e f q, le-leb (f .references) i h))
 
     way-there : (d o′ : Bytes) (a : Answer) → i < f .references → d ≡ referenceAt list i → a ≡ putAnswer o → o′ ≡ putOutput d o
         → (a ≡ referenceAnswer b i o) × (o′ ≡ referenceOutput b i o)
     unfolding referenceAnswer referenceOutput
     way-there d o′ a h ed ea eo =
-        let there : d ≡ referenceAt (referenceList b) i = ed ∙ ap (λ (x : Bytes). referenceAt x i) list-is in
-        (rw (← e, q, lt-leb (f .references) i h) ea, rw (← e, q, lt-leb (f .references) i h, ← there) eo)
+        let there : d ≡ referenceAt (referenceList b) i = ed ∙ ap (λ (x : Bytes). referenceAt x i) (reference-part b (f .references) (fits .counted)) in
+        (rw (when-accepted _ _ b r e f q, lt-leb (f .references) i h) ea, rw (when-accepted _ _ b r e f q, lt-leb (f .references) i h, ← there) eo)
 
+    -- a reference that is there is as long as a digest
     size : (d : Bytes) → i < f .references → d ≡ referenceAt list i → length d ≡ referenceSize
     size d h ed =
-        let l = lengths b f (sym e ∙ q) in
+        let l = fits in
         let n : length list ≡ referenceSize * f .references = length-take-le _ (drop headerSize b) (omega (arith, length-drop headerSize b)) ∙ part-size headerSize (referenceSize * f .references) in
         ap length ed ∙ length-take-le referenceSize (drop (referenceSize * i) list) (omega (arith, length-drop (referenceSize * i) list))
 

@@ -8,9 +8,8 @@ use lib.ListN.{length, take, drop}
 use borrow.Author.Needs.{needs}
 use borrow.Author.Tests.{le-leb, lt-leb}
 use Rattle.base.specs.Bytes.{Bytes}
-use Rattle.base.proofs.Parts.{rest-part}
 use Rattle.block.specs.Limits.{headerSize, referenceSize}
-use Rattle.block.specs.Layout.{referenceCount, requestList, requestAt}
+use Rattle.block.specs.Layout.{requestList, requestAt}
 use Rattle.block.specs.Reading.{reading, answerOf}
 use Rattle.block.specs.declared.Answer.{Answer}
 use Rattle.block.specs.declared.Fields.{Fields}
@@ -18,8 +17,9 @@ use Rattle.block.specs.declared.Request.{Request}
 use Rattle.block.specs.declared.Reading.{Reading}
 use Rattle.block.specs.declared.Reading.the-variants.{Block}
 use Rattle.block.proofs.Reading.{the-type}
-use Rattle.block.proofs.Refused.{refused}
-use Rattle.block.proofs.Accepted.{Lengths, lengths, reading-accepted}
+use Rattle.block.proofs.Shape.{request-part}
+use Rattle.block.proofs.Refused.{when-refused, when-accepted}
+use Rattle.block.proofs.Accepted.{Lengths, lengths}
 use Rattle.c_interface.specs.Calls.{done, noSuchEntry, withoutRequest, requested}
 use Rattle.c_interface.specs.declared.Requested.{Requested}
 use Rattle.c_interface.proofs.gt_request.Statement.{statement}
@@ -28,28 +28,24 @@ use Rattle.c_interface.proofs.gt_request.Tie as tie
 module _ (b : Bytes) (i : ℕ) (r : Reading) (e : r ≡ reading b) where
   way-refused : (a : Answer) → OneOf (1 ∷ 2 ∷ 3 ∷ []) (tagOf the-type r) → a ≡ answerOf r → withoutRequest a ≡ requested b i
   unfolding requested
-  way-refused a k q = rw (← e, q) (sym (refused _ _ r k))
+  way-refused a k q = rw q (sym (when-refused _ _ b r e k))
 
   module _ (f : Fields) (q : r ≡ Block f) where
-    way-none : f .requests ≤ i → withoutRequest noSuchEntry ≡ requested b i
-    unfolding requested
-    way-none h = rw (← e, q, le-leb (f .requests) i h)
-
-    -- the list as the code hands it on
+    -- where the list begins that the code hands on
     abbrev middle : ℕ
     middle = headerSize + referenceSize * f .references
 
-    list-is : take (length b - middle) (drop middle b) ≡ requestList b
-    list-is =
-        let n : f .references ≡ referenceCount b = ap (λ (x : Fields). x .references) (reading-accepted b f (sym e ∙ q) .fields) in
-        rest-part b middle ∙ ap (λ (k : ℕ). drop (headerSize + referenceSize * k) b) n
+    way-none : f .requests ≤ i → withoutRequest noSuchEntry ≡ requested b i
+    unfolding requested
+    way-none h = rw (when-accepted _ _ b r e f q, le-leb (f .requests) i h)
 
     way-there : (x : Request) → i < f .requests → x ≡ requestAt (take (length b - middle) (drop middle b)) i
         → _≡_ {A = Requested} (record { answer = done; slot = x .slot; number = x .number }) (requested b i)
     unfolding requested
     way-there x h ex =
-        let there : x ≡ requestAt (requestList b) i = ex ∙ ap (λ (l : Bytes). requestAt l i) list-is in
-        rw (there, ← e, q, lt-leb (f .requests) i h)
+        let n = lengths b f (sym e ∙ q) .counted in
+        let there : x ≡ requestAt (requestList b) i = ex ∙ ap (λ (l : Bytes). requestAt l i) (request-part b (f .references) n) in
+        rw (there, when-accepted _ _ b r e f q, lt-leb (f .requests) i h)
 
 lengths-there : (c : tie.Else1) → Lengths (c .before .before .before .before .before .before .before .args .bytes .now) (c .before .before .before .reading .given .0 .0)
 lengths-there c = let m = c .before .before .before in lengths _ _ (sym (m .before .before .read-block .ensures) ∙ m .reading .given .1)

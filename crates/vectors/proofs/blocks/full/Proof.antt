@@ -7,10 +7,10 @@ use Rattle.vectors.proofs.blocks.full.Statement.{statement}
 use Rattle.vectors.proofs.blocks.full.Tie as tie
 
 abbrev Inv-loop : tie.InvT-loop
-Inv-loop b₀ i₀ b i = (i ≤ 512) × (length b ≡ 549)
+Inv-loop b₀ i₀ b i = (i ≤ 16) × (length b ≡ 549)
 
 abbrev μ-loop : tie.MeasureT-loop
-μ-loop b₀ i₀ b i = 512 - i
+μ-loop b₀ i₀ b i = 16 - i
 
 abbrev Inv-loop2 : tie.InvT-loop2
 Inv-loop2 b₀ i₀ b i = (i ≤ 8) × (length b ≡ 549)
@@ -32,6 +32,7 @@ full-spec =
     (λ c. search needs)
     (λ c. search needs)
     (λ c. search needs)
+    (λ c κs. search needs)
     (λ c. search needs)
     (λ c. search needs)
     (λ c. search needs)
@@ -39,16 +40,7 @@ full-spec =
     (λ c. search needs)
     (λ c. search needs)
     (λ c. search needs)
-    (λ c. search needs)
-    (λ c. search needs)
-    (λ c. search needs)
-    (λ c. search needs)
-    (λ c. search needs)
-    (λ c. search needs)
-    (λ c. search needs)
-    (λ c. search needs)
-    (λ c. search needs)
-    (λ c. search needs)
+    (λ c κs. search needs)
     (λ c. search needs)
     (λ c. search needs)
     (λ c. search needs)
