@@ -1,14 +1,15 @@
 -- Laws of byte strings: when two are equal, and that what is made of bytes is bytes. Assumes nothing.
 use mathlib.Core.Path.{_≡_, refl, ap₂}
 use mathlib.Core.Bool.{true, false}
+use mathlib.Core.Logic.{_≢_}
 use mathlib.Core.List.{List, [], _∷_, _++_}
 use Prim.Native.Nat.{ℕ, zero, suc, _+_, _<_, suc-le-suc}
 use native.Mathlib.Omega.{arith}
 use lib.Dec.{lit<}
-use lib.ListN.{length, getD, take, drop}
+use lib.ListN.{length, getD, take, drop, replicate}
 use lib.Seq.{getD-drop}
 use borrow.Author.Tests.{eqb-true, eq-eqb}
-use Rattle.base.specs.Bytes.{Bytes, AllBytes, sameBytes, joined}
+use Rattle.base.specs.Bytes.{Bytes, AllBytes, sameBytes, allZero, joined}
 use Rattle.base.proofs.Tests.{true-not-false, not-true-false, and-left, and-right}
 
 pub same-equal : (a b : Bytes) → sameBytes a b ≡ true → a ≡ b
@@ -31,6 +32,32 @@ other-same a b n = not-true-false (sameBytes a b) (λ e. n (same-equal a b e))
 
 pub same-other : (a b : Bytes) → sameBytes a b ≡ false → a ≡ b → ⊥
 same-other a b n e = true-not-false (equal-same a b e) n
+
+-- ---- zeros
+
+pub zero-at : (b : Bytes) → allZero b ≡ true → (i : ℕ) → getD b i 0 ≡ 0
+unfolding allZero
+zero-at [] e i = refl
+zero-at (x ∷ b) e zero = eqb-true x 0 (search and-left)
+zero-at (x ∷ b) e (suc i) = zero-at b (search and-right) i
+
+pub all-zero : (b : Bytes) → ((i : ℕ) → i < length b → getD b i 0 ≡ 0) → allZero b ≡ true
+unfolding allZero
+all-zero [] z = refl
+all-zero (x ∷ b) z = rw (eq-eqb x 0 (z 0 (omega arith)), all-zero b (λ i h. z (suc i) (suc-le-suc h)))
+
+pub not-all-zero : (b : Bytes) (i : ℕ) → getD b i 0 ≢ 0 → allZero b ≡ false
+not-all-zero b i n = not-true-false (allZero b) (λ e. n (zero-at b e i))
+
+pub zeros-replicate : (b : Bytes) → allZero b ≡ true → b ≡ replicate (length b) 0
+unfolding allZero
+zeros-replicate [] e = refl
+zeros-replicate (x ∷ b) e = ap₂ _∷_ (eqb-true x 0 (search and-left)) (zeros-replicate b (search and-right))
+
+pub replicate-zeros : (n : ℕ) → allZero (replicate n 0) ≡ true
+unfolding allZero
+replicate-zeros zero = refl
+replicate-zeros (suc n) = replicate-zeros n
 
 -- ---- bytes below 256
 

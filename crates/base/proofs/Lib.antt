@@ -3,7 +3,10 @@ pub mod Tests
 pub mod Search
 pub mod Count
 pub mod Mask
+pub mod Sets
+pub mod List
 pub mod Bytes
 pub mod Parts
 pub mod Splice
 pub mod Number
+pub mod Word

@@ -1,14 +1,14 @@
 -- Laws of the first number below a bound that passes a test: the turns of the loop that looks for it, and what it is. Assumes nothing.
-use mathlib.Core.Path.{_≡_, refl, sym}
-use mathlib.Core.Bool.{Bool, true, false, cond}
+use mathlib.Core.Path.{_≡_, refl, sym, ap}
+use mathlib.Core.Bool.{Bool, true, false, not, cond}
 use mathlib.Core.Logic.{inl, inr}
 use Prim.Native.Nat.{ℕ, zero, suc, _+_, _≤_, _<_}
 use native.Mathlib.Nat.{eq-or-lt-of-le, le-of-suc-le-suc}
 use native.Mathlib.Numerals.{add-one}
 use native.Mathlib.Omega.{arith}
 use lib.Dec.{ltb}
-use borrow.Author.Tests.{lt-ltb, le-ltb, ltb-true, ltb-false}
-use Rattle.base.specs.Search.{firstBelow, anyBelow}
+use borrow.Author.Tests.{lt-ltb, le-ltb, ltb-true, ltb-false, not-true, not-false}
+use Rattle.base.specs.Search.{firstBelow, anyBelow, allBelow}
 use Rattle.base.proofs.Tests.{by-test, true-not-false, not-true-false}
 
 module _ (f : ℕ → Bool) where
@@ -75,8 +75,30 @@ module _ (f : ℕ → Bool) where
   pub any-true : (k j : ℕ) → j < k → f j ≡ true → anyBelow f k ≡ true
   any-true k j h y = by-test (anyBelow f k) (λ e. e) (λ e. true-not-false y (any-false-at k e j h))
 
+-- all pass where each does, and the other way round
+pub all-true : (f : ℕ → Bool) (k : ℕ) → ((j : ℕ) → j < k → f j ≡ true) → allBelow f k ≡ true
+unfolding allBelow
+all-true f k y = ap not (any-false (λ i. not (f i)) k (λ j h. ap not (y j h)))
+
+pub all-true-at : (f : ℕ → Bool) (k : ℕ) → allBelow f k ≡ true → (j : ℕ) → j < k → f j ≡ true
+unfolding allBelow
+all-true-at f k e j h = not-false _ (any-false-at (λ i. not (f i)) k (not-true _ e) j h)
+
+-- one that fails is enough
+pub all-false : (f : ℕ → Bool) (k j : ℕ) → j < k → f j ≡ false → allBelow f k ≡ false
+unfolding allBelow
+all-false f k j h n = ap not (any-true (λ i. not (f i)) k j h (ap not n))
+
 -- two tests that agree below k have one first
 pub first-same : (f g : ℕ → Bool) (k : ℕ) → ((j : ℕ) → j < k → f j ≡ g j) → firstBelow f k ≡ firstBelow g k
 unfolding firstBelow
 first-same f g zero h = refl
 first-same f g (suc k) h = rw (first-same f g k (λ j l. h j (omega arith)), h k (omega arith))
+
+pub any-same : (f g : ℕ → Bool) (k : ℕ) → ((j : ℕ) → j < k → f j ≡ g j) → anyBelow f k ≡ anyBelow g k
+unfolding anyBelow
+any-same f g k h = ap (λ (n : ℕ). ltb n k) (first-same f g k h)
+
+pub all-same : (f g : ℕ → Bool) (k : ℕ) → ((j : ℕ) → j < k → f j ≡ g j) → allBelow f k ≡ allBelow g k
+unfolding allBelow
+all-same f g k h = ap not (any-same (λ i. not (f i)) (λ i. not (g i)) k (λ j l. ap not (h j l)))

@@ -19,6 +19,11 @@ sameBytes [] (y ∷ ys) = false
 sameBytes (x ∷ xs) [] = false
 sameBytes (x ∷ xs) (y ∷ ys) = eqb x y && sameBytes xs ys
 
+-- whether every byte is 0
+unfoldable pub allZero : Bytes → Bool
+allZero [] = true
+allZero (x ∷ xs) = eqb x 0 && allZero xs
+
 -- part i of a byte string that is cut in parts of so many bytes
 abbrev pub partAt : ℕ → Bytes → ℕ → Bytes
 partAt size b i = take size (drop (size * i) b)

@@ -2,5 +2,7 @@
 pub mod Search
 pub mod Count
 pub mod Mask
+pub mod List
 pub mod Bytes
 pub mod Number
+pub mod Word

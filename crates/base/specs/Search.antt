@@ -1,5 +1,5 @@
 -- The first number below a bound that passes a test: every 'index of the first such', 'lowest such place' and 'all different'. Assumes nothing.
-use mathlib.Core.Bool.{Bool, cond}
+use mathlib.Core.Bool.{Bool, not, cond}
 use Prim.Native.Nat.{ℕ, zero, suc}
 use lib.Dec.{ltb}
 
@@ -11,3 +11,7 @@ firstBelow test (suc k) = cond (ltb (firstBelow test k) k) (firstBelow test k) (
 -- whether some number below k passes the test
 unfoldable pub anyBelow : (ℕ → Bool) → ℕ → Bool
 anyBelow test k = ltb (firstBelow test k) k
+
+-- whether all numbers below k do
+unfoldable pub allBelow : (ℕ → Bool) → ℕ → Bool
+allBelow test k = not (anyBelow (λ i. not (test i)) k)

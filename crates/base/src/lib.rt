@@ -5,8 +5,9 @@ ghost use mathlib.Core.Path.{_≡_};
 ghost use Prim.Native.Nat.{_+_, _≤_, _<_};
 ghost use lib.ListN.{length};
 ghost use Rattle.base.specs.Mask.{inMask};
-ghost use Rattle.base.specs.Bytes.{sameBytes, splice};
+ghost use Rattle.base.specs.Bytes.{sameBytes, allZero, splice};
 ghost use Rattle.base.specs.Number.{number};
+ghost use Rattle.base.specs.Word.{wordSize, word, wordBytes};
 
 // A byte as a count or an index.
 pub fn wide(x: u8) -> usize
@@ -45,6 +46,57 @@ pub fn same(a: &[u8], b: &[u8]) -> bool
         i += 1;
     }
     true
+}
+
+// Whether every byte is 0.
+pub fn all_zero(bytes: &[u8]) -> bool
+    ensures { λ r. ⌜ r ≡ allZero (now (bytes .entry)) ⌝ }
+{
+    let mut i = 0;
+    while i < bytes.len() {
+        if bytes[i] != 0 {
+            return false;
+        }
+        i += 1;
+    }
+    true
+}
+
+// The number of at most eight bytes, the low byte first.
+pub fn word_of(bytes: &[u8]) -> u64
+    requires { ⌜ length (now bytes) ≤ wordSize ⌝ }
+    ensures { λ r. ⌜ r ≡ word (now (bytes .entry)) ⌝ }
+{
+    let mut x: u64 = 0;
+    let mut i = bytes.len();
+    while 0 < i {
+        i -= 1;
+        x = x * 256 + (bytes[i] as u64);
+    }
+    x
+}
+
+// The eight bytes of a number, the low byte first.
+pub fn word_bytes(x: u64) -> [u8; 8]
+    ensures { λ r. ⌜ r ≡ wordBytes wordSize x ⌝ }
+{
+    let x1 = x / 256;
+    let x2 = x1 / 256;
+    let x3 = x2 / 256;
+    let x4 = x3 / 256;
+    let x5 = x4 / 256;
+    let x6 = x5 / 256;
+    let x7 = x6 / 256;
+    [
+        (x % 256) as u8,
+        (x1 % 256) as u8,
+        (x2 % 256) as u8,
+        (x3 % 256) as u8,
+        (x4 % 256) as u8,
+        (x5 % 256) as u8,
+        (x6 % 256) as u8,
+        (x7 % 256) as u8,
+    ]
 }
 
 // Puts the part into the bytes at index `at`; all others stay.

@@ -20,7 +20,9 @@ pub const MAX_REFERENCES: usize = 16;
 
 pub const MAX_REQUESTS: usize = 8;
 
-pub const MAX_SLOT: u8 = 7;
+pub const SLOTS: usize = 8;
+
+pub const MAX_SLOT: u8 = (SLOTS - 1) as u8;
 
 pub const MAX_REQUEST_LIST_SIZE: usize = REQUEST_SIZE * MAX_REQUESTS;
 
@@ -82,7 +84,7 @@ pub fn answer_of(r: Reading) -> Answer
 }
 
 // Check 3.
-fn well_shaped(block: &[u8]) -> bool
+pub fn well_shaped(block: &[u8]) -> bool
     ensures { λ r. ⌜ r ≡ wellShaped (now (block .entry)) ⌝ }
 {
     if block.len() < HEADER_SIZE {

@@ -1,0 +1,9 @@
+-- The values of a function at the numbers below a bound, in a list. Assumes nothing.
+use mathlib.Core.List.{List, [], _∷_}
+use Prim.Native.Nat.{ℕ, zero, suc}
+
+module _ {A : Type 0} where
+  -- f 0, f 1, .. up to f (k - 1)
+  unfoldable pub listBelow : (ℕ → A) → ℕ → List A
+  listBelow f zero = []
+  listBelow f (suc k) = f 0 ∷ listBelow (λ i. f (suc i)) k

@@ -1,0 +1,18 @@
+-- Numbers of any count of bytes, the low byte first. Assumes nothing.
+use mathlib.Core.List.{[], _∷_}
+use Prim.Native.Nat.{ℕ, zero, suc, _+_, _*_, _/_, _%_}
+use Rattle.base.specs.Bytes.{Bytes}
+
+-- the bytes of a 64-bit number
+abbrev pub wordSize : ℕ
+wordSize = 8
+
+-- the number of the bytes
+unfoldable pub word : Bytes → ℕ
+word [] = 0
+word (x ∷ b) = x + 256 * word b
+
+-- the k bytes of a number
+unfoldable pub wordBytes : ℕ → ℕ → Bytes
+wordBytes zero x = []
+wordBytes (suc k) x = x % 256 ∷ wordBytes k (x / 256)

@@ -1,0 +1,2 @@
+-- All that proofs use of the setup.
+pub mod Thresholds

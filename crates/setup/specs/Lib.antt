@@ -1,0 +1,2 @@
+-- Document 01, "Setup and digest".
+pub mod Setup

@@ -1,0 +1,44 @@
+-- Document 01, "Setup and digest", and the thresholds of "One slot's process". Each number stands behind its own name; proofs use of them
+-- only the laws in proofs/Thresholds.antt.
+use mathlib.Core.Bool.{Bool, _&&_, _||_}
+use mathlib.Core.List.{List}
+use Prim.Native.Nat.{ℕ, _+_, _-_, _*_, _/_}
+use lib.Dec.{eqb, ltb}
+use lib.ListN.{length, getD}
+use Rattle.base.specs.Search.{allBelow}
+use Rattle.block.specs.Limits.{slotCount}
+
+-- a site count n and eight owners, one for each slot
+pub record Setup : Type 0 where
+  pub sites : ℕ
+  pub owners : List ℕ
+
+abbrev pub ownerOf : Setup → ℕ → ℕ
+ownerOf s slot = getD (s .owners) slot 0
+
+-- n is 1, 4, 7, 10, 13 or 16
+unfoldable pub lawfulSites : ℕ → Bool
+lawfulSites n = eqb n 1 || (eqb n 4 || (eqb n 7 || (eqb n 10 || (eqb n 13 || eqb n 16))))
+
+-- an owner is below n
+unfoldable pub ownersBelow : List ℕ → ℕ → Bool
+ownersBelow owners n = allBelow (λ slot. ltb (getD owners slot 0) n) (length owners)
+
+unfoldable pub lawful : Setup → Bool
+lawful s = lawfulSites (s .sites) && (eqb (length (s .owners)) slotCount && ownersBelow (s .owners) (s .sites))
+
+-- f, where n = 3f + 1
+unfoldable pub faults : ℕ → ℕ
+faults n = (n - 1) / 3
+
+-- ECHO: at least 2f + 1 supporters, and READY is sent
+unfoldable pub echoQuorum : ℕ → ℕ
+echoQuorum n = 2 * faults n + 1
+
+-- READY: at least f + 1 supporters, and READY is sent
+unfoldable pub readyAmplification : ℕ → ℕ
+readyAmplification n = faults n + 1
+
+-- READY: at least 2f + 1 supporters, and the number is delivered
+unfoldable pub readyQuorum : ℕ → ℕ
+readyQuorum n = 2 * faults n + 1

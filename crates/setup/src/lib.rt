@@ -1,0 +1,73 @@
+// A campaign's setup: how many sites there are and who owns each slot, and the numbers that follow from it: how many sites may fork, and
+// how many supporters a message needs. Promises: each function is its definition in specs/Setup.antt, for all numbers, lawful or not; the
+// laws that the theory uses of the thresholds stand in proofs/Thresholds.antt. Assumes nothing.
+ghost use mathlib.Core.Path.{_≡_};
+ghost use Rattle.setup.specs.Setup.{lawfulSites, ownersBelow, lawful, faults, echoQuorum, readyAmplification, readyQuorum};
+
+// Whether there may be so many sites.
+fn lawful_sites(sites: u8) -> bool
+    ensures { λ r. ⌜ r ≡ lawfulSites sites ⌝ }
+{
+    match sites {
+        1 | 4 | 7 | 10 | 13 | 16 => true,
+        _ => false,
+    }
+}
+
+// Whether every owner is a site.
+fn owners_below(owners: &[u8], sites: u8) -> bool
+    ensures { λ r. ⌜ r ≡ ownersBelow (now (owners .entry)) sites ⌝ }
+{
+    let mut i = 0;
+    while i < owners.len() {
+        if sites <= owners[i] {
+            return false;
+        }
+        i += 1;
+    }
+    true
+}
+
+// Whether a campaign may have this setup.
+pub fn lawful(sites: u8, owners: &[u8]) -> bool
+    ensures { λ r. ⌜ r ≡ lawful (record { sites = sites; owners = now (owners .entry) }) ⌝ }
+{
+    if !lawful_sites(sites) {
+        return false;
+    }
+    if owners.len() != block::SLOTS {
+        return false;
+    }
+    owners_below(owners, sites)
+}
+
+// f: how many sites may fork.
+pub fn faults(sites: u8) -> u32
+    ensures { λ r. ⌜ r ≡ faults sites ⌝ }
+{
+    if sites == 0 {
+        return 0;
+    }
+    ((sites - 1) / 3) as u32
+}
+
+// How many supporters of an ECHO make a site send READY.
+pub fn echo_quorum(sites: u8) -> u32
+    ensures { λ r. ⌜ r ≡ echoQuorum sites ⌝ }
+{
+    2 * faults(sites) + 1
+}
+
+// How many supporters of a READY make a site send it too.
+pub fn ready_amplification(sites: u8) -> u32
+    ensures { λ r. ⌜ r ≡ readyAmplification sites ⌝ }
+{
+    faults(sites) + 1
+}
+
+// How many supporters of a READY make a site deliver.
+pub fn ready_quorum(sites: u8) -> u32
+    ensures { λ r. ⌜ r ≡ readyQuorum sites ⌝ }
+{
+    2 * faults(sites) + 1
+}
