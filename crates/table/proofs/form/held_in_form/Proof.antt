@@ -1,0 +1,46 @@
+-- `held_in_form` meets its contract: one test after the other. Assumes nothing.
+use mathlib.Core.Path.{_≡_, sym, _∙_}
+use mathlib.Core.Bool.{true}
+use lib.Dec.{leb}
+use borrow.Author.Needs.{needs}
+use borrow.Author.Tests.{le-leb, lt-leb, not-true, not-false}
+use Rattle.setup.specs.Setup.{lawful}
+use Rattle.table.specs.View.{maxPlaces}
+use Rattle.table.specs.Layout.{setupOf, countOf}
+use Rattle.table.specs.Rules.{heldInForm}
+use Rattle.table.proofs.form.held_in_form.Statement.{statement}
+use Rattle.table.proofs.form.held_in_form.Tie as tie
+
+setup : (c : tie.Else1) → lawful (setupOf (c .before .before .before .before .before .args .table .now)) ≡ true
+setup c = sym (c .before .lawful .ensures) ∙ not-false _ (c .if1 .left)
+
+returns : tie.Need-returns
+unfolding heldInForm
+returns c = rw (sym (c .before .lawful .ensures) ∙ not-true _ (c .if1 .taken))
+
+returns-2 : tie.Need-returns-2
+unfolding heldInForm
+returns-2 c = rw (setup (c .before .before), ← c .before .count-of .ensures, lt-leb _ maxPlaces (c .if2 .taken))
+
+returns-3 : tie.Need-returns-3
+unfolding heldInForm
+returns-3 c =
+    let k = c .before .before in
+    let t = k .before .before .before .before .before .before .args .table .now in
+    let few : leb (countOf t) maxPlaces ≡ true = rw (k .count-of .ensures) at (le-leb (k .count-of .result) maxPlaces (c .before .if2 .left)) in
+    rw (setup (k .before), few) (rw (k .count-of .ensures) at (c .rows-in-form .ensures))
+
+pub held-in-form-spec : {M : Type 1} → statement M
+held-in-form-spec =
+    tie.close
+    (tie.spec
+    (λ c. search needs)
+    (λ c. search needs)
+    (λ c. search needs)
+    (λ c. search needs)
+    (λ c κs. search needs)
+    returns
+    (λ c κs. search needs)
+    returns-2
+    (λ c κs. search needs)
+    returns-3)

@@ -1,0 +1,22 @@
+-- `refers_uninterpreted` meets its contract: one test after the other. Assumes nothing.
+use mathlib.Core.Path.{_≡_, sym, _∙_}
+use mathlib.Core.Bool.{true}
+use borrow.Author.Needs.{needs}
+use borrow.Author.Tests.{not-true, not-false}
+use Rattle.base.specs.Mask.{inMask}
+use Rattle.table.proofs.rules.refers_uninterpreted.Statement.{statement}
+use Rattle.table.proofs.rules.refers_uninterpreted.Tie as tie
+
+returns : tie.Need-returns
+returns c = rw (sym (c .before .in-mask .ensures) ∙ not-true _ (c .if1 .taken))
+
+returns-2 : tie.Need-returns-2
+returns-2 c = rw (sym (c .before .before .in-mask .ensures) ∙ not-false _ (c .before .if1 .left), ← c .mark-at .ensures)
+
+pub refers-uninterpreted-spec : {M : Type 1} → statement M
+refers-uninterpreted-spec =
+    tie.close (tie.spec
+    (λ c κs. search needs)
+    returns
+    (λ c κs. search needs)
+    returns-2)

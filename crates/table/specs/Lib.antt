@@ -1,0 +1,8 @@
+-- Document 01, "The table". Nothing in Steps need be believed.
+pub mod View
+pub mod Layout
+pub mod Rules
+pub mod Form
+pub mod Fresh
+pub mod Checks
+pub mod Steps

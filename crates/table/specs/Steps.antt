@@ -1,0 +1,32 @@
+-- What the contracts of inner functions cite: what an entry point has tested. Nothing here need be believed.
+use mathlib.Core.Path.{_≡_}
+use mathlib.Core.Bool.{Bool, not, _&&_}
+use mathlib.Core.List.{[]}
+use Prim.Native.Nat.{ℕ, _≤_, _<_}
+use lib.Dec.{eqb}
+use lib.ListN.{length}
+use Rattle.base.specs.Bytes.{Bytes}
+use Rattle.base.specs.Search.{anyBelow}
+use Rattle.base.specs.Mask.{inMask}
+use Rattle.table.specs.View.{maxPlaces, Row}
+use Rattle.table.specs.Layout.{tableSize, markAt, viewOf}
+use Rattle.table.specs.Rules.{refersUninterpreted}
+
+-- a table of the right length, and a place of it
+pub record Place (t : Bytes) (i : ℕ) : Type 0 where
+  pub size : length t ≡ tableSize
+  pub place : i < maxPlaces
+
+-- a table of the right length, and a bound up to which places are looked at
+pub record Places (t : Bytes) (k : ℕ) : Type 0 where
+  pub size : length t ≡ tableSize
+  pub bound : k ≤ maxPlaces
+
+-- a row as far as the rules on references read it
+abbrev pub rowOf : ℕ → ℕ → ℕ → Row
+rowOf site sequence references =
+    record { digest = []; site = site; sequence = sequence; refersTo = inMask references; request = λ slot. 0; mark = 0 }
+
+-- the rule on the references of an interpreted place
+abbrev pub marksClosed : Bytes → ℕ → ℕ → Bool
+marksClosed t i references = not (eqb (markAt t i) 1 && anyBelow (refersUninterpreted (viewOf t) (rowOf 0 0 references)) i)

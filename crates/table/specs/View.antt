@@ -1,0 +1,41 @@
+-- What document 01's rules read of the blocks that are held. A table's bytes have a view, and so have a ledger's blocks: the rules are
+-- stated once, over it.
+use mathlib.Core.Path.{_≡_}
+use mathlib.Core.Bool.{Bool}
+use Prim.Native.Nat.{ℕ, _<_}
+use lib.Dec.{eqb}
+use Rattle.base.specs.Bytes.{Bytes}
+use Rattle.block.specs.Limits.{slotCount}
+
+-- "a count up to 64"
+abbrev pub maxPlaces : ℕ
+maxPlaces = 64
+
+-- what is held of one block
+pub record Row : Type 0 where
+  pub digest : Bytes
+  pub site : ℕ
+  pub sequence : ℕ
+  -- the set of places referred to
+  pub refersTo : ℕ → Bool
+  -- the counted request of each slot, 0 if none
+  pub request : ℕ → ℕ
+  -- 1 if it is interpreted, 0 if not
+  pub mark : ℕ
+
+abbrev pub interpreted : Row → Bool
+interpreted r = eqb (r .mark) 1
+
+-- how many blocks are held, and the row of each place
+pub record View : Type 0 where
+  pub held : ℕ
+  pub row : ℕ → Row
+
+-- two rows show the same
+pub record SameRow (r q : Row) : Type 0 where
+  pub digest : r .digest ≡ q .digest
+  pub site : r .site ≡ q .site
+  pub sequence : r .sequence ≡ q .sequence
+  pub refersTo : (j : ℕ) → j < maxPlaces → r .refersTo j ≡ q .refersTo j
+  pub request : (slot : ℕ) → slot < slotCount → r .request slot ≡ q .request slot
+  pub mark : r .mark ≡ q .mark

@@ -1,0 +1,78 @@
+// Whether what a table holds is in form.
+use crate::rows;
+use crate::rules;
+ghost use mathlib.Core.Path.{_≡_};
+ghost use lib.ListN.{length};
+ghost use Rattle.base.specs.Search.{allBelow};
+ghost use Rattle.table.specs.Layout.{tableSize, setupOf, viewOf};
+ghost use Rattle.table.specs.Rules.{rowInForm, heldInForm};
+ghost use Rattle.table.specs.Steps.{Place, Places, marksClosed};
+
+// Whether all references of an interpreted place are interpreted.
+fn marks_closed(table: &[u8], i: usize, references: u64) -> bool
+    requires { ⌜ Place (now table) i ⌝ }
+    ensures { λ r. ⌜ r ≡ marksClosed (now (table .entry)) i references ⌝ }
+{
+    if rows::mark_at(table, i) != 1 {
+        return true;
+    }
+    i <= rules::first_uninterpreted(table, i, references)
+}
+
+// Whether the row of place i is in form.
+fn row_in_form(table: &[u8], i: usize) -> bool
+    requires { ⌜ Place (now table) i ⌝ }
+    ensures { λ r. ⌜ r ≡ rowInForm (setupOf (now (table .entry))) (viewOf (now (table .entry))) i ⌝ }
+{
+    let site = rows::site_at(table, i);
+    if table[0] <= site {
+        return false;
+    }
+    if 1 < rows::mark_at(table, i) {
+        return false;
+    }
+    let references = rows::references_at(table, i);
+    if (references >> i) != 0 {
+        return false;
+    }
+    if (block::MAX_REFERENCES as u32) < u64::count_ones(references) {
+        return false;
+    }
+    if rules::place_of(table, i, rows::digest_at(table, i)) < i {
+        return false;
+    }
+    if !marks_closed(table, i, references) {
+        return false;
+    }
+    rules::parent_rule(table, i, references, site, rows::sequence_at(table, i))
+}
+
+// Whether every row below k is.
+fn rows_in_form(table: &[u8], k: usize) -> bool
+    requires { ⌜ Places (now table) k ⌝ }
+    ensures { λ r. ⌜ r ≡ allBelow (rowInForm (setupOf (now (table .entry))) (viewOf (now (table .entry)))) k ⌝ }
+{
+    let mut i = 0;
+    while i < k {
+        if !row_in_form(table, i) {
+            return false;
+        }
+        i += 1;
+    }
+    true
+}
+
+// Whether the setup is lawful, the count up to 64, and every row below it in form.
+pub fn held_in_form(table: &[u8]) -> bool
+    requires { ⌜ length (now table) ≡ tableSize ⌝ }
+    ensures { λ r. ⌜ r ≡ heldInForm (setupOf (now (table .entry))) (viewOf (now (table .entry))) ⌝ }
+{
+    if !setup::lawful(table[0], &table[crate::OWNERS_OFFSET..crate::COUNT_OFFSET]) {
+        return false;
+    }
+    let k = rows::count_of(table);
+    if crate::MAX_PLACES < k {
+        return false;
+    }
+    rows_in_form(table, k)
+}

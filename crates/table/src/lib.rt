@@ -1,0 +1,68 @@
+// A site's table: the setup and what is held of each block, as bytes that the caller lends. Promises: a lent buffer of any length and
+// content is judged as specs/Form.antt says, a fresh table is the layout of its setup, and a table in form is the layout of its own
+// contents (proofs/Laid.antt). Assumes nothing of the bytes.
+pub mod rows;
+pub mod rules;
+mod form;
+
+use block::REFERENCE_SIZE;
+use block::SLOTS;
+ghost use mathlib.Core.Path.{_≡_};
+ghost use Rattle.table.specs.Form.{inForm};
+ghost use Rattle.table.specs.Fresh.{freshTable};
+
+pub const MAX_PLACES: usize = 64;
+
+// Where each field stands: of the table, then of a row, which begins with the digest.
+pub const OWNERS_OFFSET: usize = 1;
+
+pub const COUNT_OFFSET: usize = OWNERS_OFFSET + SLOTS;
+
+pub const ROWS_OFFSET: usize = COUNT_OFFSET + 1;
+
+pub const SITE_OFFSET: usize = REFERENCE_SIZE;
+
+pub const SEQUENCE_OFFSET: usize = SITE_OFFSET + 1;
+
+pub const REFERENCES_OFFSET: usize = SEQUENCE_OFFSET + 2;
+
+pub const REQUESTS_OFFSET: usize = REFERENCES_OFFSET + 8;
+
+pub const MARK_OFFSET: usize = REQUESTS_OFFSET + 2 * SLOTS;
+
+pub const ROW_SIZE: usize = MARK_OFFSET + 1;
+
+pub const TABLE_SIZE: usize = ROWS_OFFSET + ROW_SIZE * MAX_PLACES;
+
+// A table handed back by value: refusal 0 and the empty table, or refusal 1 and all zeros.
+pub struct FreshTable {
+    pub refusal: u8,
+    pub table: [u8; TABLE_SIZE],
+}
+
+// The empty table of a setup.
+pub fn fresh(sites: u8, owners: [u8; SLOTS]) -> FreshTable
+    ensures { λ r. ⌜ r ≡ freshTable (record { sites = sites; owners = owners }) ⌝ }
+{
+    let mut table = [0u8; TABLE_SIZE];
+    if !setup::lawful(sites, &owners) {
+        return FreshTable { refusal: 1, table };
+    }
+    base::put(&mut table, 0, &[sites]);
+    base::put(&mut table, OWNERS_OFFSET, &owners);
+    FreshTable { refusal: 0, table }
+}
+
+// Whether a lent buffer is a table in form.
+pub fn in_form(table: &[u8]) -> bool
+    ensures { λ r. ⌜ r ≡ inForm (now (table .entry)) ⌝ }
+{
+    if table.len() != TABLE_SIZE {
+        return false;
+    }
+    if !form::held_in_form(table) {
+        return false;
+    }
+    let end = ROWS_OFFSET + ROW_SIZE * rows::count_of(table);
+    base::all_zero(&table[end..])
+}

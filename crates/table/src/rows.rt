@@ -1,0 +1,71 @@
+// What a table's bytes show: the count, and the fields of a row.
+use crate::COUNT_OFFSET;
+use crate::MARK_OFFSET;
+use crate::REFERENCES_OFFSET;
+use crate::REQUESTS_OFFSET;
+use crate::ROWS_OFFSET;
+use crate::ROW_SIZE;
+use crate::SEQUENCE_OFFSET;
+use crate::SITE_OFFSET;
+ghost use mathlib.Core.Path.{_≡_};
+ghost use Prim.Native.Nat.{_<_};
+ghost use lib.ListN.{length};
+ghost use Rattle.block.specs.Limits.{slotCount};
+ghost use Rattle.table.specs.Layout.{tableSize, countOf, digestAt, siteAt, sequenceAt, referencesAt, requestAt, markAt};
+ghost use Rattle.table.specs.Steps.{Place};
+
+pub fn count_of(table: &[u8]) -> usize
+    requires { ⌜ length (now table) ≡ tableSize ⌝ }
+    ensures { λ r. ⌜ r ≡ countOf (now (table .entry)) ⌝ }
+{
+    base::wide(table[COUNT_OFFSET])
+}
+
+pub fn digest_at(table: &[u8], i: usize) -> &[u8]
+    requires { ⌜ Place (now table) i ⌝ }
+    ensures { λ r. ⌜ now r ≡ digestAt (now (table .entry)) i ⌝ }
+{
+    let at = ROWS_OFFSET + ROW_SIZE * i;
+    &table[at..at + block::REFERENCE_SIZE]
+}
+
+pub fn site_at(table: &[u8], i: usize) -> u8
+    requires { ⌜ Place (now table) i ⌝ }
+    ensures { λ r. ⌜ r ≡ siteAt (now (table .entry)) i ⌝ }
+{
+    table[ROWS_OFFSET + ROW_SIZE * i + SITE_OFFSET]
+}
+
+pub fn sequence_at(table: &[u8], i: usize) -> u16
+    requires { ⌜ Place (now table) i ⌝ }
+    ensures { λ r. ⌜ r ≡ sequenceAt (now (table .entry)) i ⌝ }
+{
+    let at = ROWS_OFFSET + ROW_SIZE * i + SEQUENCE_OFFSET;
+    base::number_of(table[at], table[at + 1])
+}
+
+// The places referred to, as a mask.
+pub fn references_at(table: &[u8], i: usize) -> u64
+    requires { ⌜ Place (now table) i ⌝ }
+    ensures { λ r. ⌜ r ≡ referencesAt (now (table .entry)) i ⌝ }
+{
+    let at = ROWS_OFFSET + ROW_SIZE * i + REFERENCES_OFFSET;
+    base::word_of(&table[at..at + 8])
+}
+
+// The counted request of a slot, 0 if none.
+pub fn request_at(table: &[u8], i: usize, slot: usize) -> u16
+    requires { ⌜ Place (now table) i × (slot < slotCount) ⌝ }
+    ensures { λ r. ⌜ r ≡ requestAt (now (table .entry)) i slot ⌝ }
+{
+    let at = ROWS_OFFSET + ROW_SIZE * i + REQUESTS_OFFSET + 2 * slot;
+    base::number_of(table[at], table[at + 1])
+}
+
+// 1 if the block is interpreted.
+pub fn mark_at(table: &[u8], i: usize) -> u8
+    requires { ⌜ Place (now table) i ⌝ }
+    ensures { λ r. ⌜ r ≡ markAt (now (table .entry)) i ⌝ }
+{
+    table[ROWS_OFFSET + ROW_SIZE * i + MARK_OFFSET]
+}

@@ -1,0 +1,91 @@
+// The rules on what is held that several calls share.
+use crate::rows;
+ghost use mathlib.Core.Path.{_≡_};
+ghost use mathlib.Core.Bool.{_&&_};
+ghost use Rattle.base.specs.Search.{firstBelow};
+ghost use Rattle.base.specs.Mask.{inMask};
+ghost use Rattle.table.specs.Layout.{viewOf, rowAt};
+ghost use Rattle.table.specs.Rules.{placeOf, isParent, parents, parentRule, refersUninterpreted};
+ghost use Rattle.table.specs.Steps.{Place, Places, rowOf};
+
+// The place below k that holds the block of this digest, or k.
+pub fn place_of(table: &[u8], k: usize, digest: &[u8]) -> usize
+    requires { ⌜ Places (now table) k ⌝ }
+    ensures { λ r. ⌜ r ≡ placeOf (viewOf (now (table .entry))) k (now (digest .entry)) ⌝ }
+{
+    let mut j = 0;
+    while j < k {
+        if base::same(rows::digest_at(table, j), digest) {
+            return j;
+        }
+        j += 1;
+    }
+    k
+}
+
+// Whether the block at place j is among the references of a block and a parent for it.
+fn is_parent(table: &[u8], j: usize, references: u64, site: u8, sequence: u16) -> bool
+    requires { ⌜ Place (now table) j ⌝ }
+    ensures { λ r. ⌜ r ≡ (inMask references j && isParent (rowOf site sequence references) (rowAt (now (table .entry)) j)) ⌝ }
+{
+    if !base::in_mask(references, j) {
+        return false;
+    }
+    if rows::site_at(table, j) != site {
+        return false;
+    }
+    (rows::sequence_at(table, j) as u32) + 1 == (sequence as u32)
+}
+
+// How many of the places below k are.
+fn parents_among(table: &[u8], k: usize, references: u64, site: u8, sequence: u16) -> usize
+    requires { ⌜ Places (now table) k ⌝ }
+    ensures { λ r. ⌜ r ≡ parents (viewOf (now (table .entry))) k (rowOf site sequence references) ⌝ }
+{
+    let mut count: usize = 0;
+    let mut j = 0;
+    while j < k {
+        if is_parent(table, j, references, site, sequence) {
+            count += 1;
+        }
+        j += 1;
+    }
+    count
+}
+
+// The parent rule for a block with references among the places below k.
+pub fn parent_rule(table: &[u8], k: usize, references: u64, site: u8, sequence: u16) -> bool
+    requires { ⌜ Places (now table) k ⌝ }
+    ensures { λ r. ⌜ r ≡ parentRule (viewOf (now (table .entry))) k (rowOf site sequence references) ⌝ }
+{
+    if sequence == 0 {
+        return true;
+    }
+    parents_among(table, k, references, site, sequence) == 1
+}
+
+// Whether place j is among the references and not interpreted.
+fn refers_uninterpreted(table: &[u8], j: usize, references: u64) -> bool
+    requires { ⌜ Place (now table) j ⌝ }
+    ensures { λ r. ⌜ r ≡ refersUninterpreted (viewOf (now (table .entry))) (rowOf 0 0 references) j ⌝ }
+{
+    if !base::in_mask(references, j) {
+        return false;
+    }
+    rows::mark_at(table, j) != 1
+}
+
+// The lowest place below k that is, or k.
+pub fn first_uninterpreted(table: &[u8], k: usize, references: u64) -> usize
+    requires { ⌜ Places (now table) k ⌝ }
+    ensures { λ r. ⌜ r ≡ firstBelow (refersUninterpreted (viewOf (now (table .entry))) (rowOf 0 0 references)) k ⌝ }
+{
+    let mut j = 0;
+    while j < k {
+        if refers_uninterpreted(table, j, references) {
+            return j;
+        }
+        j += 1;
+    }
+    k
+}
