@@ -1,5 +1,5 @@
 -- Laws of byte strings: when two are equal, and that what is made of bytes is bytes. Assumes nothing.
-use mathlib.Core.Path.{_≡_, refl, ap₂}
+use mathlib.Core.Path.{_≡_, refl, ap₂, _∙_}
 use mathlib.Core.Bool.{true, false}
 use mathlib.Core.Logic.{_≢_}
 use mathlib.Core.List.{List, [], _∷_, _++_}
@@ -48,6 +48,9 @@ all-zero (x ∷ b) z = rw (eq-eqb x 0 (z 0 (omega arith)), all-zero b (λ i h. z
 
 pub not-all-zero : (b : Bytes) (i : ℕ) → getD b i 0 ≢ 0 → allZero b ≡ false
 not-all-zero b i n = not-true-false (allZero b) (λ e. n (zero-at b e i))
+
+pub zeros-drop : (n : ℕ) (b : Bytes) → allZero b ≡ true → allZero (drop n b) ≡ true
+zeros-drop n b e = all-zero (drop n b) (λ i h. getD-drop n b i 0 ∙ zero-at b e (n + i))
 
 pub zeros-replicate : (b : Bytes) → allZero b ≡ true → b ≡ replicate (length b) 0
 unfolding allZero

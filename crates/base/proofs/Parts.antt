@@ -1,12 +1,14 @@
 -- Laws of byte strings cut in parts of one size and joined again. Assumes nothing.
 use mathlib.Core.Path.{_≡_, refl, sym, ap, _∙_}
 use mathlib.Core.List.{List, [], _∷_, _++_, append-assoc}
-use Prim.Native.Nat.{ℕ, zero, suc, _+_, _*_, _-_, _<_, suc-le-suc}
+use Prim.Native.Nat.{ℕ, zero, suc, _+_, _*_, _-_, _≤_, _<_, suc-le-suc}
 use native.Mathlib.Nat.{mul-suc, mul-zero, add-comm, le-of-eq, le-of-suc-le-suc}
 use native.Mathlib.Omega.{arith}
-use lib.ListN.{length, getD, take, drop, length-append, length-drop}
-use lib.Seq.{take-at, drop-at, take-add, take-all, drop-drop}
+use lib.ListN.{length, getD, take, drop, length-append, length-drop, take-append-drop}
+use lib.Seq.{take-at, drop-at, take-add, take-all, take-take, drop-drop, ext-getD}
 use Rattle.base.specs.Bytes.{Bytes, partAt, parts, joined}
+use Rattle.base.specs.List.{listBelow}
+use Rattle.base.proofs.List.{length-list, list-at}
 
 -- the length of a part from a to a + s, as the code asks it
 pub part-size : (a s : ℕ) → (a + s) - a ≡ s
@@ -15,6 +17,17 @@ part-size a s = omega arith
 -- a part up to the end
 pub rest-part : (b : Bytes) (at : ℕ) → take (length b - at) (drop at b) ≡ drop at b
 rest-part b at = take-all (length b - at) (drop at b) (le-of-eq (length-drop at b))
+
+-- a part and what follows it
+pub part-and-rest : (b : Bytes) (at size : ℕ) → take size (drop at b) ++ drop (at + size) b ≡ drop at b
+part-and-rest b at size = ap (λ (x : Bytes). take size (drop at b) ++ x) (sym (drop-drop size at b)) ∙ take-append-drop size (drop at b)
+
+-- a part of a front that reaches far enough
+pub part-of-front : (n m k : ℕ) (b : Bytes) → n + m ≤ k → take m (drop n (take k b)) ≡ take m (drop n b)
+part-of-front zero m k b h = take-take m k b (omega arith)
+part-of-front (suc n) m zero b h = absurd (omega arith)
+part-of-front (suc n) m (suc k) [] h = refl
+part-of-front (suc n) m (suc k) (x ∷ b) h = part-of-front n m k b (omega arith)
 
 pub length-parts : (k size : ℕ) (b : Bytes) → length (parts k size b) ≡ k
 unfolding parts
@@ -30,6 +43,11 @@ parts-at zero size b i h = absurd (omega arith)
 parts-at (suc k) size b zero h = rw (mul-zero size)
 parts-at (suc k) size b (suc i) h =
     parts-at k size (drop size b) i (le-of-suc-le-suc h) ∙ ap (take size) (drop-drop (size * i) size b ∙ ap (λ (n : ℕ). drop n b) (size-more size i))
+
+pub parts-list : (k size : ℕ) (b : Bytes) → parts k size b ≡ listBelow (partAt size b) k
+parts-list k size b =
+    ext-getD [] (parts k size b) (listBelow (partAt size b) k) (length-parts k size b ∙ sym (length-list (partAt size b) k))
+    (λ i h. parts-at k size b i (omega (arith, length-parts k size b)) ∙ sym (list-at (partAt size b) k i [] (omega (arith, length-parts k size b))))
 
 -- parts joined are the bytes that were cut
 pub joined-parts : (k size : ℕ) (b : Bytes) → joined (parts k size b) ≡ take (size * k) b

@@ -1,13 +1,14 @@
--- Laws of bytes put into bytes: what stands up to the end of what was put, the length, each element afterwards, and two puts in a row.
--- Assumes nothing.
-use mathlib.Core.Path.{_≡_, sym, ap, ap₂, _∙_}
+-- Laws of bytes put into bytes: what stands up to the end of what was put, the length, each element and each part afterwards, and two
+-- puts in a row. Assumes nothing.
+use mathlib.Core.Path.{_≡_, refl, sym, ap, ap₂, _∙_}
 use mathlib.Core.List.{_++_, append-assoc, append-nil}
 use Prim.Native.Nat.{ℕ, _+_, _-_, _≤_, _<_}
 use native.Mathlib.Nat.{add-assoc, le-of-eq}
 use native.Mathlib.Omega.{arith}
 use lib.ListN.{length, getD, take, drop, length-append, length-drop, List·getD-append, drop-of-length-le}
-use lib.Seq.{sets, sets-eq, take-length, take-all, take-at, drop-at, drop-drop, getD-take, getD-drop, getD-append-add, length-take-le}
+use lib.Seq.{sets, sets-eq, take-length, take-all, take-at, drop-at, drop-drop, getD-take, getD-drop, getD-append-add, length-take-le, take-append-le, drop-append-le}
 use Rattle.base.specs.Bytes.{Bytes, splice}
+use Rattle.base.proofs.Parts.{part-of-front}
 
 -- what a callee that copies `part` to the front of `&mut b[at..]` leaves of the whole
 pub splice-of-copy : (b part ys : Bytes) (at : ℕ) → ys ≡ take (length part) part ++ drop (length part) (take (length b - at) (drop at b))
@@ -69,6 +70,20 @@ module _ (b : Bytes) (at : ℕ) (part : Bytes) (within : at ≤ length b) where
       ap (λ (n : ℕ). getD (splice b at part) n 0) e ∙ sym (getD-drop (at + length part + 0) (splice b at part) (i - (at + length part)) 0)
       ∙ ap (λ (l : Bytes). getD l (i - (at + length part)) 0) (drop-splice 0)
       ∙ getD-drop (at + length part + 0) b (i - (at + length part)) 0 ∙ ap (λ (n : ℕ). getD b n 0) (sym e)
+
+  -- a part before, and the part that was put
+  pub splice-part-low : (n m : ℕ) → n + m ≤ at → take m (drop n (splice b at part)) ≡ take m (drop n b)
+  unfolding splice
+  splice-part-low n m h =
+      ap (take m) (drop-append-le n (take at b) (part ++ drop (at + length part) b) (omega (arith, before)))
+      ∙ take-append-le m (drop n (take at b)) (part ++ drop (at + length part) b) (omega (arith, before, length-drop n (take at b)))
+      ∙ part-of-front n m at b h
+
+  pub splice-part-in : take (length part) (drop at (splice b at part)) ≡ part
+  unfolding splice
+  splice-part-in =
+      ap (take (length part)) (drop-at (take at b) (part ++ drop (at + length part) b) at before)
+      ∙ take-at part (drop (at + length part) b) (length part) refl
 
 pub length-splice : (b : Bytes) (at : ℕ) (part : Bytes) → at + length part ≤ length b → length (splice b at part) ≡ length b
 length-splice b at part fits =

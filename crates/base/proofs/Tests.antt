@@ -32,6 +32,11 @@ pub and-right : (a b : Bool) → (a && b) ≡ true → b ≡ true
 and-right true b e = e
 and-right false b e = true-not-false e refl
 
+-- one that fails where its first part holds
+pub and-not-right : (a b : Bool) → (a && b) ≡ false → a ≡ true → b ≡ false
+and-not-right true b e y = e
+and-not-right false b e y = true-not-false y refl
+
 pub or-cases : (a b : Bool) → (a || b) ≡ true → (a ≡ true) ⊎ (b ≡ true)
 or-cases true b e = inl refl
 or-cases false b e = inr e

@@ -5,4 +5,5 @@ pub mod Rules
 pub mod Form
 pub mod Fresh
 pub mod Checks
+pub mod Promises
 pub mod Steps

@@ -39,3 +39,7 @@ pub record SameRow (r q : Row) : Type 0 where
   pub refersTo : (j : ℕ) → j < maxPlaces → r .refersTo j ≡ q .refersTo j
   pub request : (slot : ℕ) → slot < slotCount → r .request slot ≡ q .request slot
   pub mark : r .mark ≡ q .mark
+
+-- two views agree on the places below k
+abbrev pub SameBelow : View → View → ℕ → Type 0
+SameBelow v w k = (i : ℕ) → i < k → SameRow (v .row i) (w .row i)

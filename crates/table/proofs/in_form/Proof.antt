@@ -1,17 +1,15 @@
 -- `in_form` meets its contract: one test after the other. Assumes nothing.
-use mathlib.Core.Path.{_≡_, sym, ap, _∙_}
+use mathlib.Core.Path.{_≡_, sym, _∙_}
 use mathlib.Core.Bool.{true}
 use Prim.Native.Nat.{_≤_}
 use borrow.Author.Needs.{needs}
-use borrow.Author.Tests.{eq-eqb, ne-eqb, leb-true, not-true, not-false}
-use Rattle.base.specs.Bytes.{Bytes, allZero}
-use Rattle.base.proofs.Tests.{and-left, and-right}
+use borrow.Author.Tests.{eq-eqb, ne-eqb, not-true, not-false}
 use Rattle.base.proofs.Parts.{rest-part}
-use Rattle.setup.specs.Setup.{Setup}
-use Rattle.table.specs.View.{maxPlaces, View}
+use Rattle.table.specs.View.{maxPlaces}
 use Rattle.table.specs.Layout.{rowStart, setupOf, countOf, viewOf}
 use Rattle.table.specs.Rules.{heldInForm}
 use Rattle.table.specs.Form.{inForm}
+use Rattle.table.proofs.Views.{held-of}
 use Rattle.table.proofs.in_form.Statement.{statement}
 use Rattle.table.proofs.in_form.Tie as tie
 
@@ -19,12 +17,8 @@ held : (c : tie.Else2) → let t = c .before .before .before .before .args .tabl
 held c = sym (c .before .held-in-form .ensures) ∙ not-false _ (c .if2 .left)
 
 -- so the rows end within the table
-fits : (s : Setup) (v : View) → heldInForm s v ≡ true → v .held ≤ maxPlaces
-unfolding heldInForm
-fits s v e = leb-true _ _ (search (and-left, and-right))
-
 counted : (c : tie.After-count-of) → c .count-of .result ≤ maxPlaces
-counted c = rw (← c .count-of .ensures) at (fits _ _ (held (c .before)))
+counted c = rw (← c .count-of .ensures) at (held-of _ _ (held (c .before)) .fits)
 
 returns : tie.Need-returns
 unfolding inForm

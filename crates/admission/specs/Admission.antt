@@ -1,0 +1,67 @@
+-- Document 01, "The table" and rows 2 to 11 of "What is turned down": what admission answers, and what it leaves. The checks are made over
+-- a view, so that a ledger makes the same ones; `digest` is SHA-256 in every contract.
+use mathlib.Core.Bool.{Bool, cond, not, _&&_}
+use mathlib.Core.List.{List, [], _∷_}
+use Prim.Native.Nat.{ℕ}
+use lib.Dec.{eqb, ltb}
+use Rattle.base.specs.Search.{firstBelow, anyBelow}
+use Rattle.base.specs.Bytes.{Bytes, sameBytes}
+use Rattle.block.specs.Layout.{siteOf, sequenceOf, referenceCount, referenceList, requestList, referenceAt, requestsIn, countedRequest}
+use Rattle.block.specs.Reading.{wellShaped, reading, answerOf}
+use Rattle.block.specs.declared.Answer.{Answer}
+use Rattle.setup.specs.Setup.{Setup}
+use Rattle.table.specs.View.{maxPlaces, Row, View}
+use Rattle.table.specs.Layout.{setupOf, countOf, viewOf, withRow}
+use Rattle.table.specs.Rules.{hasDigest, placeOf, parentRule}
+use Rattle.table.specs.Form.{inForm}
+use Rattle.table.specs.Checks.{Check, check, answerTo}
+
+-- the digest is among the block's references
+abbrev pub lists : Bytes → Bytes → Bool
+lists b d = anyBelow (λ i. sameBytes (referenceAt (referenceList b) i) d) (referenceCount b)
+
+-- reference i of the block is not held
+abbrev pub missing : View → Bytes → ℕ → Bool
+missing v b i = not (anyBelow (hasDigest v (referenceAt (referenceList b) i)) (v .held))
+
+module _ (digest : Bytes → Bytes) where
+  -- the row of a block at the next place, uninterpreted
+  abbrev pub rowFor : View → Bytes → Row
+  rowFor v b =
+      record {
+        digest = digest b;
+        site = siteOf b;
+        sequence = sequenceOf b;
+        -- the places held whose digests it lists
+        refersTo = λ j. ltb j (v .held) && lists b (v .row j .digest);
+        -- the first request of each slot
+        request = countedRequest (requestsIn (requestList b));
+        mark = 0;
+      }
+
+  -- 8: digest held, with its place; 9: reference not held, with the index of the first such; 10: parent rule broken; 11: 64 held
+  abbrev pub heldChecks : View → Bytes → List Check
+  heldChecks v b =
+      check 8 (not (anyBelow (hasDigest v (digest b)) (v .held))) (placeOf v (v .held) (digest b))
+      ∷ check 9 (not (anyBelow (missing v b) (referenceCount b))) (firstBelow (missing v b) (referenceCount b))
+      ∷ check 10 (parentRule v (v .held) (rowFor v b)) 0
+      ∷ check 11 (ltb (v .held) maxPlaces) 0
+      ∷ []
+
+  -- 2: table not in form; 3: no block; 4: site not below n; 5: link verdict not 1; then the reader's 6 and 7, and what is held
+  abbrev pub admissionChecks : Bool → Setup → View → Bytes → ℕ → List Check
+  admissionChecks formed s v b verdict =
+      check 2 formed 0
+      ∷ check 3 (wellShaped b) 0
+      ∷ check 4 (ltb (siteOf b) (s .sites)) 0
+      ∷ check 5 (eqb verdict 1) 0
+      ∷ check (answerOf (reading b) .refusal) (eqb (answerOf (reading b) .refusal) 0) (answerOf (reading b) .value)
+      ∷ heldChecks v b
+
+  -- a success returns the place
+  unfoldable pub admission : Bytes → Bytes → ℕ → Answer
+  admission t b verdict = answerTo (admissionChecks (inForm t) (setupOf t) (viewOf t) b verdict) (countOf t)
+
+  -- the block at the next place, or the table as it was
+  unfoldable pub admitted : Bytes → Bytes → ℕ → Bytes
+  admitted t b verdict = cond (eqb (admission t b verdict .refusal) 0) (withRow t (rowFor (viewOf t) b)) t

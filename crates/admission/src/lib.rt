@@ -1,0 +1,66 @@
+// Admission of a block to a site's table. Promises: `admit` answers and leaves what specs/Admission.antt says, for all bytes and numbers;
+// form is kept, and each of 8, 9, 10 and 11 comes under its cause and under no other (specs/Promises.antt). Assumes nothing.
+mod held;
+mod row;
+
+use block::Answer;
+use block::Reading;
+ghost use mathlib.Core.Path.{_≡_};
+ghost use Rattle.sha256.specs.Sha256.{sha256};
+ghost use Rattle.block.specs.Reading.{fieldsOf};
+ghost use Rattle.block.specs.Steps.{Shaped};
+ghost use Rattle.admission.specs.Admission.{admission, admitted};
+ghost use Rattle.admission.specs.Steps.{Sized, heldAnswer, entered};
+
+// Checks 8 to 11 of a block that the reader accepts, and the block put at the next place where they hold.
+fn enter(table: &mut [u8], block: &[u8], fields: block::Fields) -> Answer
+    requires { ⌜ Sized (now table) × Shaped (now block) × (fields ≡ fieldsOf (now block)) ⌝ }
+    ensures { λ r. ⌜ r ≡ heldAnswer (now (table .entry)) (now (block .entry)) ⌝ }
+    ensures { λ _. ⌜ now (table .exit) ≡ entered (now (table .entry)) (now (block .entry)) ⌝ }
+{
+    let middle = block::HEADER_SIZE + block::REFERENCE_SIZE * fields.references;
+    let digest = sha256::digest(block);
+    let references = held::places_listed(table, &block[block::HEADER_SIZE..middle]);
+    let answer = held::held_answer(table, block, &digest, references);
+    if answer.refusal != 0 {
+        return answer;
+    }
+    row::put_row(table, &digest, fields.site, fields.sequence, references, &block[middle..]);
+    answer
+}
+
+// Puts the block at the table's next place and answers with that place. Refuses in the order of document 01; a refusal changes nothing.
+pub fn admit(table: &mut [u8], block: &[u8], verdict: u8) -> Answer
+    ensures { λ r. ⌜ r ≡ admission sha256 (now (table .entry)) (now (block .entry)) verdict ⌝ }
+    ensures { λ _. ⌜ now (table .exit) ≡ admitted sha256 (now (table .entry)) (now (block .entry)) verdict ⌝ }
+{
+    if !table::in_form(table) {
+        return Answer {
+            refusal: 2,
+            value: 0,
+        };
+    }
+    if !block::well_shaped(block) {
+        return Answer {
+            refusal: 3,
+            value: 0,
+        };
+    }
+    if table[0] <= block[0] {
+        return Answer {
+            refusal: 4,
+            value: 0,
+        };
+    }
+    if verdict != 1 {
+        return Answer {
+            refusal: 5,
+            value: 0,
+        };
+    }
+    let reading = block::read_block(block);
+    let Reading::Block(fields) = reading else {
+        return block::answer_of(reading);
+    };
+    enter(table, block, fields)
+}

@@ -1,0 +1,8 @@
+-- The table's laws. Other crates' proofs cite them.
+pub mod Views
+pub mod Formed
+pub mod RowBytes
+pub mod Put
+pub mod Laid
+pub mod Empty
+pub mod Promises

@@ -1,0 +1,14 @@
+-- The table keeps its promises. Assumes nothing.
+use Rattle.table.specs.Promises.{Promises}
+use Rattle.table.proofs.Formed.{in-formed}
+use Rattle.table.proofs.Put.{grown}
+use Rattle.table.proofs.Laid.{laid}
+use Rattle.table.proofs.Empty.{empty-shows, empty-formed}
+
+pub promises : Promises
+promises =
+    record {
+      laid = laid;
+      empty = λ s law. record { formed = in-formed _ (empty-formed s law); setup = empty-shows s law .0; count = empty-shows s law .1 };
+      grown = grown;
+    }
