@@ -1,11 +1,16 @@
--- Laws of counts: the turns of the loop that counts, bounds, and sets that are large enough to meet. Assumes nothing.
-use mathlib.Core.Path.{_≡_, refl}
-use mathlib.Core.Bool.{Bool, true, false, _&&_, cond}
+-- Laws of counts: the turns of the loop that counts, bounds, sets that are large enough to meet, and that as many numbers as are sent to
+-- different numbers below p are at most p. Assumes nothing.
+use mathlib.Core.Path.{_≡_, refl, sym, _∙_}
+use mathlib.Core.Bool.{Bool, true, false, not, _&&_, cond}
+use mathlib.Core.Logic.{_≢_}
 use Prim.Native.Nat.{ℕ, zero, suc, _+_, _≤_, _<_}
 use native.Mathlib.Numerals.{add-one}
 use native.Mathlib.Omega.{arith}
+use native.Mathlib.Decide.{decLt}
+use lib.Dec.{eqb}
+use borrow.Author.Tests.{eqb-true, eqb-false, not-true, not-false}
 use Rattle.base.specs.Count.{countBelow}
-use Rattle.base.proofs.Tests.{true-not-false}
+use Rattle.base.proofs.Tests.{true-not-false, and-left, and-right, and-not-right}
 
 -- one turn of a loop that counts
 pub count-here : (f : ℕ → Bool) (k : ℕ) → f k ≡ true → countBelow f k + 1 ≡ countBelow f (k + 1)
@@ -78,3 +83,51 @@ count-never (suc k) = omega (arith, count-never k)
 
 pub count-some : (f : ℕ → Bool) (k : ℕ) → 1 ≤ countBelow f k → (p : ℕ) × (p < k) × (f p ≡ true)
 count-some f k h = let r = more-than f (λ p. false) k (omega (arith, count-never k)) in (r .0, r .1, r .2)
+
+-- ---- as many numbers as are sent to different numbers below p are at most p
+
+-- at most those pass f that pass g, where no number passes f and not g
+count-within : (f g : ℕ → Bool) (k : ℕ) → ((j : ℕ) → j < k → f j ≡ true → g j ≢ false) → countBelow f k ≤ countBelow g k
+count-within f g k n = elim (decLt (countBelow g k) (countBelow f k)) [
+  | yes h ↦ let r = more-than f g k h in absurd (n (r .0) (r .1) (r .2) (r .3))
+  | no h ↦ omega arith
+]
+
+-- and one more, where no two numbers do
+count-but-one : (f g : ℕ → Bool) (k : ℕ) → ((i j : ℕ) → i < j → j < k → f i ≡ true → g i ≡ false → f j ≡ true → g j ≢ false)
+    → countBelow f k ≤ suc (countBelow g k)
+unfolding countBelow
+count-but-one f g zero n = omega arith
+count-but-one f g (suc k) n = go (f k) (g k) refl refl (count-but-one f g k (λ i j h l. n i j h (omega arith)))
+  where
+    go : (a b : Bool) → f k ≡ a → g k ≡ b → countBelow f k ≤ suc (countBelow g k) → cond a 1 0 + countBelow f k ≤ suc (cond b 1 0 + countBelow g k)
+    go true false ea eb h = let w : countBelow f k ≤ countBelow g k = count-within f g k (λ i l y z. n i k l (omega arith) y z ea eb) in omega arith
+    go true true ea eb h = omega arith
+    go false true ea eb h = omega arith
+    go false false ea eb h = omega arith
+
+pub count-injective : (f : ℕ → Bool) (g : ℕ → ℕ) (k p : ℕ) → ((j : ℕ) → j < k → f j ≡ true → g j < p)
+    → ((i j : ℕ) → i < j → j < k → f i ≡ true → f j ≡ true → g i ≢ g j) → countBelow f k ≤ p
+count-injective f g k zero b d = elim (decLt 0 (countBelow f k)) [
+  | yes h ↦ let r = count-some f k h in absurd (omega (arith, b (r .0) (r .1) (r .2)))
+  | no h ↦ omega arith
+]
+count-injective f g k (suc p) b d =
+    let less : countBelow other k ≤ p = count-injective other g k p below (λ i j h l y z. d i j h l (passes i y) (passes j z)) in
+    let one : countBelow f k ≤ suc (countBelow other k) = count-but-one f other k (λ i j h l y u z w. d i j h l y z (last i y u ∙ sym (last j z w))) in
+    omega arith
+  where
+    -- those that are not sent to p
+    other : ℕ → Bool
+    other j = f j && not (eqb (g j) p)
+
+    passes : (j : ℕ) → other j ≡ true → f j ≡ true
+    passes j y = and-left (f j) (not (eqb (g j) p)) y
+
+    below : (j : ℕ) → j < k → other j ≡ true → g j < p
+    below j h y =
+        let n : g j ≢ p = eqb-false (g j) p (not-true _ (and-right (f j) (not (eqb (g j) p)) y)) in
+        omega (arith, b j h (passes j y))
+
+    last : (j : ℕ) → f j ≡ true → other j ≡ false → g j ≡ p
+    last j y n = eqb-true (g j) p (not-false _ (and-not-right (f j) (not (eqb (g j) p)) n y))

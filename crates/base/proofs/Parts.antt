@@ -1,6 +1,6 @@
 -- Laws of byte strings cut in parts of one size and joined again. Assumes nothing.
 use mathlib.Core.Path.{_≡_, refl, sym, ap, _∙_}
-use mathlib.Core.List.{List, [], _∷_, _++_, append-assoc}
+use mathlib.Core.List.{List, [], _∷_, _++_, append-assoc, append-nil}
 use Prim.Native.Nat.{ℕ, zero, suc, _+_, _*_, _-_, _≤_, _<_, suc-le-suc}
 use native.Mathlib.Nat.{mul-suc, mul-zero, add-comm, le-of-eq, le-of-suc-le-suc}
 use native.Mathlib.Omega.{arith}
@@ -8,7 +8,7 @@ use lib.ListN.{length, getD, take, drop, length-append, length-drop, take-append
 use lib.Seq.{take-at, drop-at, take-add, take-all, take-take, drop-drop, ext-getD}
 use Rattle.base.specs.Bytes.{Bytes, partAt, parts, joined}
 use Rattle.base.specs.List.{listBelow}
-use Rattle.base.proofs.List.{length-list, list-at}
+use Rattle.base.proofs.List.{length-list, list-at, list-more}
 
 -- the length of a part from a to a + s, as the code asks it
 pub part-size : (a s : ℕ) → (a + s) - a ≡ s
@@ -72,3 +72,18 @@ module _ (size : ℕ) where
   parts-joined (x ∷ xs) rest e =
       let l : length x ≡ size = e 0 (omega arith) in
       rw (append-assoc x (joined xs) rest, take-at x (joined xs ++ rest) size l, drop-at x (joined xs ++ rest) size l, parts-joined xs rest (λ i h. e (suc i) (suc-le-suc h)))
+
+  -- the values of a function at the numbers below k, joined
+  pub length-joined-list : (f : ℕ → Bytes) (k : ℕ) → ((i : ℕ) → length (f i) ≡ size) → length (joined (listBelow f k)) ≡ size * k
+  length-joined-list f k e =
+      length-joined (listBelow f k) (λ i h. ap length (list-at f k i [] (omega (arith, length-list f k))) ∙ e i)
+      ∙ ap (λ (n : ℕ). size * n) (length-list f k)
+
+-- one more joined at the end
+joined-last : (xs : List Bytes) (x : Bytes) → joined (xs ++ (x ∷ [])) ≡ joined xs ++ x
+unfolding joined
+joined-last [] x = append-nil x
+joined-last (y ∷ xs) x = ap (λ (z : Bytes). y ++ z) (joined-last xs x) ∙ sym (append-assoc y (joined xs) x)
+
+pub joined-list-more : (f : ℕ → Bytes) (k : ℕ) → joined (listBelow f (k + 1)) ≡ joined (listBelow f k) ++ f k
+joined-list-more f k = ap joined (list-more f k) ∙ joined-last (listBelow f k) (f k)

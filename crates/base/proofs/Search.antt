@@ -75,6 +75,14 @@ module _ (f : ℕ → Bool) where
   pub any-true : (k j : ℕ) → j < k → f j ≡ true → anyBelow f k ≡ true
   any-true k j h y = by-test (anyBelow f k) (λ e. e) (λ e. true-not-false y (any-false-at k e j h))
 
+  -- the first, where there is one
+  pub any-first : (k : ℕ) → anyBelow f k ≡ true → firstBelow f k < k
+  unfolding anyBelow
+  any-first k e = ltb-true (firstBelow f k) k e
+
+  pub any-true-at : (k : ℕ) → anyBelow f k ≡ true → (j : ℕ) × (j < k) × (f j ≡ true)
+  any-true-at k e = (firstBelow f k, any-first k e, first-passes k (any-first k e))
+
 -- all pass where each does, and the other way round
 pub all-true : (f : ℕ → Bool) (k : ℕ) → ((j : ℕ) → j < k → f j ≡ true) → allBelow f k ≡ true
 unfolding allBelow

@@ -1,11 +1,11 @@
 -- Laws of bytes put into bytes: what stands up to the end of what was put, the length, each element and each part afterwards, and two
 -- puts in a row. Assumes nothing.
 use mathlib.Core.Path.{_≡_, refl, sym, ap, ap₂, _∙_}
-use mathlib.Core.List.{_++_, append-assoc, append-nil}
+use mathlib.Core.List.{[], _++_, append-assoc, append-nil}
 use Prim.Native.Nat.{ℕ, _+_, _-_, _≤_, _<_}
-use native.Mathlib.Nat.{add-assoc, le-of-eq}
+use native.Mathlib.Nat.{add-assoc, add-zero, le-of-eq}
 use native.Mathlib.Omega.{arith}
-use lib.ListN.{length, getD, take, drop, length-append, length-drop, List·getD-append, drop-of-length-le}
+use lib.ListN.{length, getD, take, drop, length-append, length-drop, take-append-drop, List·getD-append, drop-of-length-le}
 use lib.Seq.{sets, sets-eq, take-length, take-all, take-at, drop-at, drop-drop, getD-take, getD-drop, getD-append-add, length-take-le, take-append-le, drop-append-le}
 use Rattle.base.specs.Bytes.{Bytes, splice}
 use Rattle.base.proofs.Parts.{part-of-front}
@@ -22,6 +22,11 @@ splice-of-copy b part ys at e =
 pub splice-of-stores : (b part : Bytes) (at : ℕ) → at + length part ≤ length b → sets b at part ≡ splice b at part
 unfolding splice
 splice-of-stores b part at h = sets-eq part b at h ∙ append-assoc (take at b) part (drop (at + length part) b)
+
+-- nothing put
+pub splice-nothing : (b : Bytes) (at : ℕ) → splice b at [] ≡ b
+unfolding splice
+splice-nothing b at = ap (λ (n : ℕ). take at b ++ drop n b) (add-zero at) ∙ take-append-drop at b
 
 module _ (b : Bytes) (at : ℕ) (part : Bytes) (within : at ≤ length b) where
   abbrev front : Bytes

@@ -1,6 +1,7 @@
 -- The table's laws. Other crates' proofs cite them.
 pub mod Views
 pub mod Formed
+pub mod Checks
 pub mod RowBytes
 pub mod Put
 pub mod Laid

@@ -1,52 +1,53 @@
+-- `places_listed` meets its contract. The loop's invariant: `mask` has those of the places passed. Assumes nothing.
+use mathlib.Core.Path.{_≡_, refl, sym, ap, _∙_}
+use mathlib.Core.Bool.{Bool}
+use mathlib.Core.Logic.{⊎-elim}
+use Prim.Native.Nat.{ℕ, _+_, _-_, _*_, _%_, _^_, _≤_}
+use native.Mathlib.Omega.{arith}
+use lib.Bits.{bitOr}
+use borrow.Author.Needs.{needs}
+use Rattle.base.specs.Mask.{maskBelow}
+use Rattle.base.specs.Bytes.{Bytes}
+use Rattle.base.proofs.Mask.{mask-put, mask-skip}
+use Rattle.table.specs.View.{maxPlaces}
+use Rattle.table.specs.Layout.{countOf, digestAt}
+use Rattle.admission.specs.Steps.{Sized, among, placesListed}
 use Rattle.admission.proofs.held.places_listed.Statement.{statement}
 use Rattle.admission.proofs.held.places_listed.Tie as tie
-use Rattle.admission.proofs.held.places_listed.Reads as reads
-use Rattle.admission.proofs.held.places_listed.Lts as lts
-use Rattle.admission.proofs.held.is_among.Reads as is-among-reads
-use Rattle.table.proofs.rows.count_of.Reads as count-of-reads
-use Rattle.table.proofs.rows.digest_at.Reads as digest-at-reads
 
 abbrev Inv-loop : tie.InvT-loop
-Inv-loop table list k mask₀ j₀ mask j = ?
+Inv-loop table list k mask₀ j₀ mask j = (j ≤ k) × (k ≡ countOf table) × Sized table × (mask ≡ placesListed table j list)
 
 abbrev μ-loop : tie.MeasureT-loop
-μ-loop table list k mask₀ j₀ mask j = ?
+μ-loop table list k mask₀ j₀ mask j = k - j
 
--- src/held.rt:24:9
-count-of-requires : tie.Need-count-of-requires Inv-loop μ-loop
-count-of-requires c κs = ?
-
--- src/held.rt:27:5
 loop-holds : tie.Need-loop-holds Inv-loop μ-loop
-loop-holds c = ?
+unfolding maskBelow
+loop-holds c = (omega arith, c .count-of .ensures, search needs, refl)
 
--- src/held.rt:28:27
-digest-at-requires : tie.Need-digest-at-requires Inv-loop μ-loop
-digest-at-requires c κs = ?
-
--- src/held.rt:28:12
-is-among-requires : tie.Need-is-among-requires Inv-loop μ-loop
-is-among-requires c κs = ?
-
--- src/held.rt:29:28
-shl-mask : tie.Need-shl-mask Inv-loop μ-loop
-shl-mask c = ?
-
--- src/held.rt:31:9
-add-j : tie.Need-add-j Inv-loop μ-loop
-add-j c = ?
-
--- src/held.rt:27:5
-loop-less : tie.Need-loop-less Inv-loop μ-loop
-loop-less c = ?
-
--- src/held.rt:27:5
 loop-again : tie.Need-loop-again Inv-loop μ-loop
-loop-again c = ?
+loop-again c =
+    let m = c .before in
+    let d = m .before .before .before in
+    let l = d .loop in
+    let a = d .before .before .before .before .args in
+    let f : ℕ → Bool = λ j. among (a .list .now) (digestAt (a .table .now) j) in
+    let e : m .is-among .result ≡ f (l .j) = m .is-among .ensures ∙ ap (among (a .list .now)) (m .before .digest-at .ensures) in
+    (
+      omega arith,
+      search needs,
+      search needs,
+      ⊎-elim
+          (λ w. w .1 ∙ ap (λ (x : ℕ). bitOr x (1 * 2 ^ l .j % 2 ^ maxPlaces)) (l .inv .3) ∙ mask-put maxPlaces f (l .j) (omega arith) (sym e ∙ w .0 .taken))
+          (λ w. w .1 ∙ l .inv .3 ∙ mask-skip f (l .j) (sym e ∙ w .0 .left))
+          (c .if1 .came),
+    )
 
--- src/held.rt:20:1
 returns : tie.Need-returns Inv-loop μ-loop
-returns c = ?
+returns c =
+    let l = c .before .loop in
+    let e : l .j ≡ countOf (c .before .before .before .before .before .args .table .now) = omega arith in
+    rw e at (l .inv .3)
 
 pub places-listed-spec : {M : Type 1} → statement M
 places-listed-spec =
@@ -54,12 +55,12 @@ places-listed-spec =
     (tie.spec
     Inv-loop
     μ-loop
-    count-of-requires
+    (λ c κs. search needs)
     loop-holds
-    digest-at-requires
-    is-among-requires
-    shl-mask
-    add-j
-    loop-less
+    (λ c κs. search needs)
+    (λ c κs. search needs)
+    (λ c. search needs)
+    (λ c. search needs)
+    (λ c. search needs)
     loop-again
     returns)

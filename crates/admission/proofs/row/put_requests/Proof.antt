@@ -1,71 +1,69 @@
+-- `put_requests` meets its contract. The loop's invariant: the pairs of the slots passed are put. Assumes nothing.
+use mathlib.Core.Path.{_≡_, refl, sym, ap, _∙_}
+use mathlib.Core.List.{List, [], _∷_, _++_}
+use Prim.Native.Nat.{ℕ, _+_, _-_, _*_, _/_, _%_, _≤_, _<_}
+use native.Mathlib.Omega.{arith}
+use lib.ListN.{length}
+use borrow.Author.Needs.{needs}
+use Rattle.base.specs.List.{listBelow}
+use Rattle.base.specs.Bytes.{Bytes, joined, splice}
+use Rattle.base.specs.Number.{pair}
+use Rattle.base.proofs.Parts.{length-joined-list, joined-list-more}
+use Rattle.base.proofs.Splice.{splice-nothing, splice-append, length-splice}
+use Rattle.block.specs.Limits.{slotCount}
+use Rattle.block.specs.Layout.{requestsIn, countedRequest}
 use Rattle.admission.proofs.row.put_requests.Statement.{statement}
 use Rattle.admission.proofs.row.put_requests.Tie as tie
-use Rattle.admission.proofs.row.put_requests.Reads as reads
-use Rattle.admission.proofs.row.put_requests.Lts as lts
-use Rattle.base.proofs.put.Reads as put-reads
-use Rattle.block.proofs.requests.counted_request.Reads as counted-request-reads
+
+-- the pairs of the slots below k
+abbrev pairs : Bytes → ℕ → Bytes
+pairs list k = joined (listBelow (λ slot. pair (countedRequest (requestsIn list) slot)) k)
+
+pairs-length : (list : Bytes) (k : ℕ) → length (pairs list k) ≡ 2 * k
+pairs-length list k = length-joined-list 2 (λ slot. pair (countedRequest (requestsIn list) slot)) k (λ i. refl)
+
+-- one slot more
+module _ (t₀ t t′ : Bytes) (at slot x : ℕ) (list : Bytes) (fits : at + 2 * slotCount ≤ length t₀) (below : slot < slotCount) where
+  more : t ≡ splice t₀ at (pairs list slot) → x ≡ countedRequest (requestsIn list) slot → t′ ≡ splice t (at + 2 * slot) (pair x)
+      → t′ ≡ splice t₀ at (pairs list (slot + 1))
+  more e f g =
+      g ∙ ap (λ (b : Bytes). splice b (at + 2 * slot) (pair x)) e
+      ∙ ap (λ (n : ℕ). splice (splice t₀ at (pairs list slot)) (at + n) (pair x)) (sym (pairs-length list slot))
+      ∙ splice-append t₀ at (pairs list slot) (omega arith) (pair x)
+      ∙ ap (λ (n : ℕ). splice t₀ at (pairs list slot ++ pair n)) f
+      ∙ ap (splice t₀ at) (sym (joined-list-more (λ slot. pair (countedRequest (requestsIn list) slot)) slot))
+
+  same-length : length t ≡ length t₀ → t′ ≡ splice t (at + 2 * slot) (pair x) → length t′ ≡ length t₀
+  same-length l g = ap length g ∙ length-splice t (at + 2 * slot) (pair x) (omega arith) ∙ l
 
 abbrev Inv-loop : tie.InvT-loop
-Inv-loop table₀ at list slot₀ table slot = ?
+Inv-loop table₀ at list slot₀ table slot = (slot ≤ slotCount) × (at + 2 * slotCount ≤ length table₀) × (length table ≡ length table₀) × (table ≡ splice table₀ at (pairs list slot))
 
 abbrev μ-loop : tie.MeasureT-loop
-μ-loop table₀ at list slot₀ table slot = ?
+μ-loop table₀ at list slot₀ table slot = slotCount - slot
 
--- src/row.rt:16:5
 loop-holds : tie.Need-loop-holds Inv-loop μ-loop
-loop-holds c = ?
+unfolding joined listBelow
+loop-holds c = (omega arith, search needs, refl, sym (splice-nothing _ (c .before .before .args .at)))
 
--- src/row.rt:17:61
-cast-counted-request : tie.Need-cast-counted-request Inv-loop μ-loop
-cast-counted-request c = ?
-
--- src/row.rt:17:13
-counted-request-requires : tie.Need-counted-request-requires Inv-loop μ-loop
-counted-request-requires c κs = ?
-
--- src/row.rt:18:31
-mul-put : tie.Need-mul-put Inv-loop μ-loop
-mul-put c = ?
-
--- src/row.rt:18:26
-add-put : tie.Need-add-put Inv-loop μ-loop
-add-put c = ?
-
--- src/row.rt:18:43
-cast-t7 : tie.Need-cast-t7 Inv-loop μ-loop
-cast-t7 c = ?
-
--- src/row.rt:18:65
-cast-t16 : tie.Need-cast-t16 Inv-loop μ-loop
-cast-t16 c = ?
-
--- src/row.rt:18:41
-slice-aggregate-put : tie.Need-slice-aggregate-put Inv-loop μ-loop
-slice-aggregate-put c = ?
-
--- src/row.rt:18:9
-put-requires : tie.Need-put-requires Inv-loop μ-loop
-put-requires c κs = ?
-
--- src/row.rt:19:9
-add-slot : tie.Need-add-slot Inv-loop μ-loop
-add-slot c = ?
-
--- src/row.rt:16:5
-loop-less : tie.Need-loop-less Inv-loop μ-loop
-loop-less c = ?
-
--- src/row.rt:16:5
 loop-again : tie.Need-loop-again Inv-loop μ-loop
-loop-again c = ?
+loop-again c =
+    let p = c .before .before in
+    let n = p .before .before .before in
+    let l = n .before .before .loop in
+    let a = n .before .before .before .before .before .args in
+    (
+      omega arith,
+      search needs,
+      same-length (a .table .now) (l .table) _ (a .at) (l .slot) _ (a .list .now) (search needs) (search needs) (l .inv .2) (p .put .ensures),
+      more (a .table .now) (l .table) _ (a .at) (l .slot) _ (a .list .now) (search needs) (search needs) (l .inv .3) (n .counted-request .ensures) (p .put .ensures),
+    )
 
--- src/row.rt:11:1
-same-length : tie.Need-same-length Inv-loop μ-loop
-same-length c = ?
-
--- src/row.rt:11:1
 returns : tie.Need-returns Inv-loop μ-loop
-returns c = ?
+returns c =
+    let l = c .before .loop in
+    let e : l .slot ≡ slotCount = omega arith in
+    rw e at (l .inv .3)
 
 pub put-requests-spec : {M : Type 1} → statement M
 put-requests-spec =
@@ -74,16 +72,16 @@ put-requests-spec =
     Inv-loop
     μ-loop
     loop-holds
-    cast-counted-request
-    counted-request-requires
-    mul-put
-    add-put
-    cast-t7
-    cast-t16
-    slice-aggregate-put
-    put-requires
-    add-slot
-    loop-less
+    (λ c. search needs)
+    (λ c κs. search needs)
+    (λ c. search needs)
+    (λ c. search needs)
+    (λ c. search needs)
+    (λ c. search needs)
+    (λ c. search needs)
+    (λ c κs. search needs)
+    (λ c. search needs)
+    (λ c. search needs)
     loop-again
-    same-length
+    (λ c. search needs)
     returns)

@@ -1,0 +1,5 @@
+-- The laws of admission. Other crates' proofs cite them.
+pub mod Referring
+pub mod Causes
+pub mod Kept
+pub mod Promises

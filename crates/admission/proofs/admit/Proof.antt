@@ -1,0 +1,176 @@
+-- `admit` meets its contract: one law for each way out. Assumes nothing.
+use mathlib.Core.Path.{_≡_, refl, sym, ap, _∙_}
+use mathlib.Core.Bool.{true, false, not}
+use mathlib.Core.Logic.{_≢_, inl, inr}
+use mathlib.Core.List.{[], _∷_}
+use Prim.Native.Nat.{ℕ, _≤_, _<_}
+use native.Mathlib.Omega.{arith}
+use types.Run.{OneOf}
+use denote.Enum.Declared.{tagOf}
+use lib.Dec.{eqb}
+use lib.ListN.{length, getD}
+use borrow.Author.Needs.{needs}
+use borrow.Author.Tests.{eq-eqb, ne-eqb, lt-ltb, le-ltb, not-true, not-false}
+use Rattle.base.specs.Bytes.{Bytes}
+use Rattle.sha256.specs.Sha256.{sha256}
+use Rattle.block.specs.Layout.{siteOf}
+use Rattle.block.specs.Reading.{wellShaped, fieldsOf, reading, answerOf}
+use Rattle.block.specs.Steps.{Shaped}
+use Rattle.block.specs.declared.Answer.{Answer}
+use Rattle.block.specs.declared.Fields.{Fields}
+use Rattle.block.specs.declared.Reading.{Reading}
+use Rattle.block.specs.declared.Reading.the-variants.{Block, Misshapen, BadRequest, RepeatedReference}
+use Rattle.block.proofs.Reading.{the-type}
+use Rattle.block.proofs.Shape.{shaped}
+use Rattle.block.proofs.Accepted.{reading-accepted}
+use Rattle.table.specs.Layout.{tableSize, setupOf}
+use Rattle.table.specs.Form.{inForm}
+use Rattle.table.specs.Checks.{answerTo}
+use Rattle.table.proofs.Formed.{formed-of}
+use Rattle.admission.specs.Admission.{admission, admitted}
+use Rattle.admission.specs.Steps.{Sized, heldAnswer, entered}
+use Rattle.admission.proofs.admit.Statement.{statement}
+use Rattle.admission.proofs.admit.Tie as tie
+
+sized : (t : Bytes) → inForm t ≡ true → Sized t
+sized t e = let f = formed-of t e in record { size = f .size; count = f .held .fits }
+
+-- a reading that is no block has a refusal's number
+refused-number : (r : Reading) → OneOf (1 ∷ 2 ∷ 3 ∷ []) (tagOf the-type r) → answerOf r .refusal ≢ 0
+refused-number (Block f) (inl e) = absurd (omega arith)
+refused-number (Block f) (inr (inl e)) = absurd (omega arith)
+refused-number (Block f) (inr (inr e)) = absurd (omega arith)
+refused-number Misshapen k = λ e. omega arith
+refused-number (BadRequest i) k = λ e. omega arith
+refused-number (RepeatedReference i) k = λ e. omega arith
+
+abbrev answers : ℕ → Answer
+answers number = record { refusal = number; value = 0 }
+
+module _ (t b : Bytes) (verdict : ℕ) where
+  -- what a call promises
+  abbrev Promised : Answer → Bytes → Type 0
+  Promised a t′ = (a ≡ admission sha256 t b verdict) × (t′ ≡ admitted sha256 t b verdict)
+
+  refusing : (a : Answer) → a ≡ admission sha256 t b verdict → a .refusal ≢ 0 → Promised a t
+  unfolding admitted
+  refusing a e n = (e, rw (← e, ne-eqb (a .refusal) 0 n))
+
+  way2 : inForm t ≡ false → Promised (answers 2) t
+  unfolding admission answerTo
+  way2 e = refusing (answers 2) (rw e) (λ z. omega arith)
+
+  module _ (formed : inForm t ≡ true) where
+    way3 : wellShaped b ≡ false → Promised (answers 3) t
+    unfolding admission answerTo
+    way3 e = refusing (answers 3) (rw (formed, e)) (λ z. omega arith)
+
+    module _ (shape : wellShaped b ≡ true) where
+      way4 : setupOf t .sites ≤ siteOf b → Promised (answers 4) t
+      unfolding admission answerTo
+      way4 h = refusing (answers 4) (rw (formed, shape, le-ltb (siteOf b) (setupOf t .sites) h)) (λ z. omega arith)
+
+      module _ (site : siteOf b < setupOf t .sites) where
+        way5 : verdict ≢ 1 → Promised (answers 5) t
+        unfolding admission answerTo
+        way5 n = refusing (answers 5) (rw (formed, shape, lt-ltb (siteOf b) (setupOf t .sites) site, ne-eqb verdict 1 n)) (λ z. omega arith)
+
+        module _ (link : verdict ≡ 1) (r : Reading) (er : r ≡ reading b) where
+          way-reader : OneOf (1 ∷ 2 ∷ 3 ∷ []) (tagOf the-type r) → (a : Answer) → a ≡ answerOf r → Promised a t
+          unfolding admission answerTo
+          way-reader k a e =
+              let n = refused-number r k in
+              refusing a
+              (e ∙ rw (formed, shape, lt-ltb (siteOf b) (setupOf t .sites) site, eq-eqb verdict 1 link, ← er, ne-eqb (answerOf r .refusal) 0 n) refl)
+              (λ z. n (ap (λ (x : Answer). x .refusal) (sym e) ∙ z))
+
+          module _ (f : Fields) (ef : r ≡ Block f) where
+            fields : f ≡ fieldsOf b
+            fields = reading-accepted b f (sym er ∙ ef) .fields
+
+            through : admission sha256 t b verdict ≡ heldAnswer t b
+            unfolding admission answerTo heldAnswer
+            through = rw (formed, shape, lt-ltb (siteOf b) (setupOf t .sites) site, eq-eqb verdict 1 link, ← er, ef)
+
+            way-entered : (a : Answer) (t′ : Bytes) → a ≡ heldAnswer t b → t′ ≡ entered t b → Promised a t′
+            unfolding admitted entered
+            way-entered a t′ e e′ = (e ∙ sym through, rw through e′)
+
+formed : (c : tie.Else1) → inForm (c .before .before .before .before .before .args .table .now) ≡ true
+formed c = sym (c .before .in-form .ensures) ∙ not-false _ (c .if1 .left)
+
+shape : (c : tie.Else2) → wellShaped (c .before .before .before .before .before .before .before .args .block .now) ≡ true
+shape c = sym (c .before .well-shaped .ensures) ∙ not-false _ (c .if2 .left)
+
+returns : tie.Need-returns
+returns c = way2 _ _ _ (sym (c .before .in-form .ensures) ∙ not-true _ (c .if1 .taken))
+
+returns-2 : tie.Need-returns-2
+returns-2 c = way3 _ _ _ (formed (c .before .before)) (sym (c .before .well-shaped .ensures) ∙ not-true _ (c .if2 .taken))
+
+returns-3 : tie.Need-returns-3
+returns-3 c =
+    let s = c .before .before .before in
+    way4 _ _ _ (formed (s .before .before)) (shape s) (c .if3 .taken)
+
+returns-4 : tie.Need-returns-4
+returns-4 c =
+    let d = c .before in
+    let s = d .before .before .before in
+    way5 _ _ _ (formed (s .before .before)) (shape s) (d .if3 .left) (c .if4 .taken)
+
+returns-5 : tie.Need-returns-5
+returns-5 c =
+    let m = c .before in
+    let r = m .before in
+    let v = r .before in
+    let d = v .before in
+    let s = d .before .before .before in
+    way-reader _ _ _ (formed (s .before .before)) (shape s) (d .if3 .left) (v .if4 .left) _ (r .read-block .ensures) (m .match .keys2) _ (c .answer-of .ensures)
+
+enter-requires : tie.Need-enter-requires
+enter-requires c κs =
+    let m = c .before .before in
+    let r = m .before .before in
+    let v = r .before in
+    let d = v .before in
+    let s = d .before .before .before in
+    let a = s .before .before .before .before .before .before .before .args in
+    (sized _ (formed (s .before .before)), shaped _ (shape s),
+    fields (a .table .now) (a .block .now) (a .verdict) (formed (s .before .before)) (shape s) (d .if3 .left) (v .if4 .left) _ (r .read-block .ensures) _ (m .reading .given .1))
+
+returns-6 : tie.Need-returns-6
+returns-6 c =
+    let e = c .before .before in
+    let m = e .before .before .before in
+    let r = m .before .before in
+    let v = r .before in
+    let d = v .before in
+    let s = d .before .before .before in
+    way-entered _ _ _ (formed (s .before .before)) (shape s) (d .if3 .left) (v .if4 .left) _ (r .read-block .ensures) _ (m .reading .given .1) _ _
+    (e .enter .ensures .0) (e .enter .ensures .1)
+
+pub admit-spec : {M : Type 1} → statement M
+admit-spec =
+    tie.close
+    (tie.spec
+    (λ c κs. search needs)
+    (λ c. search needs)
+    returns
+    (λ c κs. search needs)
+    (λ c. search needs)
+    returns-2
+    (λ c. let f = sized _ (formed (c .before .before .before)) in search needs)
+    (λ c. let f = shaped _ (shape (c .before .before)) in search needs)
+    (λ c. search needs)
+    returns-3
+    (λ c. search needs)
+    returns-4
+    (λ c κs. search needs)
+    (λ c. search needs)
+    (λ c κs. search needs)
+    (λ c. search needs)
+    returns-5
+    enter-requires
+    (λ c. search needs)
+    returns-6)

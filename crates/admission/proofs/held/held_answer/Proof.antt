@@ -1,0 +1,160 @@
+-- `held_answer` meets its contract: one law for each way out. Assumes nothing.
+use mathlib.Core.Path.{_≡_, refl, sym, ap, ap₂, _∙_}
+use mathlib.Core.Bool.{Bool, true, false, not}
+use Prim.Native.Nat.{ℕ, _+_, _-_, _*_, _≤_, _<_}
+use native.Mathlib.Omega.{arith}
+use lib.Dec.{ltb}
+use lib.ListN.{take, drop}
+use borrow.Author.Needs.{needs}
+use borrow.Author.Tests.{lt-ltb, le-ltb, not-true, not-false}
+use Rattle.base.specs.Search.{firstBelow, anyBelow}
+use Rattle.base.specs.Mask.{inMask}
+use Rattle.base.specs.Bytes.{Bytes}
+use Rattle.sha256.specs.Sha256.{sha256}
+use Rattle.block.specs.Limits.{headerSize, referenceSize}
+use Rattle.block.specs.Layout.{siteOf, sequenceOf, referenceCount, referenceList}
+use Rattle.block.specs.declared.Answer.{Answer}
+use Rattle.block.proofs.Shape.{reference-part}
+use Rattle.table.specs.View.{maxPlaces}
+use Rattle.table.specs.Layout.{countOf, viewOf}
+use Rattle.table.specs.Rules.{hasDigest, placeOf, parentRule}
+use Rattle.table.specs.Checks.{answerTo}
+use Rattle.table.specs.Steps.{rowOf}
+use Rattle.admission.specs.Admission.{missing, rowFor}
+use Rattle.admission.specs.Steps.{Ready, firstMissing, heldAnswer}
+use Rattle.admission.proofs.Referring.{first-missing, listed, rule-reads}
+use Rattle.admission.proofs.held.held_answer.Statement.{statement}
+use Rattle.admission.proofs.held.held_answer.Tie as tie
+
+abbrev answers : ℕ → ℕ → Answer
+answers number value = record { refusal = number; value = value }
+
+module _ (t b d : Bytes) (references k place : ℕ) (ready : Ready t b references) (ed : d ≡ sha256 b) (ek : k ≡ countOf t) (ep : place ≡ placeOf (viewOf t) k d) where
+  at-place : place ≡ placeOf (viewOf t) (countOf t) (sha256 b)
+  at-place = ep ∙ ap₂ (placeOf (viewOf t)) ek ed
+
+  pub way8 : place < k → answers 8 place ≡ heldAnswer t b
+  unfolding heldAnswer answerTo anyBelow
+  way8 h = rw (← at-place, lt-ltb place (countOf t) (omega arith))
+
+  new : k ≤ place → anyBelow (hasDigest (viewOf t) (sha256 b)) (countOf t) ≡ false
+  unfolding anyBelow
+  new h = ap (λ (n : ℕ). ltb n (countOf t)) (sym at-place) ∙ le-ltb place (countOf t) (omega arith)
+
+  module _ (h : k ≤ place) (p i : ℕ) (er : p ≡ referenceCount b)
+      (ei : i ≡ firstMissing (viewOf t) k (take ((headerSize + referenceSize * p) - headerSize) (drop headerSize b))) where
+    at-missing : i ≡ firstBelow (missing (viewOf t) b) (referenceCount b)
+    at-missing = ei ∙ ap₂ (firstMissing (viewOf t)) ek (reference-part b p er) ∙ first-missing b (ready .shaped) (viewOf t)
+
+    missed : i < p → anyBelow (missing (viewOf t) b) (referenceCount b) ≡ true
+    unfolding anyBelow
+    missed l = ap (λ (n : ℕ). ltb n (referenceCount b)) (sym at-missing) ∙ lt-ltb i (referenceCount b) (omega arith)
+
+    pub way9 : i < p → answers 9 i ≡ heldAnswer t b
+    unfolding heldAnswer answerTo
+    way9 l = rw (new h, missed l, at-missing)
+
+    found : p ≤ i → anyBelow (missing (viewOf t) b) (referenceCount b) ≡ false
+    unfolding anyBelow
+    found l = ap (λ (n : ℕ). ltb n (referenceCount b)) (sym at-missing) ∙ le-ltb i (referenceCount b) (omega arith)
+
+    module _ (l : p ≤ i) (n : ℕ) (rule : Bool) (en : n ≡ sequenceOf b) (eu : rule ≡ parentRule (viewOf t) k (rowOf (siteOf b) n references)) where
+      at-rule : rule ≡ parentRule (viewOf t) (countOf t) (rowFor sha256 (viewOf t) b)
+      at-rule =
+          eu ∙ ap (λ (x : ℕ). parentRule (viewOf t) x (rowOf (siteOf b) n references)) ek
+          ∙ rule-reads (viewOf t) (countOf t) (rowOf (siteOf b) n references) (rowFor sha256 (viewOf t) b) refl en
+          (λ j. ap (λ (m : ℕ). inMask m j) (ready .places) ∙ listed b (ready .shaped) t j)
+
+      pub way10 : rule ≡ false → answers 10 0 ≡ heldAnswer t b
+      unfolding heldAnswer answerTo
+      way10 e = rw (new h, found l, sym at-rule ∙ e)
+
+      pub way11 : rule ≡ true → maxPlaces ≤ k → answers 11 0 ≡ heldAnswer t b
+      unfolding heldAnswer answerTo
+      way11 e m = rw (new h, found l, sym at-rule ∙ e, le-ltb (countOf t) maxPlaces (omega arith))
+
+      pub way0 : rule ≡ true → k < maxPlaces → answers 0 k ≡ heldAnswer t b
+      unfolding heldAnswer answerTo
+      way0 e m = rw (new h, found l, sym at-rule ∙ e, lt-ltb (countOf t) maxPlaces (omega arith), ek)
+
+returns : tie.Need-returns
+returns c =
+    let k = c .before .before in
+    let s = k .before .before .before .before in
+    way8 _ _ _ _ _ _ (s .pre .0) (s .pre .1) (k .count-of .ensures) (c .before .place-of .ensures) (c .if1 .taken)
+
+returns-2 : tie.Need-returns-2
+returns-2 c =
+    let m = c .before in
+    let w = m .before .before in
+    let g = w .before .before in
+    let k = g .before .before in
+    let s = k .before .before .before .before in
+    way9 _ _ _ _ _ _ (s .pre .0) (s .pre .1) (k .count-of .ensures) (g .before .place-of .ensures) (g .if1 .left)
+    _ _ (w .wide .ensures) (m .first-missing .ensures) (c .if2 .taken)
+
+returns-3 : tie.Need-returns-3
+returns-3 c =
+    let r = c .before in
+    let n = r .before in
+    let f = n .before .before .before .before in
+    let m = f .before in
+    let w = m .before .before in
+    let g = w .before .before in
+    let k = g .before .before in
+    let s = k .before .before .before .before in
+    way10 _ _ _ _ _ _ (s .pre .0) (s .pre .1) (k .count-of .ensures) (g .before .place-of .ensures) (g .if1 .left)
+    _ _ (w .wide .ensures) (m .first-missing .ensures) (f .if2 .left) _ _ (n .number-of .ensures) (r .parent-rule .ensures) (not-true _ (c .if3 .taken))
+
+returns-4 : tie.Need-returns-4
+returns-4 c =
+    let e = c .before in
+    let r = e .before in
+    let n = r .before in
+    let f = n .before .before .before .before in
+    let m = f .before in
+    let w = m .before .before in
+    let g = w .before .before in
+    let k = g .before .before in
+    let s = k .before .before .before .before in
+    way11 _ _ _ _ _ _ (s .pre .0) (s .pre .1) (k .count-of .ensures) (g .before .place-of .ensures) (g .if1 .left)
+    _ _ (w .wide .ensures) (m .first-missing .ensures) (f .if2 .left) _ _ (n .number-of .ensures) (r .parent-rule .ensures) (not-false _ (e .if3 .left)) (c .if4 .taken)
+
+returns-5 : tie.Need-returns-5
+returns-5 c =
+    let e = c .before in
+    let r = e .before in
+    let n = r .before in
+    let f = n .before .before .before .before in
+    let m = f .before in
+    let w = m .before .before in
+    let g = w .before .before in
+    let k = g .before .before in
+    let s = k .before .before .before .before in
+    way0 _ _ _ _ _ _ (s .pre .0) (s .pre .1) (k .count-of .ensures) (g .before .place-of .ensures) (g .if1 .left)
+    _ _ (w .wide .ensures) (m .first-missing .ensures) (f .if2 .left) _ _ (n .number-of .ensures) (r .parent-rule .ensures) (not-false _ (e .if3 .left)) (c .if4 .left)
+
+pub held-answer-spec : {M : Type 1} → statement M
+held-answer-spec =
+    tie.close
+    (tie.spec
+    (λ c κs. search needs)
+    (λ c κs. search needs)
+    returns
+    (λ c. search needs)
+    (λ c κs. search needs)
+    (λ c. search needs)
+    (λ c. search needs)
+    (λ c. search needs)
+    (λ c. search needs)
+    (λ c. search needs)
+    (λ c κs. search needs)
+    returns-2
+    (λ c. search needs)
+    (λ c. search needs)
+    (λ c. search needs)
+    (λ c κs. search needs)
+    (λ c κs. search needs)
+    returns-3
+    returns-4
+    returns-5)
