@@ -3,7 +3,7 @@
 // which is proved.
 ghost use mathlib.Core.Path.{_≡_};
 ghost use Prim.Native.Nat.{_+_, _≤_, _<_};
-ghost use lib.ListN.{length};
+ghost use lib.ListN.{length, replicate};
 ghost use Rattle.base.specs.Mask.{inMask};
 ghost use Rattle.base.specs.Bytes.{sameBytes, allZero, splice};
 ghost use Rattle.base.specs.Number.{number};
@@ -97,6 +97,17 @@ pub fn word_bytes(x: u64) -> [u8; 8]
         (x6 % 256) as u8,
         (x7 % 256) as u8,
     ]
+}
+
+// Makes every byte 0.
+pub fn clear(bytes: &mut [u8])
+    ensures { λ _. ⌜ now (bytes .exit) ≡ replicate (length (now (bytes .entry))) 0 ⌝ }
+{
+    let mut i = 0;
+    while i < bytes.len() {
+        bytes[i] = 0;
+        i += 1;
+    }
 }
 
 // Puts the part into the bytes at index `at`; all others stay.

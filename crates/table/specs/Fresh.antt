@@ -1,12 +1,14 @@
--- Document 01, "What is turned down", row 1: the empty table of a setup, or all zeros.
+-- Document 01, "What is turned down", row 1: the empty table of a setup, or all zeros; and the same into a lent buffer.
 use mathlib.Core.Bool.{cond}
-use mathlib.Core.List.{[]}
-use Prim.Native.Nat.{ℕ}
-use lib.ListN.{replicate}
+use mathlib.Core.List.{[], _∷_}
+use lib.Dec.{eqb}
+use lib.ListN.{length, replicate}
 use Rattle.base.specs.Bytes.{Bytes}
+use Rattle.block.specs.declared.Answer.{Answer}
 use Rattle.setup.specs.Setup.{Setup, lawful}
 use Rattle.table.specs.View.{View}
 use Rattle.table.specs.Layout.{tableSize, rowAt, layout}
+use Rattle.table.specs.Checks.{check, answerTo}
 use Rattle.table.specs.declared.FreshTable.{FreshTable}
 
 -- nothing is held
@@ -21,3 +23,13 @@ freshTable s =
     cond (lawful s)
     (record { refusal = 0; table = emptyTable s })
     (record { refusal = 1; table = replicate tableSize 0 })
+
+-- ---- into a lent buffer
+
+-- 1: setup not lawful; 2: a buffer that is no table's length
+unfoldable pub freshAnswer : Setup → Bytes → Answer
+freshAnswer s t = answerTo (check 1 (lawful s) 0 ∷ check 2 (eqb (length t) tableSize) 0 ∷ []) 0
+
+-- the empty table, or the buffer as it was
+unfoldable pub freshIn : Setup → Bytes → Bytes
+freshIn s t = cond (eqb (freshAnswer s t .refusal) 0) (emptyTable s) t

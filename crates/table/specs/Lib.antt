@@ -3,7 +3,7 @@ pub mod View
 pub mod Layout
 pub mod Rules
 pub mod Form
-pub mod Fresh
 pub mod Checks
+pub mod Fresh
 pub mod Promises
 pub mod Steps

@@ -5,11 +5,15 @@ pub mod rows;
 pub mod rules;
 mod form;
 
+use block::Answer;
 use block::REFERENCE_SIZE;
 use block::SLOTS;
 ghost use mathlib.Core.Path.{_≡_};
+ghost use lib.ListN.{length, replicate};
+ghost use Rattle.block.specs.Limits.{slotCount};
+ghost use Rattle.table.specs.Layout.{tableSize};
 ghost use Rattle.table.specs.Form.{inForm};
-ghost use Rattle.table.specs.Fresh.{freshTable};
+ghost use Rattle.table.specs.Fresh.{emptyTable, freshTable, freshAnswer, freshIn};
 
 pub const MAX_PLACES: usize = 64;
 
@@ -48,9 +52,42 @@ pub fn fresh(sites: u8, owners: [u8; SLOTS]) -> FreshTable
     if !setup::lawful(sites, &owners) {
         return FreshTable { refusal: 1, table };
     }
-    base::put(&mut table, 0, &[sites]);
-    base::put(&mut table, OWNERS_OFFSET, &owners);
+    put_setup(sites, &owners, &mut table);
     FreshTable { refusal: 0, table }
+}
+
+// Puts the site count and the owners before zeros.
+fn put_setup(sites: u8, owners: &[u8], table: &mut [u8])
+    requires { ⌜ (length (now owners) ≡ slotCount) × (now table ≡ replicate tableSize 0) ⌝ }
+    ensures { λ _. ⌜ now (table .exit) ≡ emptyTable (record { sites = sites; owners = now (owners .entry) }) ⌝ }
+{
+    base::put(table, 0, &[sites]);
+    base::put(table, OWNERS_OFFSET, owners);
+}
+
+// Makes a lent buffer the empty table of a setup. A refusal leaves the buffer as it was.
+pub fn fresh_in(sites: u8, owners: &[u8], table: &mut [u8]) -> Answer
+    ensures { λ r. ⌜ r ≡ freshAnswer (record { sites = sites; owners = now (owners .entry) }) (now (table .entry)) ⌝ }
+    ensures { λ _. ⌜ now (table .exit) ≡ freshIn (record { sites = sites; owners = now (owners .entry) }) (now (table .entry)) ⌝ }
+{
+    if !setup::lawful(sites, owners) {
+        return Answer {
+            refusal: 1,
+            value: 0,
+        };
+    }
+    if table.len() != TABLE_SIZE {
+        return Answer {
+            refusal: 2,
+            value: 0,
+        };
+    }
+    base::clear(table);
+    put_setup(sites, owners, table);
+    Answer {
+        refusal: 0,
+        value: 0,
+    }
 }
 
 // Whether a lent buffer is a table in form.

@@ -1,0 +1,73 @@
+-- `fresh_in` meets its contract: one law for each way out. Assumes nothing.
+use mathlib.Core.Path.{_≡_, refl, sym, ap, _∙_}
+use mathlib.Core.Bool.{true, false}
+use mathlib.Core.Logic.{_≢_}
+use Prim.Native.Nat.{ℕ}
+use native.Mathlib.Omega.{arith}
+use lib.ListN.{length, replicate}
+use borrow.Author.Needs.{needs}
+use borrow.Author.Tests.{eq-eqb, ne-eqb, not-true, not-false}
+use Rattle.base.specs.Bytes.{Bytes}
+use Rattle.block.specs.declared.Answer.{Answer}
+use Rattle.setup.specs.Setup.{Setup, lawful}
+use Rattle.setup.proofs.Thresholds.{eight-owners}
+use Rattle.table.specs.Layout.{tableSize}
+use Rattle.table.specs.Checks.{answerTo}
+use Rattle.table.specs.Fresh.{emptyTable, freshAnswer, freshIn}
+use Rattle.table.proofs.fresh_in.Statement.{statement}
+use Rattle.table.proofs.fresh_in.Tie as tie
+
+abbrev answers : ℕ → Answer
+answers number = record { refusal = number; value = 0 }
+
+module _ (s : Setup) (t : Bytes) where
+  way1 : lawful s ≡ false → (answers 1 ≡ freshAnswer s t) × (t ≡ freshIn s t)
+  unfolding freshIn freshAnswer answerTo
+  way1 e = (rw e, rw e)
+
+  way2 : lawful s ≡ true → length t ≢ tableSize → (answers 2 ≡ freshAnswer s t) × (t ≡ freshIn s t)
+  unfolding freshIn freshAnswer answerTo
+  way2 e n = (rw (e, ne-eqb (length t) tableSize n), rw (e, ne-eqb (length t) tableSize n))
+
+  way0 : (t′ : Bytes) → lawful s ≡ true → length t ≡ tableSize → t′ ≡ emptyTable s → (answers 0 ≡ freshAnswer s t) × (t′ ≡ freshIn s t)
+  unfolding freshIn freshAnswer answerTo
+  way0 t′ e n m = (rw (e, eq-eqb (length t) tableSize n), rw (e, eq-eqb (length t) tableSize n) m)
+
+-- the setup, as the call hands it on
+abbrev setup : tie.Else1 → Setup
+setup c = let a = c .before .before .before .before .args in record { sites = a .sites; owners = a .owners .now }
+
+is-lawful : (c : tie.Else1) → lawful (setup c) ≡ true
+is-lawful c = sym (c .before .lawful .ensures) ∙ not-false _ (c .if1 .left)
+
+returns : tie.Need-returns
+returns c =
+    let a = c .before .before .before .before .args in
+    way1 (record { sites = a .sites; owners = a .owners .now }) _ (sym (c .before .lawful .ensures) ∙ not-true _ (c .if1 .taken))
+
+returns-2 : tie.Need-returns-2
+returns-2 c = way2 (setup (c .before)) _ (is-lawful (c .before)) (c .if2 .taken)
+
+put-setup-requires : tie.Need-put-setup-requires
+put-setup-requires c κs =
+    let z = c .before .before .before in
+    let e = z .before .before in
+    (eight-owners (setup (e .before)) (is-lawful (e .before)), z .clear .ensures ∙ ap (λ (n : ℕ). replicate n 0) (e .if2 .left))
+
+returns-3 : tie.Need-returns-3
+returns-3 c =
+    let p = c .before .before in
+    let e = p .before .before .before .before .before .before in
+    way0 (setup (e .before)) _ _ (is-lawful (e .before)) (e .if2 .left) (p .put-setup .ensures)
+
+pub fresh-in-spec : {M : Type 1} → statement M
+fresh-in-spec =
+    tie.close
+    (tie.spec
+    (λ c κs. search needs)
+    returns
+    returns-2
+    (λ c κs. search needs)
+    put-setup-requires
+    (λ c. search needs)
+    returns-3)
