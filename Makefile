@@ -1,20 +1,29 @@
 # make demo    shows the control program on a small campaign
 # make test    proves and tests everything: the gate
-# make bench   measures SHA-256 against a baseline in C
-# make host    builds the library and the control program
+# make bench   measures SHA-256 against a baseline in C, and the form check of a full table against a digest
+# make fuzz    compares the library with the harness's model for long: FUZZ_SEED and FUZZ_CASES say where and how far
+# make host    builds the two libraries for C and the control program
 # make clean   removes all that was built
 
 CC = gcc
 CFLAGS = -std=c11 -O2 -Wall -Wextra -Wpedantic -Werror
 BENCH_CFLAGS = -O3 -Wall -Wextra -Werror
 
-LIBRARY = target/staticlib/libc_interface.a
+# Digest and block reading, and the core: both can be linked into one program.
+C_LIBRARY = target/staticlib/libc_interface.a
+CORE_LIBRARY = target/staticlib/libcore_interface.a
+LIBRARIES = $(CORE_LIBRARY) $(C_LIBRARY)
+HEADERS = host/giangotum.h host/giangotum_core.h
 HOST = target/host
+HARNESS = target/harness/release/harness
 
-# All that the library is proved and built from. Folders are among it, so that a removed file counts as a change.
+FUZZ_SEED ?= 1
+FUZZ_CASES ?= 1000000
+
+# All that the libraries are proved and built from. Folders are among it, so that a removed file counts as a change.
 LIBRARY_SOURCES := $(shell find crates.txt crates \( -name must-fail -prune \) -o -print)
 
-.PHONY: demo test bench host test-programs prerequisites clean
+.PHONY: demo test bench fuzz host test-programs harness prerequisites clean
 .DELETE_ON_ERROR:
 
 # The first target, so that a plain `make` shows something working.
@@ -27,15 +36,26 @@ demo: host
 test: prerequisites
 	@tools/gate.sh
 
-# The library's SHA-256 against a baseline in C, on this machine.
-bench: prerequisites $(HOST)/bench_sha256
+# What the library costs on this machine: its SHA-256 against a baseline in C, the form check of a full table against a
+# digest.
+bench: prerequisites $(HOST)/bench_sha256 $(HOST)/bench_form
 	$(HOST)/bench_sha256
+	@echo
+	$(HOST)/bench_form
 
-# The proved library for C, and the control program.
-host: prerequisites $(LIBRARY) $(HOST)/dome
+# The library against the harness's model. A million cases take some minutes; another seed gives other cases.
+fuzz: harness
+	$(HARNESS) --seed $(FUZZ_SEED) --cases $(FUZZ_CASES)
+
+# The proved libraries for C, and the control program.
+host: prerequisites $(LIBRARIES) $(HOST)/dome
 
 # What the host tests run.
-test-programs: host $(HOST)/digests $(HOST)/calls
+test-programs: host $(HOST)/digests $(HOST)/calls $(HOST)/core_calls harness
+
+# Cargo itself sees whether the harness's sources or the libraries changed.
+harness: prerequisites $(LIBRARIES)
+	@cargo build --quiet --release --offline --manifest-path host/harness/Cargo.toml --target-dir target/harness
 
 # Removes all that was built; the next proof starts from nothing.
 clean:
@@ -46,17 +66,26 @@ prerequisites:
 	@tools/prerequisites.sh
 	@tools/toolchain.sh
 
-$(LIBRARY): $(LIBRARY_SOURCES) rattle.version | prerequisites
-	rt staticlib c_interface
+$(LIBRARIES): target/staticlib/lib%.a: $(LIBRARY_SOURCES) rattle.version | prerequisites
+	rt staticlib $*
 
-$(HOST)/dome: host/dome.c host/giangotum.h $(LIBRARY) | $(HOST)
-	$(CC) $(CFLAGS) -Ihost -o $@ $< $(LIBRARY)
+# One after the other, also under make -j: both write what they prove into the same folder.
+$(CORE_LIBRARY): | $(C_LIBRARY)
 
-$(HOST)/digests $(HOST)/calls: $(HOST)/%: host/tests/%.c host/giangotum.h $(LIBRARY) | $(HOST)
-	$(CC) $(CFLAGS) -Ihost -o $@ $< $(LIBRARY)
+$(HOST)/dome: host/dome.c host/giangotum.h $(C_LIBRARY) | $(HOST)
+	$(CC) $(CFLAGS) -Ihost -o $@ $< $(C_LIBRARY)
 
-$(HOST)/bench_sha256: $(wildcard bench/*.[ch]) host/giangotum.h $(LIBRARY) | $(HOST)
-	$(CC) $(BENCH_CFLAGS) -Ihost -o $@ bench/sha256.c bench/sha256_baseline.c $(LIBRARY)
+$(HOST)/digests $(HOST)/calls: $(HOST)/%: host/tests/%.c host/giangotum.h $(C_LIBRARY) | $(HOST)
+	$(CC) $(CFLAGS) -Ihost -o $@ $< $(C_LIBRARY)
+
+$(HOST)/core_calls: host/tests/core_calls.c $(HEADERS) $(LIBRARIES) | $(HOST)
+	$(CC) $(CFLAGS) -Ihost -o $@ $< $(LIBRARIES)
+
+$(HOST)/bench_sha256: bench/sha256.c bench/sha256_baseline.c bench/timing.h host/giangotum.h $(C_LIBRARY) | $(HOST)
+	$(CC) $(BENCH_CFLAGS) -Ihost -o $@ bench/sha256.c bench/sha256_baseline.c $(C_LIBRARY)
+
+$(HOST)/bench_form: bench/form.c bench/timing.h $(HEADERS) $(LIBRARIES) | $(HOST)
+	$(CC) $(BENCH_CFLAGS) -Ihost -o $@ bench/form.c $(LIBRARIES)
 
 $(HOST): | prerequisites
 	mkdir -p $@

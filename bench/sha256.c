@@ -4,22 +4,15 @@
 #include <stdio.h>
 #include <stdlib.h>
 #include <string.h>
-#include <time.h>
 
 #include "giangotum.h"
+#include "timing.h"
 
 void baseline_sha256(const uint8_t *m, size_t n, uint8_t out[32]);
 
-enum { REPETITIONS = 31, MOST_BYTES = 1 << 20, BATCH_BYTES = 4 << 20 };
+enum { MOST_BYTES = 1 << 20, BATCH_BYTES = 4 << 20 };
 
 static uint8_t message[MOST_BYTES];
-
-static double cpu_seconds(void)
-{
-    struct timespec now;
-    clock_gettime(CLOCK_PROCESS_CPUTIME_ID, &now);
-    return (double)now.tv_sec + 1e-9 * (double)now.tv_nsec;
-}
 
 static double time_baseline(size_t length, long calls, uint8_t *digest)
 {
@@ -35,18 +28,6 @@ static double time_ours(size_t length, long calls, uint8_t *digest)
     for (long i = 0; i < calls; i++)
         gt_digest(message, length, digest, GT_DIGEST_BYTES);
     return cpu_seconds() - start;
-}
-
-static int by_size(const void *x, const void *y)
-{
-    double a = *(const double *)x, b = *(const double *)y;
-    return (a > b) - (a < b);
-}
-
-static double median(double *values)
-{
-    qsort(values, REPETITIONS, sizeof *values, by_size);
-    return values[REPETITIONS / 2];
 }
 
 static void compare(size_t length)

@@ -5,7 +5,8 @@ from pathlib import Path
 
 ROOT = Path(__file__).resolve().parents[2]
 BUILT = ROOT / "target" / "host"
-DOME, DIGESTS, CALLS = (str(BUILT / name) for name in ("dome", "digests", "calls"))
+DOME, DIGESTS, CALLS, CORE_CALLS = (str(BUILT / name) for name in ("dome", "digests", "calls", "core_calls"))
+HARNESS = str(ROOT / "target" / "harness" / "release" / "harness")
 VALGRIND_ERROR = 99
 VALGRIND = ["valgrind", "--quiet", f"--error-exitcode={VALGRIND_ERROR}", "--leak-check=full"]
 LONGEST_RUN = 60  # seconds, so that a program that hangs is a failed test
@@ -39,6 +40,15 @@ def output_of(command, data=b""):
     complaint = ended.stderr.decode(errors="replace")
     expect(ended.returncode == 0 and not complaint, f"{command[0]}: exit status {ended.returncode}\n{complaint}")
     return ended.stdout.decode("ascii")
+
+
+def expect_all_ok(program):
+    """Runs a program that writes a line for each of its checks."""
+    ended = run([program])
+    lines = ended.stdout.decode("ascii").splitlines()
+    failed = [line for line in lines if not line.endswith(": ok")]
+    expect(lines and not failed and ended.returncode == 0,
+           f"exit status {ended.returncode}, {len(lines)} checks, failed: {failed}")
 
 
 def dome(stream, under=()):

@@ -1,15 +1,17 @@
-"""The header by itself compiles as C and as C++, with warnings as errors."""
+"""Each header by itself compiles as C and as C++, with warnings as errors."""
 
 from programs import ROOT, output_of
 
-HEADER = ROOT / "host" / "giangotum.h"
+# A call for each header, so that what it declares can be used.
+HEADERS = {"giangotum.h": "gt_read_block(0, 0).answer.refusal", "giangotum_core.h": "gt_in_form(0, 0)"}
 WARNINGS = ["-Wall", "-Wextra", "-Wpedantic", "-Werror", "-fsyntax-only"]
-# Included twice: its guard holds.
-SOURCE = 2 * f'#include "{HEADER}"\n' + "int main(void) { return gt_read_block(0, 0).answer.refusal; }\n"
 
 
 def compiles(compiler, language, standard):
-    output_of([compiler, "-x", language, f"-std={standard}", *WARNINGS, "-"], SOURCE.encode())
+    for header, call in HEADERS.items():
+        # Included twice: its guard holds.
+        source = 2 * f'#include "{ROOT / "host" / header}"\n' + f"int main(void) {{ return {call}; }}\n"
+        output_of([compiler, "-x", language, f"-std={standard}", *WARNINGS, "-"], source.encode())
 
 
 def test_c():

@@ -4,7 +4,7 @@ import random
 
 import bad_inputs
 import generate
-from programs import CALLS, DOME, VALGRIND, digests, dome, expect, expect_same_lines, output_of, run
+from programs import CALLS, CORE_CALLS, DOME, VALGRIND, digests, dome, expect, expect_same_lines, output_of, run
 from reference import text_of
 from test_examples import ARRIVALS
 
@@ -31,6 +31,10 @@ def test_random_arrivals():
 
 def test_calls():
     output_of([*VALGRIND, CALLS])
+
+
+def test_core_calls():
+    output_of([*VALGRIND, CORE_CALLS])
 
 
 def test_digests():

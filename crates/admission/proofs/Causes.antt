@@ -31,16 +31,18 @@ use Rattle.admission.specs.Promises.{Readable, DigestHeld, ReferenceMiss
 -- ---- what each check says
 
 digest-held : (t d : Bytes) → (anyBelow (hasDigest (viewOf t) d) (countOf t) ≡ true) ↔ DigestHeld t d
-digest-held t d =
-    (λ e. let r = any-true-at (hasDigest (viewOf t) d) (countOf t) e in (r .0, r .1, same-equal _ _ (r .2)),
-    λ r. any-true (hasDigest (viewOf t) d) (countOf t) (r .0) (r .1) (equal-same _ _ (r .2)))
+digest-held t d = (
+  λ e. let r = any-true-at (hasDigest (viewOf t) d) (countOf t) e in (r .0, r .1, same-equal _ _ (r .2)),
+  λ r. any-true (hasDigest (viewOf t) d) (countOf t) (r .0) (r .1) (equal-same _ _ (r .2)),
+)
 
 reference-missing : (t b : Bytes) → (anyBelow (missing (viewOf t) b) (referenceCount b) ≡ true) ↔ ReferenceMissing t b
-reference-missing t b =
-    (λ e. let r = any-true-at (missing (viewOf t) b) (referenceCount b) e in
+reference-missing t b = (
+  λ e. let r = any-true-at (missing (viewOf t) b) (referenceCount b) e in
       (r .0, r .1, λ place h. same-other _ _ (any-false-at (holder (r .0)) (countOf t) (not-true _ (r .2)) place h)),
-    λ r. any-true (missing (viewOf t) b) (referenceCount b) (r .0) (r .1)
-      (ap not (any-false (holder (r .0)) (countOf t) (λ place h. other-same _ _ (r .2 place h)))))
+  λ r. any-true (missing (viewOf t) b) (referenceCount b) (r .0) (r .1)
+      (ap not (any-false (holder (r .0)) (countOf t) (λ place h. other-same _ _ (r .2 place h)))),
+)
   where
     -- the places that hold reference i
     holder : ℕ → ℕ → Bool
@@ -86,14 +88,15 @@ module _ (digest : Bytes → Bytes) (t b : Bytes) (verdict : ℕ) where
       (and-then (past-check _ _ _ n (λ e. out 3 (omega arith) (omega arith)))
       (and-then (past-check _ _ _ n (λ e. out 4 (omega arith) (omega arith)))
       (and-then (past-check _ _ _ n (λ e. out 5 (omega arith) (omega arith)))
-      (past-check _ _ _ n reader)))))
-      (λ p.
-        let q = p .1 .1 in
-        (record { formed = p .0; site = ltb-true _ _ (q .0); link = eqb-true _ _ (q .1 .0); accepted = reader-accepts b .0 (q .1 .1 .0) }, q .1 .1 .1),
-      λ p.
-        let r = p .0 in
-        let shape = reading-accepted b (fieldsOf b) (r .accepted) .accepted .shape in
-        (r .formed, (well-shaped b shape, (lt-ltb _ _ (r .site), (eq-eqb _ _ (r .link), (reader-accepts b .1 (r .accepted), p .1))))))
+      (past-check _ _ _ n reader))))) (
+        λ p.
+            let q = p .1 .1 in
+            (record { formed = p .0; site = ltb-true _ _ (q .0); link = eqb-true _ _ (q .1 .0); accepted = reader-accepts b .0 (q .1 .1 .0) }, q .1 .1 .1),
+        λ p.
+            let r = p .0 in
+            let shape = reading-accepted b (fieldsOf b) (r .accepted) .accepted .shape in
+            (r .formed, (well-shaped b shape, (lt-ltb _ _ (r .site), (eq-eqb _ _ (r .link), (reader-accepts b .1 (r .accepted), p .1))))),
+      )
     where
       reader : eqb (answerOf (reading b) .refusal) 0 ≡ false → answerOf (reading b) .refusal ≢ n
       reader e = let w = reader-number (reading b) (eqb-false _ _ e) in out (answerOf (reading b) .refusal) (w .0) (w .1)
@@ -102,22 +105,25 @@ module _ (digest : Bytes → Bytes) (t b : Bytes) (verdict : ℕ) where
   past-eight : (n : ℕ) → NotUpTo 8 n → (admission digest t b verdict .refusal ≡ n) ↔ (New digest t b verdict × (from 9 ≡ n))
   past-eight n out =
       let here = absent _ _ (digest-held t (digest b)) in
-      Iff·trans (and-then (past-seven n (λ k l h. out k l (omega arith))) (past-check _ _ _ n (λ e. out 8 (omega arith) (omega arith))))
-      (λ p. (record { readable = p .0; new = here .0 (p .1 .0) }, p .1 .1),
-      λ p. (p .0 .readable, (here .1 (p .0 .new), p .1)))
+      Iff·trans (and-then (past-seven n (λ k l h. out k l (omega arith))) (past-check _ _ _ n (λ e. out 8 (omega arith) (omega arith)))) (
+        λ p. (record { readable = p .0; new = here .0 (p .1 .0) }, p .1 .1),
+        λ p. (p .0 .readable, (here .1 (p .0 .new), p .1)),
+      )
 
   past-nine : (n : ℕ) → NotUpTo 9 n → (admission digest t b verdict .refusal ≡ n) ↔ (Linked digest t b verdict × (from 10 ≡ n))
   past-nine n out =
       let here = absent _ _ (reference-missing t b) in
-      Iff·trans (and-then (past-eight n (λ k l h. out k l (omega arith))) (past-check _ _ _ n (λ e. out 9 (omega arith) (omega arith))))
-      (λ p. (record { isNew = p .0; found = here .0 (p .1 .0) }, p .1 .1),
-      λ p. (p .0 .isNew, (here .1 (p .0 .found), p .1)))
+      Iff·trans (and-then (past-eight n (λ k l h. out k l (omega arith))) (past-check _ _ _ n (λ e. out 9 (omega arith) (omega arith)))) (
+        λ p. (record { isNew = p .0; found = here .0 (p .1 .0) }, p .1 .1),
+        λ p. (p .0 .isNew, (here .1 (p .0 .found), p .1)),
+      )
 
   past-ten : (n : ℕ) → NotUpTo 10 n → (admission digest t b verdict .refusal ≡ n) ↔ (Parented digest t b verdict × (from 11 ≡ n))
   past-ten n out =
-      Iff·trans (and-then (past-nine n (λ k l h. out k l (omega arith))) (past-check _ _ _ n (λ e. out 10 (omega arith) (omega arith))))
-      (λ p. (record { linked = p .0; parent = p .1 .0 }, p .1 .1),
-      λ p. (p .0 .linked, (p .0 .parent, p .1)))
+      Iff·trans (and-then (past-nine n (λ k l h. out k l (omega arith))) (past-check _ _ _ n (λ e. out 10 (omega arith) (omega arith)))) (
+        λ p. (record { linked = p .0; parent = p .1 .0 }, p .1 .1),
+        λ p. (p .0 .linked, (p .0 .parent, p .1)),
+      )
 
   pub causes : Causes digest t b verdict
   unfolding elsewhere

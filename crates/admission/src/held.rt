@@ -71,7 +71,13 @@ pub fn held_answer(table: &[u8], block: &[u8], digest: &[u8], references: u64) -
             value: missing,
         };
     }
-    if !table::rules::parent_rule(table, k, references, block[0], base::number_of(block[1], block[2])) {
+    if !table::rules::parent_rule(
+        table,
+        k,
+        references,
+        block[0],
+        base::number_of(block[1], block[2]),
+    ) {
         return Answer {
             refusal: 10,
             value: 0,

@@ -25,7 +25,14 @@ fn enter(table: &mut [u8], block: &[u8], fields: block::Fields) -> Answer
     if answer.refusal != 0 {
         return answer;
     }
-    row::put_row(table, &digest, fields.site, fields.sequence, references, &block[middle..]);
+    row::put_row(
+        table,
+        &digest,
+        fields.site,
+        fields.sequence,
+        references,
+        &block[middle..],
+    );
     answer
 }
 

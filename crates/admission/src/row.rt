@@ -15,13 +15,25 @@ fn put_requests(table: &mut [u8], at: usize, list: &[u8])
     let mut slot = 0;
     while slot < block::SLOTS {
         let number = block::requests::counted_request(list, slot as u8);
-        base::put(table, at + 2 * slot, &[(number / 256) as u8, (number % 256) as u8]);
+        base::put(
+            table,
+            at + 2 * slot,
+            &[(number / 256) as u8, (number % 256) as u8],
+        );
         slot += 1;
     }
 }
 
 // Writes an uninterpreted row from the index on.
-fn write_row(table: &mut [u8], at: usize, digest: &[u8], site: u8, sequence: u16, references: u64, requests: &[u8])
+fn write_row(
+    table: &mut [u8],
+    at: usize,
+    digest: &[u8],
+    site: u8,
+    sequence: u16,
+    references: u64,
+    requests: &[u8],
+)
     requires { ⌜ (at + rowSize ≤ length (now table)) × (length (now digest) ≡ referenceSize) ⌝ }
     ensures { λ _. ⌜ now (table .exit) ≡ splice (now (table .entry)) at (rowBytes (rowWith (now (digest .entry)) site sequence references (now (requests .entry)))) ⌝ }
 {
@@ -31,13 +43,24 @@ fn write_row(table: &mut [u8], at: usize, digest: &[u8], site: u8, sequence: u16
         at + table::SITE_OFFSET,
         &[site, (sequence / 256) as u8, (sequence % 256) as u8],
     );
-    base::put(table, at + table::REFERENCES_OFFSET, &base::word_bytes(references));
+    base::put(
+        table,
+        at + table::REFERENCES_OFFSET,
+        &base::word_bytes(references),
+    );
     put_requests(table, at + table::REQUESTS_OFFSET, requests);
     base::put(table, at + table::MARK_OFFSET, &[0u8]);
 }
 
 // Puts an uninterpreted row at the next place, and the count one more.
-pub fn put_row(table: &mut [u8], digest: &[u8], site: u8, sequence: u16, references: u64, requests: &[u8])
+pub fn put_row(
+    table: &mut [u8],
+    digest: &[u8],
+    site: u8,
+    sequence: u16,
+    references: u64,
+    requests: &[u8],
+)
     requires { ⌜ Room (now table) × (length (now digest) ≡ referenceSize) ⌝ }
     ensures { λ _. ⌜ now (table .exit) ≡ withRow (now (table .entry)) (rowWith (now (digest .entry)) site sequence references (now (requests .entry))) ⌝ }
 {

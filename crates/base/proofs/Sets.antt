@@ -66,10 +66,10 @@ none-from w m i h l = by-test (anyBelow (λ p. leb i p && inMask m p) w) some no
       where
         out : eqb (m / 2 ^ i) 0 ≡ true → (p : ℕ) → (leb i p && inMask m p) ≡ false
         out z p = not-true-false (leb i p && inMask m p) (λ y.
-          let low : m < 2 ^ i = small (eqb-true (m / 2 ^ i) 0 z) in
-          let high : i ≤ p = leb-true i p (and-left (leb i p) (inMask m p) y) in
-          let none : bitAt m p ≡ 0 = ap (λ (x : ℕ). x % 2) (div-eq-of-lt (omega (arith, pow-mono high))) in
-          true-not-false (and-right (leb i p) (inMask m p) y) (rw none))
+            let low : m < 2 ^ i = small (eqb-true (m / 2 ^ i) 0 z) in
+            let high : i ≤ p = leb-true i p (and-left (leb i p) (inMask m p) y) in
+            let none : bitAt m p ≡ 0 = ap (λ (x : ℕ). x % 2) (div-eq-of-lt (omega (arith, pow-mono high))) in
+            true-not-false (and-right (leb i p) (inMask m p) y) (rw none))
           where
             small : m / 2 ^ i ≡ 0 → m < 2 ^ i
             small e = let s : 0 * 2 ^ i + m % 2 ^ i ≡ m = rw e at (split m i) in omega (arith, mod-lt m (pow-pos i))

@@ -26,9 +26,10 @@ module _ (c : Check) (cs : List Check) (value : ℕ) where
 
   -- the first check does not answer n
   pub past-check : (n : ℕ) → (c .holds ≡ false → c .number ≢ n) → (answerTo (c ∷ cs) value .refusal ≡ n) ↔ ((c .holds ≡ true) × (answerTo cs value .refusal ≡ n))
-  past-check n other =
-      (λ e. by-test (c .holds) (λ y. (y, sym (rest-answers y) ∙ e)) (λ f. absurd (other f (sym (here-refused f) ∙ e))),
-      λ p. rest-answers (p .0) ∙ p .1)
+  past-check n other = (
+    λ e. by-test (c .holds) (λ y. (y, sym (rest-answers y) ∙ e)) (λ f. absurd (other f (sym (here-refused f) ∙ e))),
+    λ p. rest-answers (p .0) ∙ p .1,
+  )
 
   -- no later check answers its number
   pub at-check : answerTo cs value .refusal ≢ c .number → (answerTo (c ∷ cs) value .refusal ≡ c .number) ↔ (c .holds ≡ false)

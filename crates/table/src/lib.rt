@@ -1,9 +1,9 @@
 // A site's table: the setup and what is held of each block, as bytes that the caller lends. Promises: a lent buffer of any length and
 // content is judged as specs/Form.antt says, a fresh table is the layout of its setup, and a table in form is the layout of its own
 // contents (proofs/Laid.antt). Assumes nothing of the bytes.
+mod form;
 pub mod rows;
 pub mod rules;
-mod form;
 
 use block::Answer;
 use block::REFERENCE_SIZE;

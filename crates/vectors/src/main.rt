@@ -1,5 +1,7 @@
-// A test program: the digests of published messages, and what reading answers of blocks at every limit. The file stdout has what it
-// must write; the values there are the standard's and document 01's. Promises: safe, and ends. Assumes: the contracts of io and libc.
+// A test program: the digests of published messages, what reading answers of blocks at every limit, and what admission answers of a
+// table that fills up. The file stdout has what it must write; the values there are the standard's and document 01's. Promises: safe,
+// and ends. Assumes: the contracts of io and libc.
+mod admissions;
 mod blocks;
 mod digests;
 mod line;
@@ -7,4 +9,5 @@ mod line;
 fn main() {
     digests::show_all();
     blocks::show_all();
+    admissions::show_all();
 }

@@ -135,9 +135,11 @@ enter-requires c κs =
     let v = r .before in
     let d = v .before in
     let s = d .before .before .before in
-    let a = s .before .before .before .before .before .before .before .args in
-    (sized _ (formed (s .before .before)), shaped _ (shape s),
-    fields (a .table .now) (a .block .now) (a .verdict) (formed (s .before .before)) (shape s) (d .if3 .left) (v .if4 .left) _ (r .read-block .ensures) _ (m .reading .given .1))
+    let a = s .before .before .before .before .before .before .before .args in (
+      sized _ (formed (s .before .before)),
+      shaped _ (shape s),
+      fields (a .table .now) (a .block .now) (a .verdict) (formed (s .before .before)) (shape s) (d .if3 .left) (v .if4 .left) _ (r .read-block .ensures) _ (m .reading .given .1),
+    )
 
 returns-6 : tie.Need-returns-6
 returns-6 c =

@@ -45,10 +45,12 @@ loop-again : tie.Need-loop-again Inv-loop μ-loop
 loop-again c =
     let l = c .before .before .loop in
     let b = c .before .before .before .args .bytes .now in
-    let e : (l .i - 1) + 1 ≡ l .i = omega arith in
-    (omega arith, search needs,
-    ap (λ (n : ℕ). n * 256 + getD b (l .i - 1) 0) (l .inv .2 ∙ ap (λ (n : ℕ). word (drop n b)) (sym e)) ∙ sym (word-drop b (l .i - 1) (omega arith)),
-    word-more (l .x) (getD b (l .i - 1) 0) (l .i) (omega arith) (omega arith) (l .inv .3) (byte c))
+    let e : (l .i - 1) + 1 ≡ l .i = omega arith in (
+      omega arith,
+      search needs,
+      ap (λ (n : ℕ). n * 256 + getD b (l .i - 1) 0) (l .inv .2 ∙ ap (λ (n : ℕ). word (drop n b)) (sym e)) ∙ sym (word-drop b (l .i - 1) (omega arith)),
+      word-more (l .x) (getD b (l .i - 1) 0) (l .i) (omega arith) (omega arith) (l .inv .3) (byte c),
+    )
 
 returns : tie.Need-returns Inv-loop μ-loop
 returns c =

@@ -23,8 +23,14 @@ one n (inr (inr (inr (inr (inr e))))) = rw e
 none : (n : ℕ) → (Listed n → ⊥) → false ≡ lawfulSites n
 unfolding lawfulSites
 none n h =
-    rw (ne-eqb n 1 (λ e. h (inl e)), ne-eqb n 4 (λ e. h (inr (inl e))), ne-eqb n 7 (λ e. h (inr (inr (inl e)))), ne-eqb n 10 (λ e. h (inr (inr (inr (inl e))))),
-    ne-eqb n 13 (λ e. h (inr (inr (inr (inr (inl e)))))), ne-eqb n 16 (λ e. h (inr (inr (inr (inr (inr e)))))))
+    rw (
+      ne-eqb n 1 (λ e. h (inl e)),
+      ne-eqb n 4 (λ e. h (inr (inl e))),
+      ne-eqb n 7 (λ e. h (inr (inr (inl e)))),
+      ne-eqb n 10 (λ e. h (inr (inr (inr (inl e))))),
+      ne-eqb n 13 (λ e. h (inr (inr (inr (inr (inl e)))))),
+      ne-eqb n 16 (λ e. h (inr (inr (inr (inr (inr e)))))),
+    )
 
 returns : tie.Need-returns
 returns c = one (c .before .args .sites) (c .match .keys1)

@@ -57,9 +57,13 @@ loop-again : tie.Need-loop-again Inv-loop μ-loop
 loop-again c =
     let r = c .before .before in
     let l = r .before .before .loop in
-    let a = r .before .before .before .before .before .args in
-    (omega arith, search needs, search needs, first-past (absent (a .table .now) (a .k) (a .list .now)) (l .i) (l .inv .3)
-    (is-there (a .table .now) (a .k) (a .list .now) _ (l .i) _ (r .reference .ensures) (c .before .place-of .ensures) (c .if1 .left)))
+    let a = r .before .before .before .before .before .args in (
+      omega arith,
+      search needs,
+      search needs,
+      first-past (absent (a .table .now) (a .k) (a .list .now)) (l .i) (l .inv .3)
+          (is-there (a .table .now) (a .k) (a .list .now) _ (l .i) _ (r .reference .ensures) (c .before .place-of .ensures) (c .if1 .left)),
+    )
 
 returns-2 : tie.Need-returns-2 Inv-loop μ-loop
 returns-2 c =

@@ -32,8 +32,7 @@ loop-again c =
     let l = d .loop in
     let a = d .before .before .before .before .args in
     let f : ℕ → Bool = λ j. among (a .list .now) (digestAt (a .table .now) j) in
-    let e : m .is-among .result ≡ f (l .j) = m .is-among .ensures ∙ ap (among (a .list .now)) (m .before .digest-at .ensures) in
-    (
+    let e : m .is-among .result ≡ f (l .j) = m .is-among .ensures ∙ ap (among (a .list .now)) (m .before .digest-at .ensures) in (
       omega arith,
       search needs,
       search needs,

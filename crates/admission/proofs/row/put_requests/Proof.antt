@@ -51,8 +51,7 @@ loop-again c =
     let p = c .before .before in
     let n = p .before .before .before in
     let l = n .before .before .loop in
-    let a = n .before .before .before .before .before .args in
-    (
+    let a = n .before .before .before .before .before .args in (
       omega arith,
       search needs,
       same-length (a .table .now) (l .table) _ (a .at) (l .slot) _ (a .list .now) (search needs) (search needs) (l .inv .2) (p .put .ensures),

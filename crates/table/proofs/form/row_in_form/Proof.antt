@@ -125,8 +125,18 @@ returns-7 c =
     let b = c .before .before in
     let d = back4 (back5 (back6 b)) in
     let e = back2 (back3 d) in
-    rw (site e, mark (back3 d), below d, sixteen (back5 (back6 b)), new (back6 b), closed (b .before) ∙ not-false _ (b .if6 .left), ← rule-row (t e) (i e),
-    ← d .before .references-at .ensures, ← e .before .before .site-at .ensures, ← c .before .sequence-at .ensures)
+    rw (
+      site e,
+      mark (back3 d),
+      below d,
+      sixteen (back5 (back6 b)),
+      new (back6 b),
+      closed (b .before) ∙ not-false _ (b .if6 .left),
+      ← rule-row (t e) (i e),
+      ← d .before .references-at .ensures,
+      ← e .before .before .site-at .ensures,
+      ← c .before .sequence-at .ensures,
+    )
     (c .parent-rule .ensures)
 
 pub row-in-form-spec : {M : Type 1} → statement M

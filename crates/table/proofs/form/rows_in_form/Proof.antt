@@ -32,9 +32,12 @@ returns c =
 loop-again : tie.Need-loop-again Inv-loop μ-loop
 loop-again c =
     let l = c .before .before .before .loop in
-    let a = c .before .before .before .before .before .args in
-    (omega arith, search needs, one-more (λ j. rowInForm (setupOf (a .table .now)) (viewOf (a .table .now)) j ≡ true) (l .i)
-    (sym (c .before .row-in-form .ensures) ∙ not-false _ (c .if1 .left)) (l .inv .2))
+    let a = c .before .before .before .before .before .args in (
+      omega arith,
+      search needs,
+      one-more (λ j. rowInForm (setupOf (a .table .now)) (viewOf (a .table .now)) j ≡ true) (l .i)
+          (sym (c .before .row-in-form .ensures) ∙ not-false _ (c .if1 .left)) (l .inv .2),
+    )
 
 returns-2 : tie.Need-returns-2 Inv-loop μ-loop
 returns-2 c =

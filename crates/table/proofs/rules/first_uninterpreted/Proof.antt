@@ -21,21 +21,24 @@ loop-holds : tie.Need-loop-holds Inv-loop μ-loop
 loop-holds c = (omega arith, search needs, first-none _)
 
 returns : tie.Need-returns Inv-loop μ-loop
-returns c = 
+returns c =
     let l = c .before .before .before .loop in
     let a = c .before .before .before .before .before .args in
     sym (first-hit (refersUninterpreted (viewOf (a .table .now)) (rowOf 0 0 (a .references))) (l .j) (a .k) (omega arith) (l .inv .2)
     (sym (c .before .refers-uninterpreted .ensures) ∙ c .if1 .taken))
 
 loop-again : tie.Need-loop-again Inv-loop μ-loop
-loop-again c = 
+loop-again c =
     let l = c .before .before .before .loop in
-    let a = c .before .before .before .before .before .args in
-    (omega arith, search needs, first-past (refersUninterpreted (viewOf (a .table .now)) (rowOf 0 0 (a .references))) (l .j) (l .inv .2)
-    (sym (c .before .refers-uninterpreted .ensures) ∙ c .if1 .left))
+    let a = c .before .before .before .before .before .args in (
+      omega arith,
+      search needs,
+      first-past (refersUninterpreted (viewOf (a .table .now)) (rowOf 0 0 (a .references))) (l .j) (l .inv .2)
+          (sym (c .before .refers-uninterpreted .ensures) ∙ c .if1 .left),
+    )
 
 returns-2 : tie.Need-returns-2 Inv-loop μ-loop
-returns-2 c = 
+returns-2 c =
     let l = c .before .loop in
     let e : l .j ≡ c .before .before .before .args .k = omega arith in
     sym (rw e at (l .inv .2))

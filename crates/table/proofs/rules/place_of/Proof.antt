@@ -22,7 +22,7 @@ loop-holds : tie.Need-loop-holds Inv-loop μ-loop
 loop-holds c = (omega arith, search needs, first-none _)
 
 returns : tie.Need-returns Inv-loop μ-loop
-returns c = 
+returns c =
     let d = c .before .before in
     let l = d .before .before .loop in
     let a = d .before .before .before .before .before .args in
@@ -30,15 +30,18 @@ returns c =
     (ap (λ (x : Bytes). sameBytes x (a .digest .now)) (sym (d .digest-at .ensures)) ∙ sym (c .before .same .ensures) ∙ c .if1 .taken))
 
 loop-again : tie.Need-loop-again Inv-loop μ-loop
-loop-again c = 
+loop-again c =
     let d = c .before .before in
     let l = d .before .before .loop in
-    let a = d .before .before .before .before .before .args in
-    (omega arith, search needs, first-past (hasDigest (viewOf (a .table .now)) (a .digest .now)) (l .j) (l .inv .2)
-    (ap (λ (x : Bytes). sameBytes x (a .digest .now)) (sym (d .digest-at .ensures)) ∙ sym (c .before .same .ensures) ∙ c .if1 .left))
+    let a = d .before .before .before .before .before .args in (
+      omega arith,
+      search needs,
+      first-past (hasDigest (viewOf (a .table .now)) (a .digest .now)) (l .j) (l .inv .2)
+          (ap (λ (x : Bytes). sameBytes x (a .digest .now)) (sym (d .digest-at .ensures)) ∙ sym (c .before .same .ensures) ∙ c .if1 .left),
+    )
 
 returns-2 : tie.Need-returns-2 Inv-loop μ-loop
-returns-2 c = 
+returns-2 c =
     let l = c .before .loop in
     let e : l .j ≡ c .before .before .before .before .args .k = omega arith in
     sym (rw e at (l .inv .2))

@@ -1,0 +1,137 @@
+/* What the form check of a full table costs, and an admission at its last place, as ratios to the digest of the longest
+ * block. Every call on a table begins with the form check, and every admission has such a digest in it.
+ * It prints what it measures and judges no speed. An answer other than the expected one ends it with status 1. */
+#include <stdbool.h>
+#include <stdint.h>
+#include <stdio.h>
+#include <stdlib.h>
+#include <string.h>
+
+#include "giangotum_core.h"
+#include "timing.h"
+
+enum { SITES = 16, LAST_PLACE = GT_MAX_PLACES - 1, CALLS = 2000 };
+
+static uint8_t full[GT_TABLE_BYTES];    /* with all 64 blocks */
+static uint8_t but_one[GT_TABLE_BYTES]; /* before the last of them */
+static uint8_t lent[GT_TABLE_BYTES];    /* filled anew for each admission */
+static uint8_t block[GT_MAX_BLOCK_BYTES];
+static uint8_t digests[GT_MAX_PLACES][GT_DIGEST_BYTES];
+
+static void expect(bool holds, const char *message)
+{
+    if (!holds) {
+        puts(message);
+        exit(1);
+    }
+}
+
+/* ---- A campaign of four rounds. In each of them 16 sites build a block that refers to all blocks of the round before.
+ * The first round has the requests. The last block has some too, which makes it as long as a block can be. */
+
+/* Writes the block of a place and gives its length. */
+static size_t write_block(size_t place)
+{
+    size_t round = place / SITES, length = 5;
+    uint8_t references = round > 0 ? SITES : 0, requests = round == 0 || place == LAST_PLACE ? GT_SLOTS : 0;
+
+    memcpy(block, (uint8_t[]){(uint8_t)(place % SITES), 0, (uint8_t)round, references, requests}, length);
+    for (size_t i = 0; i < references; i++, length += GT_DIGEST_BYTES)
+        memcpy(block + length, digests[SITES * (round - 1) + i], GT_DIGEST_BYTES);
+    for (uint8_t slot = 0; slot < requests; slot++, length += 3)
+        memcpy(block + length, (uint8_t[]){slot, (uint8_t)place, 1}, 3);
+    return length;
+}
+
+static void fill_table(void)
+{
+    static const uint8_t owners[GT_SLOTS] = {0, 1, 2, 3, 4, 5, 6, 7};
+    size_t length = 0;
+
+    expect(gt_fresh(SITES, owners, GT_SLOTS, full, GT_TABLE_BYTES).refusal == 0, "the setup was refused");
+    for (size_t place = 0; place < GT_MAX_PLACES; place++) {
+        length = write_block(place);
+        gt_digest(block, length, digests[place], GT_DIGEST_BYTES);
+        memcpy(but_one, full, GT_TABLE_BYTES);
+        gt_answer answer = gt_admit(full, GT_TABLE_BYTES, block, length, 1);
+        expect(answer.refusal == 0 && answer.value == place, "a block of the campaign was refused");
+    }
+    expect(length == GT_MAX_BLOCK_BYTES, "the last block is not of 541 bytes");
+}
+
+/* ---- Batches */
+
+static double time_digest(void)
+{
+    uint8_t digest[GT_DIGEST_BYTES];
+    double start = cpu_seconds();
+
+    for (int i = 0; i < CALLS; i++)
+        gt_digest(block, GT_MAX_BLOCK_BYTES, digest, GT_DIGEST_BYTES);
+    return cpu_seconds() - start;
+}
+
+static double time_form(void)
+{
+    bool all = true;
+    double start = cpu_seconds();
+
+    for (int i = 0; i < CALLS; i++)
+        all = gt_in_form(full, GT_TABLE_BYTES) && all;
+    double taken = cpu_seconds() - start;
+    expect(all, "the full table is not in form");
+    return taken;
+}
+
+/* The table is put back before each call; that copy is in the time. */
+static double time_admission(void)
+{
+    bool all = true;
+    double start = cpu_seconds();
+
+    for (int i = 0; i < CALLS; i++) {
+        memcpy(lent, but_one, GT_TABLE_BYTES);
+        gt_answer answer = gt_admit(lent, GT_TABLE_BYTES, block, GT_MAX_BLOCK_BYTES, 1);
+        all = answer.refusal == 0 && answer.value == LAST_PLACE && all;
+    }
+    double taken = cpu_seconds() - start;
+    expect(all && memcmp(lent, full, GT_TABLE_BYTES) == 0, "the last block was refused");
+    return taken;
+}
+
+static void print_line(const char *call, double seconds[REPETITIONS], double ratio[REPETITIONS])
+{
+    printf("%-24s %12.2f %8.2f\n", call, 1e6 * median(seconds) / CALLS, median(ratio));
+}
+
+int main(void)
+{
+    double digest[REPETITIONS], form[REPETITIONS], admission[REPETITIONS];
+    double one[REPETITIONS], form_ratio[REPETITIONS], admission_ratio[REPETITIONS];
+
+    fill_table();
+    time_digest();
+    time_form();
+    time_admission();
+    for (int i = 0; i < REPETITIONS; i++) {
+        digest[i] = time_digest();
+        form[i] = time_form();
+        admission[i] = time_admission();
+        one[i] = 1;
+        form_ratio[i] = form[i] / digest[i];
+        admission_ratio[i] = admission[i] / digest[i];
+    }
+
+    puts("A full table: its form check, and the admission that fills it, against the digest of a block of 541 bytes.");
+    puts("The table has 16 sites and 64 blocks: four rounds, each block with references to all 16 of the round before.");
+    printf("Measured in CPU time: medians of %d repetitions, each a batch of %d calls of digest, form and admission in\n",
+           REPETITIONS, CALLS);
+    puts("turn, after a batch of each to warm up. Before each admission the table is put back; that copy of 3,850 bytes");
+    puts("is counted with it. A ratio is the median of the ratios within the repetitions.");
+    puts("");
+    puts("call                     microseconds  digests");
+    print_line("gt_digest, 541 bytes", digest, one);
+    print_line("gt_in_form, 64 places", form, form_ratio);
+    print_line("gt_admit, at place 63", admission, admission_ratio);
+    return 0;
+}

@@ -1,0 +1,5 @@
+-- The cases hold.
+pub mod Toy
+pub mod Opened
+pub mod Full
+pub mod Cases

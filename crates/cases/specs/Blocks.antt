@@ -1,0 +1,69 @@
+-- The blocks and tables that the cases share.
+use mathlib.Core.List.{[], _∷_}
+use Prim.Native.Nat.{ℕ, _+_}
+use lib.ListN.{replicate}
+use Rattle.base.specs.Bytes.{Bytes}
+use Rattle.block.specs.Limits.{slotCount}
+use Rattle.setup.specs.Setup.{Setup}
+use Rattle.table.specs.Layout.{layout}
+use Rattle.table.specs.Fresh.{nothing, emptyTable}
+use Rattle.admission.specs.Admission.{rowFor}
+use Rattle.cases.specs.Toy.{toy, request, block}
+use Rattle.cases.specs.Run.{good, tableAfter}
+
+-- ---- tables that hold nothing
+
+-- n sites, and every slot owned by site 0
+abbrev pub sites : ℕ → Setup
+sites n = record { sites = n; owners = replicate slotCount 0 }
+
+-- n 4, owner 0
+unfoldable pub fresh : Bytes
+fresh = emptyTable (sites 4)
+
+-- n 3: not in form, for its setup is not lawful
+unfoldable pub unlawful : Bytes
+unlawful = emptyTable (sites 3)
+
+-- ---- blocks
+
+-- "site 0 forks with 42 and 43 at sequence 0"
+unfoldable pub first : Bytes
+first = block 0 0 [] (request 0 42 ∷ [])
+
+unfoldable pub fork : Bytes
+fork = block 0 0 [] (request 0 43 ∷ [])
+
+-- the block after the first
+unfoldable pub second : Bytes
+second = block 0 1 (toy first ∷ []) []
+
+-- a block of site 1 that refers to both forks
+unfoldable pub both : Bytes
+both = block 1 0 (toy first ∷ toy fork ∷ []) []
+
+-- a block that never arrives
+unfoldable pub stranger : Bytes
+stranger = block 3 0 [] (request 0 99 ∷ [])
+
+-- a block of site 3 that refers to the second fork
+unfoldable pub third : Bytes
+third = block 3 0 (toy fork ∷ []) []
+
+-- the one after it refers to it and to the first, and requests slot 5 twice
+unfoldable pub fourth : Bytes
+fourth = block 3 1 (toy third ∷ toy first ∷ []) (request 5 772 ∷ request 5 773 ∷ request 7 1 ∷ [])
+
+-- blocks that differ in the number requested
+unfoldable pub numbered : ℕ → Bytes
+numbered i = block 0 0 [] (request 0 (i + 1) ∷ [])
+
+-- ---- tables that hold some
+
+-- places 0 to 3
+unfoldable pub four : Bytes
+four = tableAfter toy fresh (good first ∷ good fork ∷ good third ∷ good fourth ∷ [])
+
+-- the first k of the numbered blocks, written down at once: 64 admissions one after the other would be slow to evaluate
+unfoldable pub holding : ℕ → Bytes
+holding k = layout (sites 4) (record { held = k; row = λ i. rowFor toy nothing (numbered i) })

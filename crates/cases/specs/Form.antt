@@ -1,0 +1,59 @@
+-- Tables in form and out of form: document 01, "The table", condition by condition. Each row changes a few bytes of a table in form.
+use mathlib.Core.Path.{_≡_}
+use mathlib.Core.Bool.{true, false}
+use mathlib.Core.List.{[], _∷_, _++_}
+use Prim.Native.Nat.{ℕ, _+_, _-_, _^_}
+use lib.ListN.{take}
+use Rattle.base.specs.Bytes.{Bytes, splice}
+use Rattle.base.specs.Word.{wordSize, wordBytes}
+use Rattle.table.specs.Layout.{ownersOffset, countOffset, siteOffset, sequenceOffset, referencesOffset, markOffset, rowStart, tableSize, digestAt}
+use Rattle.table.specs.Form.{inForm}
+use Rattle.cases.specs.Blocks.{four, holding}
+
+-- the table with one byte changed
+abbrev pub changed : Bytes → ℕ → ℕ → Bytes
+changed t at byte = splice t at (byte ∷ [])
+
+-- the table with another set of places that a place refers to
+abbrev pub referring : Bytes → ℕ → ℕ → Bytes
+referring t i mask = splice t (rowStart i + referencesOffset) (wordBytes wordSize mask)
+
+-- the table with a place marked
+abbrev pub marked : Bytes → ℕ → ℕ → Bytes
+marked t i mark = changed t (rowStart i + markOffset) mark
+
+-- `four` holds two forks of site 0 at places 0 and 1, a block of site 3 that refers to place 1 at place 2, and the one after it, which
+-- refers to places 0 and 2, at place 3
+pub record FormCases : Type 0 where
+  pub formed : inForm four ≡ true
+  -- the buffer's length
+  pub shorter : inForm (take (tableSize - 1) four) ≡ false
+  pub longer : inForm (four ++ (0 ∷ [])) ≡ false
+  -- "setup lawful": five sites; an owner that is no site
+  pub fiveSites : inForm (changed four 0 5) ≡ false
+  pub ownerFour : inForm (changed four (ownersOffset + 7) 4) ≡ false
+  -- "a count up to 64"
+  pub sixtyFive : inForm (changed (holding 64) countOffset 65) ≡ false
+  -- "Entries from the count on are zero": the first byte, and the last
+  pub firstAfter : inForm (changed four (rowStart 4) 1) ≡ false
+  pub lastAfter : inForm (changed four (tableSize - 1) 1) ≡ false
+  -- "at most 16 references a place"
+  pub sixteenReferences : inForm (referring (holding 18) 17 (2 ^ 16 - 1)) ≡ true
+  pub seventeenReferences : inForm (referring (holding 18) 17 (2 ^ 17 - 1)) ≡ false
+  -- "digests all different"
+  pub sameDigest : inForm (splice four (rowStart 3) (digestAt four 0)) ≡ false
+  -- "sites below n"
+  pub siteFour : inForm (changed four (rowStart 1 + siteOffset) 4) ≡ false
+  -- "references only to lower places": to itself, and to a place from the count on
+  pub itself : inForm (referring four 0 1) ≡ false
+  pub beyond : inForm (referring four 0 (2 ^ 63)) ≡ false
+  -- interpreted or not
+  pub markTwo : inForm (marked four 0 2) ≡ false
+  -- "an interpreted place has all its references interpreted"
+  pub referenceMarked : inForm (marked (marked four 1 1) 2 1) ≡ true
+  pub referenceUnmarked : inForm (marked (marked four 0 1) 2 1) ≡ false
+  -- "the parent rule holds": one parent; none; one of another sequence number; two
+  pub oneParent : inForm (changed four (rowStart 3 + siteOffset) 0) ≡ true
+  pub noParent : inForm (changed four (rowStart 2 + sequenceOffset + 1) 1) ≡ false
+  pub parentOfHigherSequence : inForm (changed four (rowStart 3 + sequenceOffset + 1) 2) ≡ false
+  pub twoParents : inForm (changed (referring four 3 7) (rowStart 3 + siteOffset) 0) ≡ false

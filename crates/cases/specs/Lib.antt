@@ -1,0 +1,6 @@
+-- Cases of document 01's rules: how they are written down, how they are run, and what each gives.
+pub mod Toy
+pub mod Run
+pub mod Blocks
+pub mod Form
+pub mod Cases

@@ -1,0 +1,31 @@
+-- Blocks written down by their fields, and a toy digest of them. The cases are about the rules, and SHA-256 would be slow to evaluate at each
+-- step of a run; the test program runs them with SHA-256.
+use mathlib.Core.Path.{_≡_}
+use mathlib.Core.List.{List, _++_}
+use Prim.Native.Nat.{ℕ}
+use lib.ListN.{length, take, replicate}
+use Rattle.base.specs.Bytes.{Bytes}
+use Rattle.block.specs.Limits.{headerSize, referenceSize}
+use Rattle.block.specs.Layout.{requestList, encode}
+use Rattle.block.specs.declared.Request.{Request}
+
+abbrev zeros : Bytes
+zeros = replicate referenceSize 0
+
+-- header and request list, then zeros: 32 bytes. Two blocks share it only where they have the same site, sequence number, counts and requests
+-- and refer to other blocks; cases that need a shared digest have two such
+unfoldable pub toy : Bytes → Bytes
+toy b = take referenceSize (take headerSize b ++ (requestList b ++ zeros))
+
+-- a number requested in a slot
+abbrev pub request : ℕ → ℕ → Request
+request slot number = record { slot = slot; number = number }
+
+-- the bytes of a block: site, sequence number, the digests that it refers to, and its requests
+unfoldable pub block : ℕ → ℕ → List Bytes → List Request → Bytes
+block site sequence references requests =
+    encode (record { site = site; sequence = sequence; references = references; requests = requests })
+
+pub record ToyDigest : Type 0 where
+  -- it is as long as a digest, whatever the bytes
+  pub size : (b : Bytes) → length (toy b) ≡ referenceSize

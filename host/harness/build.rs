@@ -1,0 +1,22 @@
+//! Links the library's two archives: from the folder that GT_LIBRARIES names, else from the repository's own.
+
+use std::env;
+use std::path::{Path, PathBuf};
+
+const ARCHIVES: [&str; 2] = ["core_interface", "c_interface"];
+
+fn main() {
+    let manifest = env::var("CARGO_MANIFEST_DIR").expect("cargo sets CARGO_MANIFEST_DIR");
+    let folder = match env::var("GT_LIBRARIES") {
+        Ok(folder) => PathBuf::from(folder),
+        Err(_) => Path::new(&manifest).join("../../target/staticlib"),
+    };
+    println!("cargo:rerun-if-env-changed=GT_LIBRARIES");
+    println!("cargo:rerun-if-changed=build.rs");
+    println!("cargo:rustc-link-search=native={}", folder.display());
+    for archive in ARCHIVES {
+        println!("cargo:rustc-link-lib=static={archive}");
+        let file = folder.join(format!("lib{archive}.a"));
+        println!("cargo:rerun-if-changed={}", file.display());
+    }
+}

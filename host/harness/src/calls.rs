@@ -1,0 +1,13 @@
+//! The calls that are compared. The library answers them, and so does the model.
+//!
+//! Every buffer is lent writable, also where a call should only read: so a call that writes there is seen.
+
+use crate::answer::{Answer, Reading};
+
+pub trait Calls {
+    fn fresh(&self, sites: u8, owners: &mut [u8], table: &mut [u8]) -> Answer;
+    fn in_form(&self, table: &mut [u8]) -> bool;
+    fn admit(&self, table: &mut [u8], block: &mut [u8], verdict: u8) -> Answer;
+    fn read_block(&self, block: &mut [u8]) -> Reading;
+    fn digest(&self, message: &mut [u8], output: &mut [u8]) -> Answer;
+}

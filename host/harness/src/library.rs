@@ -1,0 +1,44 @@
+//! The library's C functions as `Calls`. The only unsafe code of the harness.
+
+use crate::answer::{Answer, Reading};
+use crate::calls::Calls;
+
+// libcore_interface.a
+extern "C" {
+    fn gt_fresh(sites: u8, owners: *const u8, owners_length: usize, table: *mut u8, table_length: usize) -> Answer;
+    fn gt_in_form(table: *const u8, table_length: usize) -> bool;
+    fn gt_admit(table: *mut u8, table_length: usize, block: *const u8, block_length: usize, verdict: u8) -> Answer;
+}
+
+// libc_interface.a
+extern "C" {
+    fn gt_digest(message: *const u8, message_length: usize, output: *mut u8, output_length: usize) -> Answer;
+    fn gt_read_block(block: *const u8, block_length: usize) -> Reading;
+}
+
+pub struct Library;
+
+// What the functions ask of their caller holds for each call below: a pointer has as many bytes behind it as the
+// length beside it says, and no two buffers overlap, since each comes from a slice that is borrowed alone.
+// The pointers are taken as writable ones, so that the compiler may not take a buffer as unchanged by the call.
+impl Calls for Library {
+    fn fresh(&self, sites: u8, owners: &mut [u8], table: &mut [u8]) -> Answer {
+        unsafe { gt_fresh(sites, owners.as_mut_ptr(), owners.len(), table.as_mut_ptr(), table.len()) }
+    }
+
+    fn in_form(&self, table: &mut [u8]) -> bool {
+        unsafe { gt_in_form(table.as_mut_ptr(), table.len()) }
+    }
+
+    fn admit(&self, table: &mut [u8], block: &mut [u8], verdict: u8) -> Answer {
+        unsafe { gt_admit(table.as_mut_ptr(), table.len(), block.as_mut_ptr(), block.len(), verdict) }
+    }
+
+    fn read_block(&self, block: &mut [u8]) -> Reading {
+        unsafe { gt_read_block(block.as_mut_ptr(), block.len()) }
+    }
+
+    fn digest(&self, message: &mut [u8], output: &mut [u8]) -> Answer {
+        unsafe { gt_digest(message.as_mut_ptr(), message.len(), output.as_mut_ptr(), output.len()) }
+    }
+}

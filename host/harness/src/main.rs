@@ -1,0 +1,75 @@
+//! Compares the library with an implementation of document 01 of its own, on seeded random and damaged input.
+//!
+//!     harness [--seed S] [--cases N] [--only K]    compares the library with the model
+//!     harness --self-test [--seed S] [--cases N]   shows that the comparison finds each of a list of mistakes
+//!
+//! Status 0: no difference. 1: a difference, or a mistake that wasn't found. 2: bad arguments.
+
+mod admission;
+mod answer;
+mod arrivals;
+mod block;
+mod calls;
+mod cases;
+mod checks;
+mod compare;
+mod counts;
+mod damage;
+mod draft;
+mod examples;
+mod form;
+mod library;
+mod model;
+mod mutants;
+mod options;
+mod random;
+mod self_test;
+mod setup;
+mod sha256;
+mod sizes;
+mod table;
+mod tables;
+
+use std::process::ExitCode;
+
+use crate::cases::first_difference;
+use crate::counts::Counts;
+use crate::library::Library;
+use crate::options::Options;
+
+/// A broken library would differ in most cases; a few tell enough.
+const MOST_DIFFERENCES: usize = 5;
+
+const BAD_ARGUMENTS: u8 = 2;
+
+fn main() -> ExitCode {
+    let options = match Options::from_arguments(std::env::args().skip(1)) {
+        Ok(options) => options,
+        Err(message) => {
+            eprintln!("harness: {message}");
+            eprintln!("usage: harness [--seed S] [--cases N] [--only K] [--self-test]");
+            return ExitCode::from(BAD_ARGUMENTS);
+        }
+    };
+    let passed = if options.self_test { self_test::run(&options) } else { compare_library(&options) };
+    if passed {
+        ExitCode::SUCCESS
+    } else {
+        ExitCode::FAILURE
+    }
+}
+
+fn compare_library(options: &Options) -> bool {
+    let seed = options.seed;
+    let mut cases = options.cases.clone();
+    let mut counts = Counts::default();
+    let mut differences = 0;
+    while differences < MOST_DIFFERENCES {
+        let Some((case, difference)) = first_difference(&Library, seed, &mut cases, &mut counts) else { break };
+        differences += 1;
+        println!("seed {seed}, case {case}: {difference}");
+    }
+    print!("{counts}");
+    println!("{} cases, {differences} differences", counts.cases);
+    differences == 0
+}

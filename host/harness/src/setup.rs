@@ -1,0 +1,17 @@
+//! Document 01, "Setup and digest": a site count n and eight owners.
+
+use crate::sizes::{SITE_COUNTS, SLOTS};
+
+/// "n is 1, 4, 7, 10, 13 or 16".
+pub fn site_count_lawful(sites: u8) -> bool {
+    SITE_COUNTS.contains(&sites)
+}
+
+/// "An owner is below n."
+pub fn owners_lawful(sites: u8, owners: &[u8]) -> bool {
+    owners.iter().all(|&owner| owner < sites)
+}
+
+pub fn lawful(sites: u8, owners: &[u8]) -> bool {
+    owners.len() == SLOTS && site_count_lawful(sites) && owners_lawful(sites, owners)
+}

@@ -1,0 +1,22 @@
+//! The document's numbers, each behind one name.
+
+/// What n may be.
+pub const SITE_COUNTS: [u8; 6] = [1, 4, 7, 10, 13, 16];
+pub const SLOTS: usize = 8;
+
+pub const DIGEST_BYTES: usize = 32;
+pub const HEADER_BYTES: usize = 5;
+pub const REQUEST_BYTES: usize = 3;
+pub const MAX_REFERENCES: usize = 16;
+pub const MAX_REQUESTS: usize = 8;
+pub const MAX_BLOCK_BYTES: usize = HEADER_BYTES + DIGEST_BYTES * MAX_REFERENCES + REQUEST_BYTES * MAX_REQUESTS;
+
+pub const PLACES: usize = 64;
+pub const HEAD_BYTES: usize = 1 + SLOTS + 1;
+pub const ROW_BYTES: usize = DIGEST_BYTES + 1 + 2 + PLACES / 8 + 2 * SLOTS + 1;
+pub const TABLE_BYTES: usize = HEAD_BYTES + PLACES * ROW_BYTES;
+
+// The sums as the documents give them.
+const _: () = assert!(MAX_BLOCK_BYTES == 541);
+const _: () = assert!(ROW_BYTES == 60);
+const _: () = assert!(TABLE_BYTES == 3850);

@@ -1,0 +1,48 @@
+//! Random setups, and random tables in form, most of which no calls reach.
+
+use crate::draft::lineage;
+use crate::random::Random;
+use crate::sha256::Digest;
+use crate::sizes::{DIGEST_BYTES, PLACES, SITE_COUNTS};
+use crate::table::{places, Row, Table};
+
+/// A lawful setup with no block held.
+pub fn empty(random: &Random) -> Table {
+    let sites = random.pick(&SITE_COUNTS);
+    let owners = std::array::from_fn(|_| random.below(sites.into()) as u8);
+    Table::empty(sites, owners)
+}
+
+/// A table in form, with 0 to 64 places. Full tables and nearly full ones come often.
+pub fn in_form(random: &Random) -> Table {
+    let mut table = empty(random);
+    let any = random.between(0, PLACES);
+    let count = random.pick(&[PLACES, PLACES - 1, random.between(0, 3), any, any, any]);
+    let zero_digest_at = random.below(4 * PLACES);
+    // Marks are many or few; a table with a mark wherever one may be shows more than one without.
+    let unmarked_one_in = random.pick(&[1, 2, 8, 64]);
+    while table.count < count {
+        let (site, sequence, references) = lineage(random, &table);
+        let markable = places(references).all(|place| table.rows[place].mark == 1);
+        let digest = if table.count == zero_digest_at { [0; DIGEST_BYTES] } else { new_digest(random, &table) };
+        let requests = std::array::from_fn(|_| random.pick(&[0, 1, random.number()]));
+        let mark = u8::from(markable && !random.one_in(unmarked_one_in));
+        table.rows[table.count] = Row { digest, site, sequence, references, requests, mark };
+        table.count += 1;
+    }
+    table
+}
+
+/// A digest that isn't held; sometimes only one bit makes it so.
+fn new_digest(random: &Random, table: &Table) -> Digest {
+    loop {
+        let mut digest = random.array();
+        if table.count > 0 && random.one_in(4) {
+            digest = random.near(random.pick(table.held()).digest);
+        }
+        // The zero digest has a place of its own, if any.
+        if digest != [0; DIGEST_BYTES] && table.place_of(&digest).is_none() {
+            return digest;
+        }
+    }
+}
