@@ -75,10 +75,10 @@ $(CORE_LIBRARY): | $(C_LIBRARY)
 $(HOST)/dome: host/dome.c host/giangotum.h $(C_LIBRARY) | $(HOST)
 	$(CC) $(CFLAGS) -Ihost -o $@ $< $(C_LIBRARY)
 
-$(HOST)/digests $(HOST)/calls: $(HOST)/%: host/tests/%.c host/giangotum.h $(C_LIBRARY) | $(HOST)
+$(HOST)/digests $(HOST)/calls: $(HOST)/%: host/tests/%.c host/tests/checks.h host/giangotum.h $(C_LIBRARY) | $(HOST)
 	$(CC) $(CFLAGS) -Ihost -o $@ $< $(C_LIBRARY)
 
-$(HOST)/core_calls: host/tests/core_calls.c $(HEADERS) $(LIBRARIES) | $(HOST)
+$(HOST)/core_calls: host/tests/core_calls.c host/tests/checks.h $(HEADERS) $(LIBRARIES) | $(HOST)
 	$(CC) $(CFLAGS) -Ihost -o $@ $< $(LIBRARIES)
 
 $(HOST)/bench_sha256: bench/sha256.c bench/sha256_baseline.c bench/timing.h host/giangotum.h $(C_LIBRARY) | $(HOST)

@@ -1,22 +1,14 @@
 /* Calls the library at the edges of what it takes. Writes a line for each check, and ends with exit status 1 if one
  * fails. A block that is read lies in an allocation of its own length, so that valgrind sees a read past its end. */
+#include "checks.h"
 #include "giangotum.h"
 
 #include <stdbool.h>
-#include <stdio.h>
 #include <stdlib.h>
 #include <string.h>
 
 #define MESSAGE ((const uint8_t *)"abc")
 #define UNTOUCHED 0xa5
-
-static bool all_ok = true;
-
-static void check(const char *name, bool ok)
-{
-    printf("%s: %s\n", name, ok ? "ok" : "FAILED");
-    all_ok = all_ok && ok;
-}
 
 /* FIPS 180-2, appendix B.1: the digest of "abc". */
 static const uint8_t abc_digest[GT_DIGEST_BYTES] = {
@@ -73,21 +65,10 @@ static block block_with_repeated_reference(void)
     return b;
 }
 
-static uint8_t *exact_copy(const block *b)
-{
-    uint8_t *copy = malloc(b->length);
-
-    if (copy == NULL) {
-        fputs("calls: no memory\n", stderr);
-        exit(EXIT_FAILURE);
-    }
-    return memcpy(copy, b->bytes, b->length);
-}
-
 /* The three calls on a block. */
 static gt_reading read_block(block b)
 {
-    uint8_t *copy = exact_copy(&b);
+    uint8_t *copy = exact_copy(b.bytes, b.length);
     gt_reading reading = gt_read_block(copy, b.length);
     free(copy);
     return reading;
@@ -95,7 +76,7 @@ static gt_reading read_block(block b)
 
 static gt_answer reference(block b, size_t index, uint8_t *output, size_t output_length)
 {
-    uint8_t *copy = exact_copy(&b);
+    uint8_t *copy = exact_copy(b.bytes, b.length);
     gt_answer answer = gt_reference(copy, b.length, index, output, output_length);
     free(copy);
     return answer;
@@ -103,18 +84,13 @@ static gt_answer reference(block b, size_t index, uint8_t *output, size_t output
 
 static gt_requested request(block b, size_t index)
 {
-    uint8_t *copy = exact_copy(&b);
+    uint8_t *copy = exact_copy(b.bytes, b.length);
     gt_requested requested = gt_request(copy, b.length, index);
     free(copy);
     return requested;
 }
 
 /* ---- What is expected */
-
-static bool is(gt_answer answer, uint8_t refusal, size_t value)
-{
-    return answer.refusal == refusal && answer.value == value;
-}
 
 static bool reads_as(block b, uint8_t site, uint16_t sequence, size_t references, size_t requests)
 {

@@ -1,5 +1,6 @@
 /* Calls the core at the edges of what it takes. Writes a line for each check, and ends with exit status 1 if one fails.
  * All that is lent lies in an allocation of its own length, so that valgrind sees an access past its end. */
+#include "checks.h"
 #include "giangotum_core.h"
 
 #include <stdio.h>
@@ -12,14 +13,6 @@
 enum { OWNERS = 1, COUNT = 9, ROWS = 10 };
 enum { SITE = 32, SEQUENCE = 33, REFERENCES = 35, REQUESTS = 43, MARK = 59, ROW_BYTES = 60 };
 
-static bool all_ok = true;
-
-static void check(const char *name, bool ok)
-{
-    printf("%s: %s\n", name, ok ? "ok" : "FAILED");
-    all_ok = all_ok && ok;
-}
-
 /* A check that is made for several numbers. */
 static void check_with(const char *name, int number, bool ok)
 {
@@ -27,22 +20,6 @@ static void check_with(const char *name, int number, bool ok)
 
     snprintf(whole, sizeof whole, "%s %d", name, number);
     check(whole, ok);
-}
-
-static bool is(gt_answer answer, uint8_t refusal, size_t value)
-{
-    return answer.refusal == refusal && answer.value == value;
-}
-
-static uint8_t *exact_copy(const uint8_t *bytes, size_t length)
-{
-    uint8_t *copy = malloc(length);
-
-    if (copy == NULL) {
-        fputs("core_calls: no memory\n", stderr);
-        exit(EXIT_FAILURE);
-    }
-    return memcpy(copy, bytes, length);
 }
 
 /* ---- Blocks */

@@ -1,25 +1,22 @@
 -- A block's references among what is held: the searches over the list as the code hands it on are those of the definition, the mask of the
 -- places listed is the row's set, and the parent rule reads of a row only site, sequence number and that set. Assumes nothing.
-use mathlib.Core.Path.{_≡_, refl, sym, ap, ap₂, _∙_}
-use mathlib.Core.Bool.{Bool, true, false, not, _&&_, _||_}
-use Prim.Native.Nat.{ℕ, _+_, _*_, _/_, _≤_, _<_}
+use mathlib.Core.Path.{_≡_, ap, ap₂, _∙_}
+use mathlib.Core.Bool.{_&&_, _||_}
+use Prim.Native.Nat.{ℕ, _+_}
 use native.Mathlib.Decide.{decLt}
 use native.Mathlib.Omega.{arith}
 use lib.Dec.{eqb, ltb}
-use lib.ListN.{length}
 use borrow.Author.Tests.{lt-ltb, le-ltb}
 use Rattle.base.specs.Search.{firstBelow, anyBelow}
-use Rattle.base.specs.Count.{countBelow}
 use Rattle.base.specs.Mask.{inMask}
 use Rattle.base.specs.Bytes.{Bytes, sameBytes}
 use Rattle.base.proofs.Count.{count-same}
 use Rattle.base.proofs.Sets.{mask-has, mask-has-not}
-use Rattle.block.specs.Limits.{referenceSize}
 use Rattle.block.specs.Layout.{referenceCount, referenceList, referenceAt}
 use Rattle.block.specs.Steps.{Shaped}
 use Rattle.block.proofs.Shape.{references-counted}
 use Rattle.table.specs.View.{Row, View}
-use Rattle.table.specs.Layout.{countOf, digestAt, viewOf}
+use Rattle.table.specs.Layout.{countOf, digestAt}
 use Rattle.table.specs.Rules.{isParent, parents, parentRule}
 use Rattle.admission.specs.Admission.{lists, missing}
 use Rattle.admission.specs.Steps.{among, firstMissing, placesListed}

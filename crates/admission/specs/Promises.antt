@@ -1,8 +1,8 @@
 -- What admission promises beyond its two equations; proofs/Promises.antt shows it for every digest of 32 bytes, and so for SHA-256.
 use mathlib.Core.Path.{_≡_}
 use mathlib.Core.Logic.{_↔_, _≢_}
-use mathlib.Core.Bool.{true, false}
-use Prim.Native.Nat.{ℕ, _≤_, _<_}
+use mathlib.Core.Bool.{true}
+use Prim.Native.Nat.{ℕ, _<_}
 use Rattle.base.specs.Bytes.{Bytes}
 use Rattle.block.specs.Layout.{siteOf, referenceCount, referenceList, referenceAt}
 use Rattle.block.specs.Reading.{fieldsOf, reading}

@@ -1,7 +1,7 @@
 -- What the contracts of inner functions cite: what an entry point has tested. Nothing here need be believed.
 use mathlib.Core.Path.{_≡_}
 use mathlib.Core.Bool.{Bool, cond, not}
-use Prim.Native.Nat.{ℕ, _+_, _*_, _/_, _≤_, _<_}
+use Prim.Native.Nat.{ℕ, _/_, _≤_, _<_}
 use lib.Dec.{eqb}
 use lib.ListN.{length}
 use Rattle.base.specs.Search.{firstBelow, anyBelow}
@@ -11,10 +11,8 @@ use Rattle.base.specs.Bytes.{Bytes, sameBytes, joined}
 use Rattle.base.specs.Number.{pair}
 use Rattle.sha256.specs.Sha256.{sha256}
 use Rattle.block.specs.Limits.{referenceSize, slotCount}
-use Rattle.block.specs.Layout.{siteOf, sequenceOf, referenceCount, referenceList, referenceAt, requestsIn, countedRequest}
-use Rattle.block.specs.Reading.{fieldsOf}
+use Rattle.block.specs.Layout.{referenceList, referenceAt, requestsIn, countedRequest}
 use Rattle.block.specs.Steps.{Shaped}
-use Rattle.block.specs.declared.Fields.{Fields}
 use Rattle.block.specs.declared.Answer.{Answer}
 use Rattle.table.specs.View.{maxPlaces, Row, View}
 use Rattle.table.specs.Layout.{tableSize, countOf, digestAt, viewOf, withRow}

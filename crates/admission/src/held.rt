@@ -1,9 +1,7 @@
 // What a block's references and digest are among the blocks that are held.
 use block::Answer;
 ghost use mathlib.Core.Path.{_≡_};
-ghost use Prim.Native.Nat.{ℕ, _≤_};
 ghost use Rattle.sha256.specs.Sha256.{sha256};
-ghost use Rattle.table.specs.View.{maxPlaces};
 ghost use Rattle.table.specs.Layout.{countOf, viewOf};
 ghost use Rattle.table.specs.Steps.{Places};
 ghost use Rattle.admission.specs.Steps.{Sized, Ready, among, firstMissing, placesListed, heldAnswer};

@@ -1,7 +1,7 @@
 -- What the table promises beyond the contracts of its functions; proofs/Promises.antt shows it.
 use mathlib.Core.Path.{_≡_}
 use mathlib.Core.Bool.{true}
-use Prim.Native.Nat.{ℕ, suc, _<_}
+use Prim.Native.Nat.{suc, _<_}
 use lib.ListN.{length, drop}
 use Rattle.base.specs.Bytes.{Bytes, AllBytes}
 use Rattle.block.specs.Limits.{referenceSize}

@@ -1,21 +1,18 @@
 -- `admit` meets its contract: one law for each way out. Assumes nothing.
 use mathlib.Core.Path.{_≡_, refl, sym, ap, _∙_}
-use mathlib.Core.Bool.{true, false, not}
+use mathlib.Core.Bool.{true, false}
 use mathlib.Core.Logic.{_≢_, inl, inr}
 use mathlib.Core.List.{[], _∷_}
 use Prim.Native.Nat.{ℕ, _≤_, _<_}
 use native.Mathlib.Omega.{arith}
 use types.Run.{OneOf}
 use denote.Enum.Declared.{tagOf}
-use lib.Dec.{eqb}
-use lib.ListN.{length, getD}
 use borrow.Author.Needs.{needs}
 use borrow.Author.Tests.{eq-eqb, ne-eqb, lt-ltb, le-ltb, not-true, not-false}
 use Rattle.base.specs.Bytes.{Bytes}
 use Rattle.sha256.specs.Sha256.{sha256}
 use Rattle.block.specs.Layout.{siteOf}
 use Rattle.block.specs.Reading.{wellShaped, fieldsOf, reading, answerOf}
-use Rattle.block.specs.Steps.{Shaped}
 use Rattle.block.specs.declared.Answer.{Answer}
 use Rattle.block.specs.declared.Fields.{Fields}
 use Rattle.block.specs.declared.Reading.{Reading}
@@ -23,7 +20,7 @@ use Rattle.block.specs.declared.Reading.the-variants.{Block, Misshapen, BadRequ
 use Rattle.block.proofs.Reading.{the-type}
 use Rattle.block.proofs.Shape.{shaped}
 use Rattle.block.proofs.Accepted.{reading-accepted}
-use Rattle.table.specs.Layout.{tableSize, setupOf}
+use Rattle.table.specs.Layout.{setupOf}
 use Rattle.table.specs.Form.{inForm}
 use Rattle.table.specs.Checks.{answerTo}
 use Rattle.table.proofs.Formed.{formed-of}

@@ -1,10 +1,8 @@
 -- `enter` meets its contract: it refuses and leaves the table, or puts the row. Assumes nothing.
-use mathlib.Core.Path.{_≡_, refl, sym, ap, ap₂, _∙_}
-use mathlib.Core.Bool.{true}
+use mathlib.Core.Path.{_≡_, refl, sym, ap, _∙_}
 use mathlib.Core.Logic.{_≢_}
-use Prim.Native.Nat.{ℕ, _+_, _-_, _*_, _≤_, _<_}
+use Prim.Native.Nat.{ℕ, _+_, _-_, _*_, _≤_}
 use native.Mathlib.Omega.{arith}
-use lib.Dec.{eqb}
 use lib.ListN.{length, take, drop}
 use borrow.Author.Needs.{needs}
 use borrow.Author.Tests.{eq-eqb, ne-eqb, ltb-true}
@@ -20,7 +18,7 @@ use Rattle.block.specs.declared.Answer.{Answer}
 use Rattle.block.specs.declared.Fields.{Fields}
 use Rattle.block.proofs.Shape.{reference-part, request-part}
 use Rattle.table.specs.View.{maxPlaces, Row, SameRow}
-use Rattle.table.specs.Layout.{countOf, viewOf, rowBytes, withRow}
+use Rattle.table.specs.Layout.{countOf, viewOf, withRow}
 use Rattle.table.proofs.Checks.{numbered, all-hold}
 use Rattle.table.proofs.RowBytes.{row-bytes-same}
 use Rattle.admission.specs.Admission.{rowFor, heldChecks}

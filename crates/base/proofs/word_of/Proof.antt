@@ -1,6 +1,6 @@
 -- `word_of` meets its contract. It counts down; the loop's invariant: `x` is the number of the bytes passed, and a byte more has room.
 -- Assumes nothing.
-use mathlib.Core.Path.{_≡_, refl, sym, ap, _∙_}
+use mathlib.Core.Path.{_≡_, sym, ap, _∙_}
 use Prim.Native.Nat.{ℕ, _≤_, _-_, _<_, _*_, _+_, _^_}
 use native.Mathlib.Omega.{arith}
 use lib.Pow.{pow-pos}

@@ -12,7 +12,6 @@ use Rattle.base.specs.Bytes.{Bytes}
 use Rattle.base.proofs.Search.{first-none, first-past, first-hit}
 use Rattle.block.specs.Limits.{referenceSize}
 use Rattle.block.specs.Layout.{referenceAt}
-use Rattle.table.specs.View.{View}
 use Rattle.table.specs.Layout.{viewOf}
 use Rattle.table.specs.Rules.{hasDigest, placeOf}
 use Rattle.table.specs.Steps.{Places}

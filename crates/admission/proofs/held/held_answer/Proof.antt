@@ -1,6 +1,6 @@
 -- `held_answer` meets its contract: one law for each way out. Assumes nothing.
 use mathlib.Core.Path.{_≡_, refl, sym, ap, ap₂, _∙_}
-use mathlib.Core.Bool.{Bool, true, false, not}
+use mathlib.Core.Bool.{Bool, true, false}
 use Prim.Native.Nat.{ℕ, _+_, _-_, _*_, _≤_, _<_}
 use native.Mathlib.Omega.{arith}
 use lib.Dec.{ltb}
@@ -12,7 +12,7 @@ use Rattle.base.specs.Mask.{inMask}
 use Rattle.base.specs.Bytes.{Bytes}
 use Rattle.sha256.specs.Sha256.{sha256}
 use Rattle.block.specs.Limits.{headerSize, referenceSize}
-use Rattle.block.specs.Layout.{siteOf, sequenceOf, referenceCount, referenceList}
+use Rattle.block.specs.Layout.{siteOf, sequenceOf, referenceCount}
 use Rattle.block.specs.declared.Answer.{Answer}
 use Rattle.block.proofs.Shape.{reference-part}
 use Rattle.table.specs.View.{maxPlaces}

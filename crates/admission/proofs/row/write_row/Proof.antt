@@ -1,13 +1,11 @@
 -- `write_row` meets its contract: the fields are put one behind the other, in the layout's order. Assumes nothing.
 use mathlib.Core.Path.{_≡_, refl, sym, ap, ap₂, _∙_}
-use mathlib.Core.List.{List, [], _∷_, _++_, append-assoc}
+use mathlib.Core.List.{[], _∷_, _++_, append-assoc}
 use Prim.Native.Nat.{ℕ, _+_, _^_, _≤_, _<_}
 use native.Mathlib.Omega.{arith}
 use lib.ListN.{length, length-append}
 use borrow.Author.Needs.{needs}
-use Rattle.base.specs.Mask.{maskBelow, inMask}
-use Rattle.base.specs.List.{listBelow}
-use Rattle.base.specs.Bytes.{Bytes, joined, splice}
+use Rattle.base.specs.Bytes.{Bytes, splice}
 use Rattle.base.specs.Number.{pair}
 use Rattle.base.specs.Word.{wordSize, wordBytes}
 use Rattle.base.proofs.Sets.{mask-members}

@@ -1,12 +1,8 @@
 -- `marks_closed` meets its contract. Assumes nothing.
-use mathlib.Core.Path.{_≡_, sym}
-use mathlib.Core.Bool.{true}
-use lib.Dec.{eqb}
 use borrow.Author.Needs.{needs}
 use borrow.Author.Tests.{eq-eqb, ne-eqb}
 use Rattle.base.specs.Search.{anyBelow}
 use Rattle.base.proofs.Tests.{leb-not}
-use Rattle.table.specs.Layout.{markAt}
 use Rattle.table.proofs.form.marks_closed.Statement.{statement}
 use Rattle.table.proofs.form.marks_closed.Tie as tie
 

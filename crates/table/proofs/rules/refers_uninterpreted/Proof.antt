@@ -1,9 +1,7 @@
 -- `refers_uninterpreted` meets its contract: one test after the other. Assumes nothing.
-use mathlib.Core.Path.{_≡_, sym, _∙_}
-use mathlib.Core.Bool.{true}
+use mathlib.Core.Path.{sym, _∙_}
 use borrow.Author.Needs.{needs}
 use borrow.Author.Tests.{not-true, not-false}
-use Rattle.base.specs.Mask.{inMask}
 use Rattle.table.proofs.rules.refers_uninterpreted.Statement.{statement}
 use Rattle.table.proofs.rules.refers_uninterpreted.Tie as tie
 

@@ -1,0 +1,38 @@
+/* What the programs share that call the library at the edges of what it takes. */
+#ifndef CHECKS_H
+#define CHECKS_H
+
+#include "giangotum.h"
+
+#include <stdbool.h>
+#include <stdio.h>
+#include <stdlib.h>
+#include <string.h>
+
+static bool all_ok = true;
+
+/* Writes a check's line. */
+static inline void check(const char *name, bool ok)
+{
+    printf("%s: %s\n", name, ok ? "ok" : "FAILED");
+    all_ok = all_ok && ok;
+}
+
+static inline bool is(gt_answer answer, uint8_t refusal, size_t value)
+{
+    return answer.refusal == refusal && answer.value == value;
+}
+
+/* The bytes in an allocation of their own length, so that valgrind sees an access past their end. */
+static inline uint8_t *exact_copy(const uint8_t *bytes, size_t length)
+{
+    uint8_t *copy = malloc(length);
+
+    if (copy == NULL && length > 0) {
+        fputs("no memory\n", stderr);
+        exit(EXIT_FAILURE);
+    }
+    return length > 0 ? memcpy(copy, bytes, length) : copy;
+}
+
+#endif
