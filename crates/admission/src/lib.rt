@@ -53,7 +53,7 @@ pub fn admit(table: &mut [u8], block: &[u8], verdict: u8) -> Answer
             value: 0,
         };
     }
-    if table[0] <= block[0] {
+    if table::rows::sites_of(table) <= block[0] {
         return Answer {
             refusal: 4,
             value: 0,

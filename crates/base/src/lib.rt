@@ -9,6 +9,9 @@ ghost use Rattle.base.specs.Bytes.{sameBytes, allZero, splice};
 ghost use Rattle.base.specs.Number.{number};
 ghost use Rattle.base.specs.Word.{wordSize, word, wordBytes};
 
+// The bytes of a 64-bit number.
+pub const WORD_SIZE: usize = 8;
+
 // A byte as a count or an index.
 pub fn wide(x: u8) -> usize
     ensures { λ r. ⌜ r ≡ x ⌝ }
@@ -77,7 +80,7 @@ pub fn word_of(bytes: &[u8]) -> u64
 }
 
 // The eight bytes of a number, the low byte first.
-pub fn word_bytes(x: u64) -> [u8; 8]
+pub fn word_bytes(x: u64) -> [u8; WORD_SIZE]
     ensures { λ r. ⌜ r ≡ wordBytes wordSize x ⌝ }
 {
     let x1 = x / 256;

@@ -25,7 +25,7 @@ fn row_in_form(table: &[u8], i: usize) -> bool
     ensures { λ r. ⌜ r ≡ rowInForm (setupOf (now (table .entry))) (viewOf (now (table .entry))) i ⌝ }
 {
     let site = rows::site_at(table, i);
-    if table[0] <= site {
+    if rows::sites_of(table) <= site {
         return false;
     }
     if 1 < rows::mark_at(table, i) {
@@ -67,7 +67,10 @@ pub fn held_in_form(table: &[u8]) -> bool
     requires { ⌜ length (now table) ≡ tableSize ⌝ }
     ensures { λ r. ⌜ r ≡ heldInForm (setupOf (now (table .entry))) (viewOf (now (table .entry))) ⌝ }
 {
-    if !setup::lawful(table[0], &table[crate::OWNERS_OFFSET..crate::COUNT_OFFSET]) {
+    if !setup::lawful(
+        rows::sites_of(table),
+        &table[crate::OWNERS_OFFSET..crate::COUNT_OFFSET],
+    ) {
         return false;
     }
     let k = rows::count_of(table);

@@ -30,7 +30,7 @@ pub const SEQUENCE_OFFSET: usize = SITE_OFFSET + 1;
 
 pub const REFERENCES_OFFSET: usize = SEQUENCE_OFFSET + 2;
 
-pub const REQUESTS_OFFSET: usize = REFERENCES_OFFSET + 8;
+pub const REQUESTS_OFFSET: usize = REFERENCES_OFFSET + base::WORD_SIZE;
 
 pub const MARK_OFFSET: usize = REQUESTS_OFFSET + 2 * SLOTS;
 

@@ -1,4 +1,4 @@
-// What a table's bytes show: the count, and the fields of a row.
+// What a table's bytes show: n, the count, and the fields of a row.
 use crate::COUNT_OFFSET;
 use crate::MARK_OFFSET;
 use crate::REFERENCES_OFFSET;
@@ -11,8 +11,15 @@ ghost use mathlib.Core.Path.{_≡_};
 ghost use Prim.Native.Nat.{_<_};
 ghost use lib.ListN.{length};
 ghost use Rattle.block.specs.Limits.{slotCount};
-ghost use Rattle.table.specs.Layout.{tableSize, countOf, digestAt, siteAt, sequenceAt, referencesAt, requestAt, markAt};
+ghost use Rattle.table.specs.Layout.{tableSize, setupOf, countOf, digestAt, siteAt, sequenceAt, referencesAt, requestAt, markAt};
 ghost use Rattle.table.specs.Steps.{Place};
+
+pub fn sites_of(table: &[u8]) -> u8
+    requires { ⌜ length (now table) ≡ tableSize ⌝ }
+    ensures { λ r. ⌜ r ≡ setupOf (now (table .entry)) .sites ⌝ }
+{
+    table[0]
+}
 
 pub fn count_of(table: &[u8]) -> usize
     requires { ⌜ length (now table) ≡ tableSize ⌝ }
@@ -50,7 +57,7 @@ pub fn references_at(table: &[u8], i: usize) -> u64
     ensures { λ r. ⌜ r ≡ referencesAt (now (table .entry)) i ⌝ }
 {
     let at = ROWS_OFFSET + ROW_SIZE * i + REFERENCES_OFFSET;
-    base::word_of(&table[at..at + 8])
+    base::word_of(&table[at..at + base::WORD_SIZE])
 }
 
 // The counted request of a slot, 0 if none.

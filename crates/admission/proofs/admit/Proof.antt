@@ -99,6 +99,19 @@ formed c = sym (c .before .in-form .ensures) ∙ not-false _ (c .if1 .left)
 shape : (c : tie.Else2) → wellShaped (c .before .before .before .before .before .before .before .args .block .now) ≡ true
 shape c = sym (c .before .well-shaped .ensures) ∙ not-false _ (c .if2 .left)
 
+-- the tests before the third, and what it shows
+abbrev second : tie.Else3 → tie.Else2
+second c = c .before .before .before .before
+
+abbrev first : tie.Else3 → tie.Else1
+first c = second c .before .before
+
+abbrev start : tie.Else3 → tie.Start
+start c = first c .before .before .before .before .before
+
+site : (c : tie.Else3) → siteOf (start c .args .block .now) < setupOf (start c .args .table .now) .sites
+site c = rw (← c .before .before .sites-of .ensures) (c .if3 .left)
+
 returns : tie.Need-returns
 returns c = way2 _ _ _ (sym (c .before .in-form .ensures) ∙ not-true _ (c .if1 .taken))
 
@@ -107,14 +120,14 @@ returns-2 c = way3 _ _ _ (formed (c .before .before)) (sym (c .before .well-shap
 
 returns-3 : tie.Need-returns-3
 returns-3 c =
-    let s = c .before .before .before in
-    way4 _ _ _ (formed (s .before .before)) (shape s) (c .if3 .taken)
+    let n = c .before .before in
+    let s = n .before .before in
+    way4 _ _ _ (formed (s .before .before)) (shape s) (rw (← n .sites-of .ensures) (c .if3 .taken))
 
 returns-4 : tie.Need-returns-4
 returns-4 c =
     let d = c .before in
-    let s = d .before .before .before in
-    way5 _ _ _ (formed (s .before .before)) (shape s) (d .if3 .left) (c .if4 .taken)
+    way5 _ _ _ (formed (first d)) (shape (second d)) (site d) (c .if4 .taken)
 
 returns-5 : tie.Need-returns-5
 returns-5 c =
@@ -122,8 +135,7 @@ returns-5 c =
     let r = m .before in
     let v = r .before in
     let d = v .before in
-    let s = d .before .before .before in
-    way-reader _ _ _ (formed (s .before .before)) (shape s) (d .if3 .left) (v .if4 .left) _ (r .read-block .ensures) (m .match .keys2) _ (c .answer-of .ensures)
+    way-reader _ _ _ (formed (first d)) (shape (second d)) (site d) (v .if4 .left) _ (r .read-block .ensures) (m .match .keys2) _ (c .answer-of .ensures)
 
 enter-requires : tie.Need-enter-requires
 enter-requires c κs =
@@ -131,11 +143,10 @@ enter-requires c κs =
     let r = m .before .before in
     let v = r .before in
     let d = v .before in
-    let s = d .before .before .before in
-    let a = s .before .before .before .before .before .before .before .args in (
-      sized _ (formed (s .before .before)),
-      shaped _ (shape s),
-      fields (a .table .now) (a .block .now) (a .verdict) (formed (s .before .before)) (shape s) (d .if3 .left) (v .if4 .left) _ (r .read-block .ensures) _ (m .reading .given .1),
+    let a = start d .args in (
+      sized _ (formed (first d)),
+      shaped _ (shape (second d)),
+      fields (a .table .now) (a .block .now) (a .verdict) (formed (first d)) (shape (second d)) (site d) (v .if4 .left) _ (r .read-block .ensures) _ (m .reading .given .1),
     )
 
 returns-6 : tie.Need-returns-6
@@ -145,8 +156,7 @@ returns-6 c =
     let r = m .before .before in
     let v = r .before in
     let d = v .before in
-    let s = d .before .before .before in
-    way-entered _ _ _ (formed (s .before .before)) (shape s) (d .if3 .left) (v .if4 .left) _ (r .read-block .ensures) _ (m .reading .given .1) _ _
+    way-entered _ _ _ (formed (first d)) (shape (second d)) (site d) (v .if4 .left) _ (r .read-block .ensures) _ (m .reading .given .1) _ _
     (e .enter .ensures .0) (e .enter .ensures .1)
 
 pub admit-spec : {M : Type 1} → statement M
@@ -159,8 +169,8 @@ admit-spec =
     (λ c κs. search needs)
     (λ c. search needs)
     returns-2
-    (λ c. let f = sized _ (formed (c .before .before .before)) in search needs)
-    (λ c. let f = shaped _ (shape (c .before .before)) in search needs)
+    (λ c κs. let f = sized _ (formed (c .before .before .before)) in search needs)
+    (λ c. let f = shaped _ (shape (c .before .before .before)) in search needs)
     (λ c. search needs)
     returns-3
     (λ c. search needs)

@@ -11,12 +11,16 @@ use Rattle.table.specs.Rules.{heldInForm}
 use Rattle.table.proofs.form.held_in_form.Statement.{statement}
 use Rattle.table.proofs.form.held_in_form.Tie as tie
 
+-- what the call of `lawful` says of the table's setup
+judged : (c : tie.After-lawful) → c .lawful .result ≡ lawful (setupOf (c .before .before .before .before .args .table .now))
+judged c = rw (c .before .before .sites-of .ensures) at (c .lawful .ensures)
+
 setup : (c : tie.Else1) → lawful (setupOf (c .before .before .before .before .before .args .table .now)) ≡ true
-setup c = sym (c .before .lawful .ensures) ∙ not-false _ (c .if1 .left)
+setup c = sym (judged (c .before)) ∙ not-false _ (c .if1 .left)
 
 returns : tie.Need-returns
 unfolding heldInForm
-returns c = rw (sym (c .before .lawful .ensures) ∙ not-true _ (c .if1 .taken))
+returns c = rw (sym (judged (c .before)) ∙ not-true _ (c .if1 .taken))
 
 returns-2 : tie.Need-returns-2
 unfolding heldInForm
@@ -34,7 +38,7 @@ pub held-in-form-spec : {M : Type 1} → statement M
 held-in-form-spec =
     tie.close
     (tie.spec
-    (λ c. search needs)
+    (λ c κs. search needs)
     (λ c. search needs)
     (λ c. search needs)
     (λ c. search needs)

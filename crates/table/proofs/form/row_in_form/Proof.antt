@@ -45,7 +45,7 @@ i c = c .before .before .before .before .args .i
 
 -- the tests that the row passes, as the definition has them
 site : (c : tie.Else1) → ltb (siteAt (t c) (i c)) (getD (t c) 0 0) ≡ true
-site c = rw (← c .before .before .site-at .ensures) (lt-ltb _ _ (c .if1 .left))
+site c = rw (← c .before .before .site-at .ensures, ← c .before .sites-of .ensures) (lt-ltb _ _ (c .if1 .left))
 
 mark : (c : tie.Else2) → leb (markAt (t (back2 c)) (i (back2 c))) 1 ≡ true
 mark c = rw (← c .before .mark-at .ensures) (le-leb _ 1 (c .if2 .left))
@@ -90,7 +90,7 @@ rule-row t i = refl
 
 returns : tie.Need-returns
 unfolding rowInForm
-returns c = rw (← c .before .before .site-at .ensures, le-ltb _ _ (c .if1 .taken))
+returns c = rw (← c .before .before .site-at .ensures, ← c .before .sites-of .ensures, le-ltb _ _ (c .if1 .taken))
 
 returns-2 : tie.Need-returns-2
 unfolding rowInForm
@@ -143,7 +143,7 @@ row-in-form-spec =
     tie.close
     (tie.spec
     (λ c κs. search needs)
-    (λ c. search needs)
+    (λ c κs. search needs)
     returns
     (λ c κs. search needs)
     returns-2
