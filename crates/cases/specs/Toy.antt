@@ -1,5 +1,5 @@
 -- Blocks written down by their fields, and a toy digest of them. The cases are about the rules, and SHA-256 would be slow to evaluate at each
--- step of a run; the test program runs them with SHA-256.
+-- step of a run; the test program has cases with SHA-256.
 use mathlib.Core.Path.{_≡_}
 use mathlib.Core.List.{List, _++_}
 use Prim.Native.Nat.{ℕ}

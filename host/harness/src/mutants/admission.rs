@@ -266,7 +266,7 @@ pub const MISTAKES: &[Mistake] = &[
             answer
         })
     }),
-    ("admission: refusal 10 leaves the row written", |m| {
+    ("admission: refusal 10 leaves the digest written", |m| {
         m.after_admission(|answer, table, block| {
             if answer.refusal == 10 {
                 let mut held = Table::from_bytes(table);
