@@ -4,7 +4,7 @@
 #   layout          rt fmt --check
 #   proofs          rt ci: every proof, every must-fail edit, every program with stored output
 #   must-fail logs  each edit was refused by a fact that no longer holds
-#   host            the library for C is built, and host/tests/run.py passes
+#   host            the libraries for C, the test programs and the harness are built, and host/tests/run.py passes
 #
 # The last line is 'N passed, M failed', summed over the steps; the exit status is 0 only where M is 0.
 set -u
@@ -71,6 +71,6 @@ printf '\n== host programs\n'
 if build_host; then
     check_counted 'host tests' python3 host/tests/run.py
 else
-    fail 'the library or the host programs could not be built, so the host tests did not run'
+    fail 'the libraries or the host programs could not be built, so the host tests did not run'
 fi
 finish

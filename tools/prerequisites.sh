@@ -15,7 +15,7 @@ need rt 'the Rattle toolchain: proves the crates and builds the library'
 need gcc 'compiles the control program, the host tests and the benchmark'
 need g++ 'compiles the header as C++, a host test'
 need make 'runs the targets of the Makefile'
-need cargo 'Rust programs that link the library'
+need cargo 'the test harness in Rust'
 need python3 'runs the host tests'
 need valgrind 'looks for memory errors in the host tests'
 

@@ -67,14 +67,15 @@ module _ (t b : Bytes) (f : Fields) (shape : Shaped b) (ef : f ≡ fieldsOf b) w
           mark = refl;
         }
 
+    way-entered : d ≡ sha256 b → (a : Answer) (t′ : Bytes) → a ≡ heldAnswer t b → a .refusal ≡ 0
+        → t′ ≡ withRow t (rowWith d (f .site) (f .sequence) references (take (length b - middle) (drop middle b)))
+        → (a ≡ heldAnswer t b) × (t′ ≡ entered t b)
+    unfolding entered
+    way-entered ed a t′ e z w = (e, rw (← e, eq-eqb (a .refusal) 0 z) (w ∙ with-same t _ (rowFor sha256 (viewOf t) b) (same-row ed)))
+
 way-refused : (t b : Bytes) (a : Answer) → a ≡ heldAnswer t b → a .refusal ≢ 0 → (a ≡ heldAnswer t b) × (t ≡ entered t b)
 unfolding entered
 way-refused t b a e n = (e, rw (← e, ne-eqb (a .refusal) 0 n))
-
-way-entered : (t t′ b : Bytes) (a : Answer) (r : Row) → a ≡ heldAnswer t b → a .refusal ≡ 0 → t′ ≡ withRow t r → SameRow r (rowFor sha256 (viewOf t) b)
-    → (a ≡ heldAnswer t b) × (t′ ≡ entered t b)
-unfolding entered
-way-entered t t′ b a r e z f s = (e, rw (← e, eq-eqb (a .refusal) 0 z) (f ∙ with-same t r (rowFor sha256 (viewOf t) b) s))
 
 held-answer-requires : tie.Need-held-answer-requires
 held-answer-requires c κs =
@@ -102,8 +103,8 @@ returns-2 c =
     let p = h .before .before .before in
     let d = p .before .before .before in
     let s = d .before .before .before .before in
-    way-entered _ _ _ _ _ (h .held-answer .ensures) (e .if1 .left) (r .put-row .ensures)
-    (same-row (s .args .table .now) (s .args .block .now) (s .args .fields) (s .pre .1) (s .pre .2) _ _ (p .places-listed .ensures) (d .digest .ensures))
+    way-entered (s .args .table .now) (s .args .block .now) (s .args .fields) (s .pre .1) (s .pre .2) _ _ (p .places-listed .ensures) (d .digest .ensures)
+    _ _ (h .held-answer .ensures) (e .if1 .left) (r .put-row .ensures)
 
 -- the two lists lie within the block
 fits : (c : tie.After-struct-known) → let a = c .before .before .before .args in

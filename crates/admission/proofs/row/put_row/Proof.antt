@@ -6,6 +6,7 @@ use borrow.Author.Needs.{needs}
 use Rattle.base.specs.Bytes.{Bytes, splice}
 use Rattle.table.specs.View.{Row}
 use Rattle.table.specs.Layout.{countOffset, rowStart, countOf, rowBytes, withRow}
+use Rattle.admission.specs.Steps.{rowWith}
 use Rattle.admission.proofs.row.put_row.Statement.{statement}
 use Rattle.admission.proofs.row.put_row.Tie as tie
 
@@ -20,7 +21,8 @@ returns c =
     let last = c .before .before in
     let row = last .before .before .before .before .before in
     let count = row .before .before in
-    put _ _ _ _ _ (count .count-of .ensures) (row .write-row .ensures) (last .put .ensures)
+    let a = count .before .before .before .before .before .args in
+    put _ _ _ _ (rowWith (a .digest .now) (a .site) (a .sequence) (a .references) (a .requests .now)) (count .count-of .ensures) (row .write-row .ensures) (last .put .ensures)
 
 pub put-row-spec : {M : Type 1} → statement M
 put-row-spec =

@@ -30,12 +30,13 @@ loop-again c =
     let d = c .before .before .before in
     let l = d .loop in
     let a = d .before .before .args in
-    let f : ℕ → Bool = λ i. inMask (a .references) i && isParent (rowOf (a .site) (a .sequence) (a .references)) (rowAt (a .table .now) i) in (
+    let f : ℕ → Bool = λ i. inMask (a .references) i && isParent (rowOf (a .site) (a .sequence) (a .references)) (rowAt (a .table .now) i) in
+    let e : c .before .is-parent .result ≡ f (l .j) = c .before .is-parent .ensures in (
       omega arith,
       search needs,
       ⊎-elim
-          (λ w. w .1 ∙ ap (λ (n : ℕ). n + 1) (l .inv .2) ∙ count-here f (l .j) (sym (c .before .is-parent .ensures) ∙ w .0 .taken))
-          (λ w. w .1 ∙ l .inv .2 ∙ count-past f (l .j) (sym (c .before .is-parent .ensures) ∙ w .0 .left))
+          (λ w. w .1 ∙ ap (λ (n : ℕ). n + 1) (l .inv .2) ∙ count-here f (l .j) (sym e ∙ w .0 .taken))
+          (λ w. w .1 ∙ l .inv .2 ∙ count-past f (l .j) (sym e ∙ w .0 .left))
           (c .if1 .came),
       ⊎-elim (λ w. omega arith) (λ w. omega arith) (c .if1 .came),
     )
