@@ -85,6 +85,18 @@ fn admit_up_to(table: &mut [u8], limit: u8) {
     }
 }
 
+// A full table looks at 5, 9 and 10 before 11.
+fn show_before_full(table: &mut [u8]) {
+    show_admitted(
+        table,
+        b"65th block, a reference not held",
+        &referring(1, 65),
+        1,
+    );
+    show_admitted(table, b"65th block, both forks", &referring(1, 2), 1);
+    show_admitted(table, b"65th block, verdict 2", &requesting(65), 2);
+}
+
 fn show_full() {
     let fresh = table::fresh(4, [0; SLOTS]);
     let mut table = fresh.table;
@@ -97,14 +109,7 @@ fn show_full() {
         &requesting(7),
         1,
     );
-    show_admitted(
-        &mut table,
-        b"65th block, a reference not held",
-        &referring(1, 65),
-        1,
-    );
-    show_admitted(&mut table, b"65th block, both forks", &referring(1, 2), 1);
-    show_admitted(&mut table, b"65th block, verdict 2", &requesting(65), 2);
+    show_before_full(&mut table);
 }
 
 pub fn show_all() {
