@@ -1,23 +1,21 @@
--- A block's references among what is held: the searches over the list as the code hands it on are those of the definition, the mask of the
--- places listed is the row's set, and the parent rule reads of a row only site, sequence number and that set. Assumes nothing.
-use mathlib.Core.Path.{_≡_, ap, ap₂, _∙_}
-use mathlib.Core.Bool.{_&&_, _||_}
-use Prim.Native.Nat.{ℕ, _+_}
+-- A block's references among what is held: the searches over the list as the code hands it on are those of the definition, and the mask of
+-- the places listed is the row's set. Assumes nothing.
+use mathlib.Core.Path.{_≡_, ap, _∙_}
+use mathlib.Core.Bool.{_&&_}
+use Prim.Native.Nat.{ℕ}
 use native.Mathlib.Decide.{decLt}
 use native.Mathlib.Omega.{arith}
-use lib.Dec.{eqb, ltb}
+use lib.Dec.{ltb}
 use borrow.Author.Tests.{lt-ltb, le-ltb}
 use Rattle.base.specs.Search.{firstBelow, anyBelow}
 use Rattle.base.specs.Mask.{inMask}
 use Rattle.base.specs.Bytes.{Bytes, sameBytes}
-use Rattle.base.proofs.Count.{count-same}
 use Rattle.base.proofs.Sets.{mask-has, mask-has-not}
 use Rattle.block.specs.Layout.{referenceCount, referenceList, referenceAt}
 use Rattle.block.specs.Steps.{Shaped}
 use Rattle.block.proofs.Shape.{references-counted}
-use Rattle.table.specs.View.{Row, View}
+use Rattle.table.specs.View.{View}
 use Rattle.table.specs.Layout.{countOf, digestAt}
-use Rattle.table.specs.Rules.{isParent, parents, parentRule}
 use Rattle.admission.specs.Admission.{lists, missing}
 use Rattle.admission.specs.Steps.{among, firstMissing, placesListed}
 
@@ -34,12 +32,3 @@ module _ (b : Bytes) (shape : Shaped b) where
     | yes h ↦ rw (lt-ltb j (countOf t) h) (mask-has (λ j. among (referenceList b) (digestAt t j)) (countOf t) j h ∙ among-lists (digestAt t j))
     | no n ↦ rw (le-ltb j (countOf t) (omega arith)) (mask-has-not (λ j. among (referenceList b) (digestAt t j)) (countOf t) j (omega arith))
   ]
-
--- what the parent rule reads of a row
-pub rule-reads : (v : View) (k : ℕ) (r q : Row) → r .site ≡ q .site → r .sequence ≡ q .sequence → ((j : ℕ) → r .refersTo j ≡ q .refersTo j)
-    → parentRule v k r ≡ parentRule v k q
-unfolding parentRule parents
-rule-reads v k r q s n e =
-    ap₂ (λ (x y : ℕ). eqb x 0 || eqb y 1) n
-    (count-same (λ j. r .refersTo j && isParent r (v .row j)) (λ j. q .refersTo j && isParent q (v .row j)) k
-    (λ j h. ap₂ _&&_ (e j) (ap₂ (λ (x y : ℕ). eqb (v .row j .site) x && eqb (v .row j .sequence + 1) y) s n)))

@@ -1,7 +1,7 @@
 -- What the contracts of inner functions cite: what an entry point has tested. Nothing here need be believed.
 use mathlib.Core.Path.{_≡_}
 use mathlib.Core.Bool.{Bool, cond, not}
-use Prim.Native.Nat.{ℕ, _/_, _≤_, _<_}
+use Prim.Native.Nat.{ℕ, _/_}
 use lib.Dec.{eqb}
 use lib.ListN.{length}
 use Rattle.base.specs.Search.{firstBelow, anyBelow}
@@ -14,21 +14,12 @@ use Rattle.block.specs.Limits.{referenceSize, slotCount}
 use Rattle.block.specs.Layout.{referenceList, referenceAt, requestsIn, countedRequest}
 use Rattle.block.specs.Steps.{Shaped}
 use Rattle.block.specs.declared.Answer.{Answer}
-use Rattle.table.specs.View.{maxPlaces, Row, View}
-use Rattle.table.specs.Layout.{tableSize, countOf, digestAt, viewOf, withRow}
+use Rattle.table.specs.View.{Row, View}
+use Rattle.table.specs.Layout.{countOf, digestAt, viewOf, withRow}
 use Rattle.table.specs.Rules.{hasDigest}
 use Rattle.table.specs.Checks.{answerTo}
+use Rattle.table.specs.Steps.{Places}
 use Rattle.admission.specs.Admission.{rowFor, heldChecks}
-
--- a table of the right length and count
-pub record Sized (t : Bytes) : Type 0 where
-  pub size : length t ≡ tableSize
-  pub count : countOf t ≤ maxPlaces
-
--- a table with room for one more
-pub record Room (t : Bytes) : Type 0 where
-  pub size : length t ≡ tableSize
-  pub room : countOf t < maxPlaces
 
 -- the searches over a list of references by its own length
 abbrev pub among : Bytes → Bytes → Bool
@@ -58,7 +49,7 @@ rowWith d site sequence references requests =
 
 -- a table and a block that checks 2 to 7 let pass, and the mask of the places that the block refers to
 pub record Ready (t b : Bytes) (references : ℕ) : Type 0 where
-  pub sized : Sized t
+  pub sized : Places t (countOf t)
   pub shaped : Shaped b
   pub places : references ≡ placesListed t (countOf t) (referenceList b)
 

@@ -4,7 +4,7 @@ ghost use mathlib.Core.Path.{_≡_};
 ghost use Rattle.sha256.specs.Sha256.{sha256};
 ghost use Rattle.table.specs.Layout.{countOf, viewOf};
 ghost use Rattle.table.specs.Steps.{Places};
-ghost use Rattle.admission.specs.Steps.{Sized, Ready, among, firstMissing, placesListed, heldAnswer};
+ghost use Rattle.admission.specs.Steps.{Ready, among, firstMissing, placesListed, heldAnswer};
 
 // Whether the digest is among the references of the list.
 fn is_among(list: &[u8], digest: &[u8]) -> bool
@@ -16,7 +16,7 @@ fn is_among(list: &[u8], digest: &[u8]) -> bool
 
 // The places held whose digests are among the references of the list, as a mask.
 pub fn places_listed(table: &[u8], list: &[u8]) -> u64
-    requires { ⌜ Sized (now table) ⌝ }
+    requires { ⌜ Places (now table) (countOf (now table)) ⌝ }
     ensures { λ r. ⌜ r ≡ placesListed (now (table .entry)) (countOf (now (table .entry))) (now (list .entry)) ⌝ }
 {
     let k = table::rows::count_of(table);

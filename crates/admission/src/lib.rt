@@ -9,12 +9,14 @@ ghost use mathlib.Core.Path.{_≡_};
 ghost use Rattle.sha256.specs.Sha256.{sha256};
 ghost use Rattle.block.specs.Reading.{fieldsOf};
 ghost use Rattle.block.specs.Steps.{Shaped};
+ghost use Rattle.table.specs.Layout.{countOf};
+ghost use Rattle.table.specs.Steps.{Places};
 ghost use Rattle.admission.specs.Admission.{admission, admitted};
-ghost use Rattle.admission.specs.Steps.{Sized, heldAnswer, entered};
+ghost use Rattle.admission.specs.Steps.{heldAnswer, entered};
 
 // Checks 8 to 11 of a block that the reader accepts, and the block put at the next place where they hold.
 fn enter(table: &mut [u8], block: &[u8], fields: block::Fields) -> Answer
-    requires { ⌜ Sized (now table) × Shaped (now block) × (fields ≡ fieldsOf (now block)) ⌝ }
+    requires { ⌜ Places (now table) (countOf (now table)) × Shaped (now block) × (fields ≡ fieldsOf (now block)) ⌝ }
     ensures { λ r. ⌜ r ≡ heldAnswer (now (table .entry)) (now (block .entry)) ⌝ }
     ensures { λ _. ⌜ now (table .exit) ≡ entered (now (table .entry)) (now (block .entry)) ⌝ }
 {

@@ -4,8 +4,9 @@ ghost use Prim.Native.Nat.{_+_, _*_, _≤_};
 ghost use lib.ListN.{length};
 ghost use Rattle.base.specs.Bytes.{splice};
 ghost use Rattle.block.specs.Limits.{referenceSize, slotCount};
-ghost use Rattle.table.specs.Layout.{rowSize, rowBytes, withRow};
-ghost use Rattle.admission.specs.Steps.{Room, requestBytes, rowWith};
+ghost use Rattle.table.specs.Layout.{countOf, rowSize, rowBytes, withRow};
+ghost use Rattle.table.specs.Steps.{Place};
+ghost use Rattle.admission.specs.Steps.{requestBytes, rowWith};
 
 // Puts the counted request of each slot of the list, two bytes each.
 fn put_requests(table: &mut [u8], at: usize, list: &[u8])
@@ -61,7 +62,7 @@ pub fn put_row(
     references: u64,
     requests: &[u8],
 )
-    requires { ⌜ Room (now table) × (length (now digest) ≡ referenceSize) ⌝ }
+    requires { ⌜ Place (now table) (countOf (now table)) × (length (now digest) ≡ referenceSize) ⌝ }
     ensures { λ _. ⌜ now (table .exit) ≡ withRow (now (table .entry)) (rowWith (now (digest .entry)) site sequence references (now (requests .entry))) ⌝ }
 {
     let place = table::rows::count_of(table);

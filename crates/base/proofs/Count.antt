@@ -10,7 +10,7 @@ use native.Mathlib.Decide.{decLt}
 use lib.Dec.{eqb}
 use borrow.Author.Tests.{eqb-true, eqb-false, not-true, not-false}
 use Rattle.base.specs.Count.{countBelow}
-use Rattle.base.proofs.Tests.{true-not-false, and-left, and-right, and-not-right}
+use Rattle.base.proofs.Tests.{by-test, true-not-false, and-left, and-right, and-not-right}
 
 -- one turn of a loop that counts
 pub count-here : (f : ℕ → Bool) (k : ℕ) → f k ≡ true → countBelow f k + 1 ≡ countBelow f (k + 1)
@@ -37,10 +37,10 @@ count-same f g zero h = refl
 count-same f g (suc k) h = rw (count-same f g k (λ j l. h j (omega arith)), h k (omega arith))
 
 -- more pass where the test is weaker
-pub count-mono : (f g : ℕ → Bool) (k : ℕ) → ((p : ℕ) → f p ≡ true → g p ≡ true) → countBelow f k ≤ countBelow g k
+pub count-mono : (f g : ℕ → Bool) (k : ℕ) → ((p : ℕ) → p < k → f p ≡ true → g p ≡ true) → countBelow f k ≤ countBelow g k
 unfolding countBelow
 count-mono f g zero w = omega arith
-count-mono f g (suc k) w = go (f k) (g k) (w k) (count-mono f g k w)
+count-mono f g (suc k) w = go (f k) (g k) (w k (omega arith)) (count-mono f g k (λ p l. w p (omega arith)))
   where
     go : (a b : Bool) → (a ≡ true → b ≡ true) → countBelow f k ≤ countBelow g k → cond a 1 0 + countBelow f k ≤ cond b 1 0 + countBelow g k
     go true true i h = omega arith
@@ -86,14 +86,7 @@ count-some f k h = let r = more-than f (λ p. false) k (omega (arith, count-neve
 
 -- ---- as many numbers as are sent to different numbers below p are at most p
 
--- at most those pass f that pass g, where no number passes f and not g
-count-within : (f g : ℕ → Bool) (k : ℕ) → ((j : ℕ) → j < k → f j ≡ true → g j ≢ false) → countBelow f k ≤ countBelow g k
-count-within f g k n = elim (decLt (countBelow g k) (countBelow f k)) [
-  | yes h ↦ let r = more-than f g k h in absurd (n (r .0) (r .1) (r .2) (r .3))
-  | no h ↦ omega arith
-]
-
--- and one more, where no two numbers do
+-- at most one more passes f than g, where no two numbers pass f and not g
 count-but-one : (f g : ℕ → Bool) (k : ℕ) → ((i j : ℕ) → i < j → j < k → f i ≡ true → g i ≡ false → f j ≡ true → g j ≢ false)
     → countBelow f k ≤ suc (countBelow g k)
 unfolding countBelow
@@ -101,7 +94,7 @@ count-but-one f g zero n = omega arith
 count-but-one f g (suc k) n = go (f k) (g k) refl refl (count-but-one f g k (λ i j h l. n i j h (omega arith)))
   where
     go : (a b : Bool) → f k ≡ a → g k ≡ b → countBelow f k ≤ suc (countBelow g k) → cond a 1 0 + countBelow f k ≤ suc (cond b 1 0 + countBelow g k)
-    go true false ea eb h = let w : countBelow f k ≤ countBelow g k = count-within f g k (λ i l y z. n i k l (omega arith) y z ea eb) in omega arith
+    go true false ea eb h = let w : countBelow f k ≤ countBelow g k = count-mono f g k (λ i l y. by-test (g i) (λ e. e) (λ z. absurd (n i k l (omega arith) y z ea eb))) in omega arith
     go true true ea eb h = omega arith
     go false true ea eb h = omega arith
     go false false ea eb h = omega arith

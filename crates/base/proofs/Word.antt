@@ -38,7 +38,7 @@ unfolding word
 word-drop b i h = ap word (drop-cons b i 0 h) ∙ omega (arith, ap (λ (n : ℕ). word (drop n b)) (add-one i))
 
 -- a byte more has room in a word, and the bound that goes with it
-pub word-room : (x i : ℕ) → 0 < i → x < 2 ^ (8 * (wordSize - i)) → x < 72057594037927936
+pub word-room : (x i : ℕ) → 0 < i → x < 2 ^ (8 * (wordSize - i)) → x < 2 ^ 56
 word-room x i p h = omega (arith, pow-mono {i = 8 * (wordSize - i)} {j = 56} (omega arith))
 
 pub word-more : (x y i : ℕ) → 0 < i → i ≤ wordSize → x < 2 ^ (8 * (wordSize - i)) → y < 256 → x * 256 + y < 2 ^ (8 * (wordSize - (i - 1)))

@@ -7,13 +7,14 @@ use mathlib.Core.List.{List, [], _∷_, _++_, map}
 use Prim.Native.Nat.{ℕ, zero, suc, _+_, _*_, _/_, _≤_, _<_, suc-le-suc}
 use native.Mathlib.Omega.{arith}
 use lib.Dec.{eqb, ltb}
-use lib.ListN.{length, getD, drop, length-drop, take-append-drop}
-use lib.Seq.{length-take-le, drop-drop}
+use lib.ListN.{length, getD, drop, length-drop}
+use lib.Seq.{length-take-le}
 use borrow.Author.Tests.{le-ltb, ne-eqb, ltb-false, eqb-false}
 use Rattle.base.specs.Bytes.{Bytes, AllBytes, sameBytes, partAt, joined}
 use Rattle.base.proofs.Tests.{or-left, or-right}
 use Rattle.base.proofs.Search.{any-false, any-false-at}
 use Rattle.base.proofs.Bytes.{other-same, same-other, bytes-take, bytes-drop, bytes-append, bytes-joined}
+use Rattle.base.proofs.Parts.{part-and-rest}
 use Rattle.base.proofs.Number.{number-pair, number-below, number-high, number-low, high-below}
 use Rattle.block.specs.Limits.{headerSize, referenceSize, requestSize, maxSlot}
 use Rattle.block.specs.Layout.{Content, siteOf, sequenceOf, referenceCount, requestCount, referenceList, requestList, referenceAt, requestAt, requestBytes, referencesIn, requestsIn, content, contentOf, encode}
@@ -111,8 +112,7 @@ module _ (b : Bytes) (a : AllBytes b) (r : Accepted b) where
   requests-bytes = bytes-drop (headerSize + referenceSize * referenceCount b) b a
 
   lists-rest : referenceList b ++ requestList b ≡ drop headerSize b
-  lists-rest =
-      ap (λ (x : Bytes). referenceList b ++ x) (sym (drop-drop (referenceSize * referenceCount b) headerSize b)) ∙ take-append-drop (referenceSize * referenceCount b) (drop headerSize b)
+  lists-rest = part-and-rest b headerSize (referenceSize * referenceCount b)
 
   -- the content is one that fits
   digest-there : (i : ℕ) → i < referenceCount b → Digest (referenceAt (referenceList b) i)

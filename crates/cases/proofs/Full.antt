@@ -1,8 +1,9 @@
 -- The case of a full table, which is slower to compute than all the others together. Assumes nothing.
 use mathlib.Core.Path.{_≡_, refl}
 use mathlib.Core.List.{[], _∷_}
+use Rattle.table.specs.Checks.{refused}
 use Rattle.cases.specs.Toy.{toy, block}
-use Rattle.cases.specs.Run.{good, placed, refused, answers}
+use Rattle.cases.specs.Run.{good, placed, answers}
 use Rattle.cases.specs.Blocks.{numbered, holding}
 use Rattle.cases.proofs.Opened.{opened}
 

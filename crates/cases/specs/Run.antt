@@ -4,6 +4,7 @@ use mathlib.Core.List.{List, [], _∷_}
 use Prim.Native.Nat.{ℕ}
 use Rattle.base.specs.Bytes.{Bytes}
 use Rattle.block.specs.declared.Answer.{Answer}
+use Rattle.table.specs.Checks.{success}
 use Rattle.admission.specs.Admission.{admission, admitted}
 
 -- what a call is given beside the table
@@ -22,11 +23,7 @@ judged verdict b = record { bytes = b; verdict = verdict }
 
 -- "A success has refusal 0, with the place from admission"
 abbrev pub placed : ℕ → Answer
-placed place = record { refusal = 0; value = place }
-
--- a refusal's number, and the value beside it
-abbrev pub refused : ℕ → ℕ → Answer
-refused number value = record { refusal = number; value = value }
+placed place = success place
 
 module _ (digest : Bytes → Bytes) where
   -- the table that a run leaves

@@ -1,6 +1,6 @@
 -- A row is read from its own 60 bytes, the bytes of a row read to that row, and rows that show the same have the same bytes.
 -- Assumes nothing.
-use mathlib.Core.Path.{_≡_, sym, ap, ap₂, _∙_, subst}
+use mathlib.Core.Path.{_≡_, refl, sym, ap, ap₂, _∙_, subst}
 use mathlib.Core.List.{List, [], _∷_, _++_}
 use Prim.Native.Nat.{ℕ, _+_, _*_, _<_}
 use native.Mathlib.Nat.{add-assoc}
@@ -15,7 +15,7 @@ use Rattle.base.specs.Word.{wordSize, word, wordBytes}
 use Rattle.base.proofs.List.{length-list, list-at, list-same}
 use Rattle.base.proofs.Mask.{mask-below}
 use Rattle.base.proofs.Sets.{mask-has, mask-same}
-use Rattle.base.proofs.Parts.{part-of-front, EachSize, parts-at, length-joined, parts-joined}
+use Rattle.base.proofs.Parts.{part-of-front, EachSize, parts-at, parts-joined, length-joined-list}
 use Rattle.base.proofs.Number.{number-pair, number-of-part}
 use Rattle.base.proofs.Word.{length-word, word-of-bytes}
 use Rattle.block.specs.Limits.{referenceSize, slotCount}
@@ -83,7 +83,7 @@ pair-size : (r : Row) → EachSize 2 (requestPairs r)
 pair-size r i h = ap length (list-at (requestPair r) slotCount i [] (omega (arith, length-list (requestPair r) slotCount)))
 
 pairs-length : (r : Row) → length (joined (requestPairs r)) ≡ 2 * slotCount
-pairs-length r = length-joined 2 (requestPairs r) (pair-size r) ∙ ap (λ (n : ℕ). 2 * n) (length-list (requestPair r) slotCount)
+pairs-length r = length-joined-list 2 (requestPair r) slotCount (λ slot. refl)
 
 -- the bytes of the references
 abbrev pub referenceMask : Row → Bytes

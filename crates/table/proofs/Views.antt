@@ -64,18 +64,17 @@ same-lower v w k i l e j h = e j (omega arith)
 pub place-same : (v w : View) (k : ℕ) (d : Bytes) → SameBelow v w k → placeOf v k d ≡ placeOf w k d
 place-same v w k d e = first-same (hasDigest v d) (hasDigest w d) k (λ j h. ap (λ (x : Bytes). sameBytes x d) (e j h .digest))
 
-parent-same : (r q r′ q′ : Row) → SameRow r r′ → SameRow q q′ → isParent r q ≡ isParent r′ q′
-parent-same r q r′ q′ e f = rw (e .site, e .sequence, f .site, f .sequence)
-
-pub parents-same : (v w : View) (k : ℕ) (r q : Row) → SameBelow v w k → k ≤ maxPlaces → SameRow r q → parents v k r ≡ parents w k q
-unfolding parents
-parents-same v w k r q e l f =
-    count-same (λ j. r .refersTo j && isParent r (v .row j)) (λ j. q .refersTo j && isParent q (w .row j)) k
-    (λ j h. ap₂ _&&_ (f .refersTo j (omega arith)) (parent-same r (v .row j) q (w .row j) f (e j h)))
+-- the parent rule reads of a row only its site, its sequence number and which places below k it refers to
+pub rule-reads : (v w : View) (k : ℕ) (r q : Row) → SameBelow v w k → r .site ≡ q .site → r .sequence ≡ q .sequence
+    → ((j : ℕ) → j < k → r .refersTo j ≡ q .refersTo j) → parentRule v k r ≡ parentRule w k q
+unfolding parentRule parents
+rule-reads v w k r q e s n f =
+    ap₂ (λ (x y : ℕ). eqb x 0 || eqb y 1) n
+    (count-same (λ j. r .refersTo j && isParent r (v .row j)) (λ j. q .refersTo j && isParent q (w .row j)) k
+    (λ j h. ap₂ _&&_ (f j h) (rw (s, n, e j h .site, e j h .sequence))))
 
 pub rule-same : (v w : View) (k : ℕ) (r q : Row) → SameBelow v w k → k ≤ maxPlaces → SameRow r q → parentRule v k r ≡ parentRule w k q
-unfolding parentRule
-rule-same v w k r q e l f = ap₂ (λ (x y : ℕ). eqb x 0 || eqb y 1) (f .sequence) (parents-same v w k r q e l f)
+rule-same v w k r q e l f = rule-reads v w k r q e (f .site) (f .sequence) (λ j h. f .refersTo j (omega arith))
 
 pub row-same : (s : Setup) (v w : View) (i : ℕ) → SameBelow v w (suc i) → i < maxPlaces → rowInForm s v i ≡ rowInForm s w i
 unfolding rowInForm

@@ -13,7 +13,14 @@ pub record Check : Type 0 where
 abbrev pub check : ℕ → Bool → ℕ → Check
 check number holds value = record { number = number; holds = holds; value = value }
 
+-- "A success has refusal 0"
+abbrev pub success : ℕ → Answer
+success value = record { refusal = 0; value = value }
+
+abbrev pub refused : ℕ → ℕ → Answer
+refused number value = record { refusal = number; value = value }
+
 -- the answer of a call whose success returns this value
 unfoldable pub answerTo : List Check → ℕ → Answer
-answerTo [] value = record { refusal = 0; value = value }
-answerTo (c ∷ cs) value = cond (c .holds) (answerTo cs value) (record { refusal = c .number; value = c .value })
+answerTo [] value = success value
+answerTo (c ∷ cs) value = cond (c .holds) (answerTo cs value) (refused (c .number) (c .value))

@@ -20,17 +20,18 @@ use Rattle.block.specs.declared.Reading.the-variants.{Block, Misshapen, BadRequ
 use Rattle.block.proofs.Reading.{the-type}
 use Rattle.block.proofs.Shape.{shaped}
 use Rattle.block.proofs.Accepted.{reading-accepted}
-use Rattle.table.specs.Layout.{setupOf}
+use Rattle.table.specs.Layout.{setupOf, countOf}
 use Rattle.table.specs.Form.{inForm}
-use Rattle.table.specs.Checks.{answerTo}
+use Rattle.table.specs.Checks.{refused, answerTo}
+use Rattle.table.specs.Steps.{Places}
 use Rattle.table.proofs.Formed.{formed-of}
 use Rattle.admission.specs.Admission.{admission, admitted}
-use Rattle.admission.specs.Steps.{Sized, heldAnswer, entered}
+use Rattle.admission.specs.Steps.{heldAnswer, entered}
 use Rattle.admission.proofs.admit.Statement.{statement}
 use Rattle.admission.proofs.admit.Tie as tie
 
-sized : (t : Bytes) → inForm t ≡ true → Sized t
-sized t e = let f = formed-of t e in record { size = f .size; count = f .held .fits }
+sized : (t : Bytes) → inForm t ≡ true → Places t (countOf t)
+sized t e = let f = formed-of t e in record { size = f .size; bound = f .held .fits }
 
 -- a reading that is no block has a refusal's number
 refused-number : (r : Reading) → OneOf (1 ∷ 2 ∷ 3 ∷ []) (tagOf the-type r) → answerOf r .refusal ≢ 0
@@ -41,9 +42,6 @@ refused-number Misshapen k = λ e. omega arith
 refused-number (BadRequest i) k = λ e. omega arith
 refused-number (RepeatedReference i) k = λ e. omega arith
 
-abbrev answers : ℕ → Answer
-answers number = record { refusal = number; value = 0 }
-
 module _ (t b : Bytes) (verdict : ℕ) where
   -- what a call promises
   abbrev Promised : Answer → Bytes → Type 0
@@ -53,24 +51,24 @@ module _ (t b : Bytes) (verdict : ℕ) where
   unfolding admitted
   refusing a e n = (e, rw (← e, ne-eqb (a .refusal) 0 n))
 
-  way2 : inForm t ≡ false → Promised (answers 2) t
+  way2 : inForm t ≡ false → Promised (refused 2 0) t
   unfolding admission answerTo
-  way2 e = refusing (answers 2) (rw e) (λ z. omega arith)
+  way2 e = refusing (refused 2 0) (rw e) (λ z. omega arith)
 
   module _ (formed : inForm t ≡ true) where
-    way3 : wellShaped b ≡ false → Promised (answers 3) t
+    way3 : wellShaped b ≡ false → Promised (refused 3 0) t
     unfolding admission answerTo
-    way3 e = refusing (answers 3) (rw (formed, e)) (λ z. omega arith)
+    way3 e = refusing (refused 3 0) (rw (formed, e)) (λ z. omega arith)
 
     module _ (shape : wellShaped b ≡ true) where
-      way4 : setupOf t .sites ≤ siteOf b → Promised (answers 4) t
+      way4 : setupOf t .sites ≤ siteOf b → Promised (refused 4 0) t
       unfolding admission answerTo
-      way4 h = refusing (answers 4) (rw (formed, shape, le-ltb (siteOf b) (setupOf t .sites) h)) (λ z. omega arith)
+      way4 h = refusing (refused 4 0) (rw (formed, shape, le-ltb (siteOf b) (setupOf t .sites) h)) (λ z. omega arith)
 
       module _ (site : siteOf b < setupOf t .sites) where
-        way5 : verdict ≢ 1 → Promised (answers 5) t
+        way5 : verdict ≢ 1 → Promised (refused 5 0) t
         unfolding admission answerTo
-        way5 n = refusing (answers 5) (rw (formed, shape, lt-ltb (siteOf b) (setupOf t .sites) site, ne-eqb verdict 1 n)) (λ z. omega arith)
+        way5 n = refusing (refused 5 0) (rw (formed, shape, lt-ltb (siteOf b) (setupOf t .sites) site, ne-eqb verdict 1 n)) (λ z. omega arith)
 
         module _ (link : verdict ≡ 1) (r : Reading) (er : r ≡ reading b) where
           way-reader : OneOf (1 ∷ 2 ∷ 3 ∷ []) (tagOf the-type r) → (a : Answer) → a ≡ answerOf r → Promised a t

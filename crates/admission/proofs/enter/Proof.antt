@@ -10,7 +10,7 @@ use Rattle.base.specs.Mask.{inMask}
 use Rattle.base.specs.Bytes.{Bytes}
 use Rattle.sha256.specs.Sha256.{sha256}
 use Rattle.sha256.proofs.Laws.{sha256-length}
-use Rattle.block.specs.Limits.{headerSize, referenceSize}
+use Rattle.block.specs.Limits.{headerSize, referenceSize, maxReferences}
 use Rattle.block.specs.Layout.{referenceCount, referenceList, requestsIn, countedRequest}
 use Rattle.block.specs.Reading.{fieldsOf}
 use Rattle.block.specs.Steps.{Shaped}
@@ -19,19 +19,20 @@ use Rattle.block.specs.declared.Fields.{Fields}
 use Rattle.block.proofs.Shape.{reference-part, request-part}
 use Rattle.table.specs.View.{maxPlaces, Row, SameRow}
 use Rattle.table.specs.Layout.{countOf, viewOf, withRow}
+use Rattle.table.specs.Steps.{Place, Places}
 use Rattle.table.proofs.Checks.{numbered, all-hold}
 use Rattle.table.proofs.RowBytes.{row-bytes-same}
 use Rattle.admission.specs.Admission.{rowFor, heldChecks}
-use Rattle.admission.specs.Steps.{Sized, Room, Ready, placesListed, rowWith, heldAnswer, entered}
+use Rattle.admission.specs.Steps.{Ready, placesListed, rowWith, heldAnswer, entered}
 use Rattle.admission.proofs.Referring.{listed}
 use Rattle.admission.proofs.enter.Statement.{statement}
 use Rattle.admission.proofs.enter.Tie as tie
 
 -- where nothing is refused there is room
-room : (t b : Bytes) → Sized t → heldAnswer t b .refusal ≡ 0 → Room t
+room : (t b : Bytes) → Places t (countOf t) → heldAnswer t b .refusal ≡ 0 → Place t (countOf t)
 unfolding heldAnswer numbered
 room t b s e =
-    record { size = s .size; room = ltb-true (countOf t) maxPlaces (all-hold (heldChecks sha256 (viewOf t) b) (countOf t) refl e .1 .1 .1 .0) }
+    record { size = s .size; place = ltb-true (countOf t) maxPlaces (all-hold (heldChecks sha256 (viewOf t) b) (countOf t) refl e .1 .1 .1 .0) }
 
 -- rows that show the same are put alike
 with-same : (t : Bytes) (r q : Row) → SameRow r q → withRow t r ≡ withRow t q
@@ -46,14 +47,14 @@ module _ (t b : Bytes) (f : Fields) (shape : Shaped b) (ef : f ≡ fieldsOf b) w
   abbrev middle : ℕ
   middle = headerSize + referenceSize * f .references
 
-  within : (f .references ≤ 16) × (middle ≤ length b)
+  within : (f .references ≤ maxReferences) × (middle ≤ length b)
   within = (omega (arith, counted, shape .references), omega (arith, counted, shape .exact))
 
   module _ (d : Bytes) (references : ℕ) (er : references ≡ placesListed t (countOf t) (take (middle - headerSize) (drop headerSize b))) where
     places : references ≡ placesListed t (countOf t) (referenceList b)
     places = er ∙ ap (placesListed t (countOf t)) (reference-part b (f .references) counted)
 
-    ready : Sized t → Ready t b references
+    ready : Places t (countOf t) → Ready t b references
     ready s = record { sized = s; shaped = shape; places = places }
 
     same-row : d ≡ sha256 b → SameRow (rowWith d (f .site) (f .sequence) references (take (length b - middle) (drop middle b))) (rowFor sha256 (viewOf t) b)
@@ -108,7 +109,7 @@ returns-2 c =
 
 -- the two lists lie within the block
 fits : (c : tie.After-struct-known) → let a = c .before .before .before .args in
-    (a .fields .references ≤ 16) × (headerSize + referenceSize * a .fields .references ≤ length (a .block .now))
+    (a .fields .references ≤ maxReferences) × (headerSize + referenceSize * a .fields .references ≤ length (a .block .now))
 fits c = let s = c .before .before .before in within (s .args .table .now) (s .args .block .now) (s .args .fields) (s .pre .1) (s .pre .2)
 
 pub enter-spec : {M : Type 1} → statement M

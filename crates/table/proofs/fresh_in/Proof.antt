@@ -7,28 +7,24 @@ use lib.ListN.{length, replicate}
 use borrow.Author.Needs.{needs}
 use borrow.Author.Tests.{eq-eqb, ne-eqb, not-true, not-false}
 use Rattle.base.specs.Bytes.{Bytes}
-use Rattle.block.specs.declared.Answer.{Answer}
 use Rattle.setup.specs.Setup.{Setup, lawful}
 use Rattle.setup.proofs.Thresholds.{eight-owners}
 use Rattle.table.specs.Layout.{tableSize}
-use Rattle.table.specs.Checks.{answerTo}
+use Rattle.table.specs.Checks.{success, refused, answerTo}
 use Rattle.table.specs.Fresh.{emptyTable, freshAnswer, freshIn}
 use Rattle.table.proofs.fresh_in.Statement.{statement}
 use Rattle.table.proofs.fresh_in.Tie as tie
 
-abbrev answers : ℕ → Answer
-answers number = record { refusal = number; value = 0 }
-
 module _ (s : Setup) (t : Bytes) where
-  way1 : lawful s ≡ false → (answers 1 ≡ freshAnswer s t) × (t ≡ freshIn s t)
+  way1 : lawful s ≡ false → (refused 1 0 ≡ freshAnswer s t) × (t ≡ freshIn s t)
   unfolding freshIn freshAnswer answerTo
   way1 e = (rw e, rw e)
 
-  way2 : lawful s ≡ true → length t ≢ tableSize → (answers 2 ≡ freshAnswer s t) × (t ≡ freshIn s t)
+  way2 : lawful s ≡ true → length t ≢ tableSize → (refused 2 0 ≡ freshAnswer s t) × (t ≡ freshIn s t)
   unfolding freshIn freshAnswer answerTo
   way2 e n = (rw (e, ne-eqb (length t) tableSize n), rw (e, ne-eqb (length t) tableSize n))
 
-  way0 : (t′ : Bytes) → lawful s ≡ true → length t ≡ tableSize → t′ ≡ emptyTable s → (answers 0 ≡ freshAnswer s t) × (t′ ≡ freshIn s t)
+  way0 : (t′ : Bytes) → lawful s ≡ true → length t ≡ tableSize → t′ ≡ emptyTable s → (success 0 ≡ freshAnswer s t) × (t′ ≡ freshIn s t)
   unfolding freshIn freshAnswer answerTo
   way0 t′ e n m = (rw (e, eq-eqb (length t) tableSize n), rw (e, eq-eqb (length t) tableSize n) m)
 

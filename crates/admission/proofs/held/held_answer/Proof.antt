@@ -13,27 +13,24 @@ use Rattle.base.specs.Bytes.{Bytes}
 use Rattle.sha256.specs.Sha256.{sha256}
 use Rattle.block.specs.Limits.{headerSize, referenceSize}
 use Rattle.block.specs.Layout.{siteOf, sequenceOf, referenceCount}
-use Rattle.block.specs.declared.Answer.{Answer}
 use Rattle.block.proofs.Shape.{reference-part}
 use Rattle.table.specs.View.{maxPlaces}
 use Rattle.table.specs.Layout.{countOf, viewOf}
 use Rattle.table.specs.Rules.{hasDigest, placeOf, parentRule}
-use Rattle.table.specs.Checks.{answerTo}
+use Rattle.table.specs.Checks.{success, refused, answerTo}
 use Rattle.table.specs.Steps.{rowOf}
+use Rattle.table.proofs.Views.{same-refl, rule-reads}
 use Rattle.admission.specs.Admission.{missing, rowFor}
 use Rattle.admission.specs.Steps.{Ready, firstMissing, heldAnswer}
-use Rattle.admission.proofs.Referring.{first-missing, listed, rule-reads}
+use Rattle.admission.proofs.Referring.{first-missing, listed}
 use Rattle.admission.proofs.held.held_answer.Statement.{statement}
 use Rattle.admission.proofs.held.held_answer.Tie as tie
-
-abbrev answers : ℕ → ℕ → Answer
-answers number value = record { refusal = number; value = value }
 
 module _ (t b d : Bytes) (references k place : ℕ) (ready : Ready t b references) (ed : d ≡ sha256 b) (ek : k ≡ countOf t) (ep : place ≡ placeOf (viewOf t) k d) where
   at-place : place ≡ placeOf (viewOf t) (countOf t) (sha256 b)
   at-place = ep ∙ ap₂ (placeOf (viewOf t)) ek ed
 
-  pub way8 : place < k → answers 8 place ≡ heldAnswer t b
+  pub way8 : place < k → refused 8 place ≡ heldAnswer t b
   unfolding heldAnswer answerTo anyBelow
   way8 h = rw (← at-place, lt-ltb place (countOf t) (omega arith))
 
@@ -50,7 +47,7 @@ module _ (t b d : Bytes) (references k place : ℕ) (ready : Ready t b reference
     unfolding anyBelow
     missed l = ap (λ (n : ℕ). ltb n (referenceCount b)) (sym at-missing) ∙ lt-ltb i (referenceCount b) (omega arith)
 
-    pub way9 : i < p → answers 9 i ≡ heldAnswer t b
+    pub way9 : i < p → refused 9 i ≡ heldAnswer t b
     unfolding heldAnswer answerTo
     way9 l = rw (new h, missed l, at-missing)
 
@@ -62,18 +59,18 @@ module _ (t b d : Bytes) (references k place : ℕ) (ready : Ready t b reference
       at-rule : rule ≡ parentRule (viewOf t) (countOf t) (rowFor sha256 (viewOf t) b)
       at-rule =
           eu ∙ ap (λ (x : ℕ). parentRule (viewOf t) x (rowOf (siteOf b) n references)) ek
-          ∙ rule-reads (viewOf t) (countOf t) (rowOf (siteOf b) n references) (rowFor sha256 (viewOf t) b) refl en
-          (λ j. ap (λ (m : ℕ). inMask m j) (ready .places) ∙ listed b (ready .shaped) t j)
+          ∙ rule-reads (viewOf t) (viewOf t) (countOf t) (rowOf (siteOf b) n references) (rowFor sha256 (viewOf t) b) (same-refl (viewOf t) (countOf t)) refl en
+          (λ j h. ap (λ (m : ℕ). inMask m j) (ready .places) ∙ listed b (ready .shaped) t j)
 
-      pub way10 : rule ≡ false → answers 10 0 ≡ heldAnswer t b
+      pub way10 : rule ≡ false → refused 10 0 ≡ heldAnswer t b
       unfolding heldAnswer answerTo
       way10 e = rw (new h, found l, sym at-rule ∙ e)
 
-      pub way11 : rule ≡ true → maxPlaces ≤ k → answers 11 0 ≡ heldAnswer t b
+      pub way11 : rule ≡ true → maxPlaces ≤ k → refused 11 0 ≡ heldAnswer t b
       unfolding heldAnswer answerTo
       way11 e m = rw (new h, found l, sym at-rule ∙ e, le-ltb (countOf t) maxPlaces (omega arith))
 
-      pub way0 : rule ≡ true → k < maxPlaces → answers 0 k ≡ heldAnswer t b
+      pub way0 : rule ≡ true → k < maxPlaces → success k ≡ heldAnswer t b
       unfolding heldAnswer answerTo
       way0 e m = rw (new h, found l, sym at-rule ∙ e, lt-ltb (countOf t) maxPlaces (omega arith), ek)
 

@@ -10,12 +10,13 @@ use Rattle.base.specs.Mask.{maskBelow}
 use Rattle.base.proofs.Mask.{mask-put, mask-skip}
 use Rattle.table.specs.View.{maxPlaces}
 use Rattle.table.specs.Layout.{countOf, digestAt}
-use Rattle.admission.specs.Steps.{Sized, among, placesListed}
+use Rattle.table.specs.Steps.{Places}
+use Rattle.admission.specs.Steps.{among, placesListed}
 use Rattle.admission.proofs.held.places_listed.Statement.{statement}
 use Rattle.admission.proofs.held.places_listed.Tie as tie
 
 abbrev Inv-loop : tie.InvT-loop
-Inv-loop table list k mask₀ j₀ mask j = (j ≤ k) × (k ≡ countOf table) × Sized table × (mask ≡ placesListed table j list)
+Inv-loop table list k mask₀ j₀ mask j = (j ≤ k) × (k ≡ countOf table) × Places table (countOf table) × (mask ≡ placesListed table j list)
 
 abbrev μ-loop : tie.MeasureT-loop
 μ-loop table list k mask₀ j₀ mask j = k - j

@@ -1,7 +1,7 @@
 -- `write_row` meets its contract: the fields are put one behind the other, in the layout's order. Assumes nothing.
 use mathlib.Core.Path.{_≡_, refl, sym, ap, ap₂, _∙_}
 use mathlib.Core.List.{[], _∷_, _++_, append-assoc}
-use Prim.Native.Nat.{ℕ, _+_, _^_, _≤_, _<_}
+use Prim.Native.Nat.{ℕ, _+_, _*_, _^_, _≤_, _<_}
 use native.Mathlib.Omega.{arith}
 use lib.ListN.{length, length-append}
 use borrow.Author.Needs.{needs}
@@ -33,7 +33,7 @@ module _ (t : Bytes) (at : ℕ) (d : Bytes) (site sequence references : ℕ) (re
   abbrev mask : Bytes
   mask = wordBytes wordSize references
 
-  requests-length : length (requestBytes requests) ≡ 16
+  requests-length : length (requestBytes requests) ≡ 2 * slotCount
   requests-length = length-joined-list 2 (λ slot. pair (countedRequest (requestsIn requests) slot)) slotCount (λ i. refl)
 
   -- the bytes of the row, in its order

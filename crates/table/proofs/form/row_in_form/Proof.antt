@@ -15,8 +15,9 @@ use Rattle.base.proofs.Sets.{none-from, ones-members}
 use Rattle.block.specs.Limits.{maxReferences}
 use Rattle.table.specs.View.{maxPlaces}
 use Rattle.table.specs.Layout.{siteAt, sequenceAt, markAt, referencesAt, digestAt, rowAt, viewOf}
-use Rattle.table.specs.Rules.{hasDigest, parents, parentRule, rowInForm}
+use Rattle.table.specs.Rules.{hasDigest, parentRule, rowInForm}
 use Rattle.table.specs.Steps.{rowOf, marksClosed}
+use Rattle.table.proofs.Views.{same-refl, rule-reads}
 use Rattle.table.proofs.form.row_in_form.Statement.{statement}
 use Rattle.table.proofs.form.row_in_form.Tie as tie
 
@@ -83,10 +84,9 @@ closed : (c : tie.After-marks-closed) → let d = back2 (back3 (back4 (back5 (c 
     marksClosed (t d) (i d) (referencesAt (t d) (i d)) ≡ c .marks-closed .result
 closed c = rw (← back4 (back5 (c .before)) .before .references-at .ensures) (sym (c .marks-closed .ensures))
 
--- the parent rule reads of a row only these three
 rule-row : (t : Bytes) (i : ℕ) → parentRule (viewOf t) i (rowOf (siteAt t i) (sequenceAt t i) (referencesAt t i)) ≡ parentRule (viewOf t) i (rowAt t i)
-unfolding parentRule parents
-rule-row t i = refl
+rule-row t i =
+    rule-reads (viewOf t) (viewOf t) i (rowOf (siteAt t i) (sequenceAt t i) (referencesAt t i)) (rowAt t i) (same-refl (viewOf t) i) refl refl (λ j h. refl)
 
 returns : tie.Need-returns
 unfolding rowInForm
