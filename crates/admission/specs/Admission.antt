@@ -6,7 +6,7 @@ use Prim.Native.Nat.{ℕ}
 use lib.Dec.{eqb, ltb}
 use Rattle.base.specs.Search.{firstBelow, anyBelow}
 use Rattle.base.specs.Bytes.{Bytes, sameBytes}
-use Rattle.block.specs.Layout.{siteOf, sequenceOf, referenceCount, referenceList, requestList, referenceAt, requestsIn, countedRequest}
+use Rattle.block.specs.Layout.{siteOf, sequenceOf, referenceCount, referenceList, referenceAt, requestFor}
 use Rattle.block.specs.Reading.{wellShaped, reading, answerOf}
 use Rattle.block.specs.declared.Answer.{Answer}
 use Rattle.setup.specs.Setup.{Setup}
@@ -35,7 +35,7 @@ module _ (digest : Bytes → Bytes) where
         -- the places held whose digests it lists
         refersTo = λ j. ltb j (v .held) && lists b (v .row j .digest);
         -- the first request of each slot
-        request = countedRequest (requestsIn (requestList b));
+        request = requestFor b;
         mark = 0;
       }
 

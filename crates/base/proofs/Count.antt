@@ -1,9 +1,10 @@
 -- Laws of counts: the turns of the loop that counts, bounds, sets that are large enough to meet, and that as many numbers as are sent to
--- different numbers below p are at most p. Assumes nothing.
-use mathlib.Core.Path.{_≡_, refl, sym, _∙_}
+-- different numbers below p are at most p; and that no two pass where one is counted. Assumes nothing.
+use mathlib.Core.Path.{_≡_, refl, sym, ap, _∙_}
 use mathlib.Core.Bool.{Bool, true, false, not, _&&_, cond}
-use mathlib.Core.Logic.{_≢_}
+use mathlib.Core.Logic.{_⊎_, _≢_, inl, inr}
 use Prim.Native.Nat.{ℕ, zero, suc, _+_, _≤_, _<_}
+use native.Mathlib.Nat.{eq-or-lt-of-le, le-of-suc-le-suc}
 use native.Mathlib.Numerals.{add-one}
 use native.Mathlib.Omega.{arith}
 use native.Mathlib.Decide.{decLt}
@@ -124,3 +125,26 @@ count-injective f g k (suc p) b d =
 
     last : (j : ℕ) → f j ≡ true → other j ≡ false → g j ≡ p
     last j y n = eqb-true (g j) p (not-false _ (and-not-right (f j) (not (eqb (g j) p)) n y))
+
+-- one that passes is counted
+pub count-member : (f : ℕ → Bool) (k i : ℕ) → i < k → f i ≡ true → 1 ≤ countBelow f k
+unfolding countBelow
+count-member f zero i h y = absurd (omega arith)
+count-member f (suc k) i h y = elim (eq-or-lt-of-le (le-of-suc-le-suc h)) [
+  | inl q ↦ let z : f k ≡ true = ap f (sym q) ∙ y in rw z (omega arith)
+  | inr l ↦ let z : 1 ≤ countBelow f k = count-member f k i l y in omega arith
+]
+
+-- where one is counted, no two pass
+pub count-one : (f : ℕ → Bool) (k : ℕ) → countBelow f k ≡ 1 → (i j : ℕ) → i < k → j < k → f i ≡ true → f j ≡ true → i ≡ j
+unfolding countBelow
+count-one f zero e i j h l y z = absurd (omega arith)
+count-one f (suc k) e i j h l y z = go (f k) refl e (eq-or-lt-of-le (le-of-suc-le-suc h)) (eq-or-lt-of-le (le-of-suc-le-suc l)) (λ u a c. count-one f k u i j a c y z)
+  where
+    go : (t : Bool) → f k ≡ t → cond t 1 0 + countBelow f k ≡ 1 → (i ≡ k) ⊎ (i < k) → (j ≡ k) ⊎ (j < k) → (countBelow f k ≡ 1 → i < k → j < k → i ≡ j) → i ≡ j
+    go t q u (inl a) (inl c) ih = a ∙ sym c
+    go true q u (inl a) (inr c) ih = absurd (omega (arith, count-member f k j c z))
+    go true q u (inr a) c ih = absurd (omega (arith, count-member f k i a y))
+    go false q u (inl a) (inr c) ih = true-not-false (ap f (sym a) ∙ y) q
+    go false q u (inr a) (inl c) ih = true-not-false (ap f (sym c) ∙ z) q
+    go false q u (inr a) (inr c) ih = ih (omega arith) a c

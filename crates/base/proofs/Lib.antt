@@ -5,6 +5,7 @@ pub mod Count
 pub mod Mask
 pub mod Sets
 pub mod List
+pub mod Members
 pub mod Bytes
 pub mod Parts
 pub mod Splice

@@ -1,4 +1,5 @@
--- The values of a function at the numbers below a bound, in a list. Assumes nothing.
+-- The values of a function at the numbers below a bound, in a list, and a test over the elements of a list. Assumes nothing.
+use mathlib.Core.Bool.{Bool, false, _||_}
 use mathlib.Core.List.{List, [], _∷_}
 use Prim.Native.Nat.{ℕ, zero, suc}
 
@@ -7,3 +8,8 @@ module _ {A : Type 0} where
   unfoldable pub listBelow : (ℕ → A) → ℕ → List A
   listBelow f zero = []
   listBelow f (suc k) = f 0 ∷ listBelow (λ i. f (suc i)) k
+
+  -- whether some element passes the test
+  unfoldable pub someIn : (A → Bool) → List A → Bool
+  someIn test [] = false
+  someIn test (x ∷ xs) = test x || someIn test xs

@@ -77,6 +77,13 @@ unfoldable pub countedRequest : List Request → ℕ → ℕ
 countedRequest [] slot = 0
 countedRequest (q ∷ qs) slot = cond (eqb (q .slot) slot) (q .number) (countedRequest qs slot)
 
+-- a block's references in their order, and its counted request of each slot
+abbrev pub referencesOf : Bytes → List Bytes
+referencesOf b = referencesIn (referenceList b)
+
+abbrev pub requestFor : Bytes → ℕ → ℕ
+requestFor b = countedRequest (requestsIn (requestList b))
+
 -- ---- the bytes of a content
 
 abbrev pub requestBytes : Request → Bytes

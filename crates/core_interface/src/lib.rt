@@ -2,10 +2,14 @@
 // the one that it names, for all bytes and numbers. Assumes: the C program lends what host/giangotum_core.h asks for.
 use block::Answer;
 ghost use mathlib.Core.Path.{_≡_};
+ghost use lib.ListN.{length};
 ghost use Rattle.sha256.specs.Sha256.{sha256};
 ghost use Rattle.table.specs.Form.{inForm};
 ghost use Rattle.table.specs.Fresh.{freshAnswer, freshIn};
 ghost use Rattle.admission.specs.Admission.{admission, admitted};
+ghost use Rattle.interpret.specs.Interpretation.{interpretation, marked, recorded};
+ghost use Rattle.agreement.specs.Run.{siteAfter, siteAnswers};
+ghost use Rattle.agreement.specs.Encoding.{callsIn, putAnswers};
 
 // The empty table of a setup, into a lent buffer.
 #[no_mangle]
@@ -31,4 +35,30 @@ pub extern "C" fn gt_admit(table: &mut [u8], block: &[u8], verdict: u8) -> Answe
     ensures { λ _. ⌜ now (table .exit) ≡ admitted sha256 (now (table .entry)) (now (block .entry)) verdict ⌝ }
 {
     admission::admit(table, block, verdict)
+}
+
+// Interpretation of a place.
+#[no_mangle]
+pub extern "C" fn gt_interpret(table: &mut [u8], place: usize, records: &mut [u16]) -> Answer
+    ensures { λ r. ⌜ r ≡ interpretation (now (table .entry)) (now (records .entry)) place ⌝ }
+    ensures { λ _. ⌜ now (table .exit) ≡ marked (now (table .entry)) (now (records .entry)) place ⌝ }
+    ensures { λ _. ⌜ now (records .exit) ≡ recorded (now (table .entry)) (now (records .entry)) place ⌝ }
+{
+    interpret::interpret(table, place, records)
+}
+
+// A whole list of calls.
+#[no_mangle]
+pub extern "C" fn gt_replay(
+    table: &mut [u8],
+    records: &mut [u16],
+    calls: &[u8],
+    answers: &mut [u64],
+) -> usize
+    ensures { λ r. ⌜ r ≡ length (callsIn (now (calls .entry))) ⌝ }
+    ensures { λ _. ⌜ now (table .exit) ≡ siteAfter sha256 (record { table = now (table .entry); records = now (records .entry) }) (callsIn (now (calls .entry))) .table ⌝ }
+    ensures { λ _. ⌜ now (records .exit) ≡ siteAfter sha256 (record { table = now (table .entry); records = now (records .entry) }) (callsIn (now (calls .entry))) .records ⌝ }
+    ensures { λ _. ⌜ now (answers .exit) ≡ putAnswers (now (answers .entry)) 0 (siteAnswers sha256 (record { table = now (table .entry); records = now (records .entry) }) (callsIn (now (calls .entry)))) ⌝ }
+{
+    agreement::replay(table, records, calls, answers)
 }

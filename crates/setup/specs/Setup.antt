@@ -16,6 +16,10 @@ pub record Setup : Type 0 where
 abbrev pub ownerOf : Setup → ℕ → ℕ
 ownerOf s slot = getD (s .owners) slot 0
 
+-- no setup has more sites
+abbrev pub maxSites : ℕ
+maxSites = 16
+
 -- n is 1, 4, 7, 10, 13 or 16
 unfoldable pub lawfulSites : ℕ → Bool
 lawfulSites n = eqb n 1 || (eqb n 4 || (eqb n 7 || (eqb n 10 || (eqb n 13 || eqb n 16))))

@@ -4,6 +4,9 @@
 ghost use mathlib.Core.Path.{_≡_};
 ghost use Rattle.setup.specs.Setup.{lawfulSites, ownersBelow, lawful, faults, echoQuorum, readyAmplification, readyQuorum};
 
+// No setup has more sites.
+pub const MAX_SITES: usize = 16;
+
 // Whether there may be so many sites.
 fn lawful_sites(sites: u8) -> bool
     ensures { λ r. ⌜ r ≡ lawfulSites sites ⌝ }

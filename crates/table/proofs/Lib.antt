@@ -5,5 +5,6 @@ pub mod Checks
 pub mod RowBytes
 pub mod Put
 pub mod Laid
+pub mod Marked
 pub mod Empty
 pub mod Promises

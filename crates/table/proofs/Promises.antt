@@ -3,6 +3,7 @@ use Rattle.table.specs.Promises.{Promises}
 use Rattle.table.proofs.Formed.{in-formed}
 use Rattle.table.proofs.Put.{grown}
 use Rattle.table.proofs.Laid.{laid}
+use Rattle.table.proofs.Marked.{marked}
 use Rattle.table.proofs.Empty.{empty-shows, empty-formed}
 
 pub promises : Promises
@@ -11,4 +12,5 @@ promises =
       laid = laid;
       empty = λ s law. record { formed = in-formed _ (empty-formed s law); setup = empty-shows s law .0; count = empty-shows s law .1 };
       grown = grown;
+      marked = marked;
     }

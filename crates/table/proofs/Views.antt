@@ -18,7 +18,7 @@ use Rattle.base.proofs.Bytes.{other-same, same-other}
 use Rattle.block.specs.Limits.{maxReferences}
 use Rattle.setup.specs.Setup.{Setup, lawful}
 use Rattle.table.specs.View.{maxPlaces, Row, interpreted, View, SameRow, SameBelow}
-use Rattle.table.specs.Rules.{hasDigest, placeOf, isParent, parents, parentRule, refersUninterpreted, rowInForm, heldInForm}
+use Rattle.table.specs.Rules.{hasDigest, placeOf, parentRow, parents, parentRule, refersUninterpreted, rowInForm, heldInForm}
 
 -- ---- rows and views that show the same
 
@@ -70,7 +70,7 @@ pub rule-reads : (v w : View) (k : ℕ) (r q : Row) → SameBelow v w k → r .s
 unfolding parentRule parents
 rule-reads v w k r q e s n f =
     ap₂ (λ (x y : ℕ). eqb x 0 || eqb y 1) n
-    (count-same (λ j. r .refersTo j && isParent r (v .row j)) (λ j. q .refersTo j && isParent q (w .row j)) k
+    (count-same (λ j. r .refersTo j && parentRow r (v .row j)) (λ j. q .refersTo j && parentRow q (w .row j)) k
     (λ j h. ap₂ _&&_ (f j h) (rw (s, n, e j h .site, e j h .sequence))))
 
 pub rule-same : (v w : View) (k : ℕ) (r q : Row) → SameBelow v w k → k ≤ maxPlaces → SameRow r q → parentRule v k r ≡ parentRule w k q

@@ -125,3 +125,7 @@ layout s v =
 -- a table with a row at the next place, and the count one more
 unfoldable pub withRow : Bytes → Row → Bytes
 withRow t r = splice (splice t (rowStart (countOf t)) (rowBytes r)) countOffset ((countOf t + 1) ∷ [])
+
+-- a table with a place marked interpreted
+unfoldable pub withMark : Bytes → ℕ → Bytes
+withMark t i = splice t (rowStart i + markOffset) (1 ∷ [])

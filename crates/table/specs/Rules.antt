@@ -17,13 +17,18 @@ hasDigest v d i = sameBytes (v .row i .digest) d
 abbrev pub placeOf : View → ℕ → Bytes → ℕ
 placeOf v k d = firstBelow (hasDigest v d) k
 
--- the block of row q is a parent for the block of row r: "of its own site with the sequence number one less"
-abbrev pub isParent : Row → Row → Bool
-isParent r q = eqb (q .site) (r .site) && eqb (q .sequence + 1) (r .sequence)
+-- for a block of this site and sequence number, one of that site and sequence number is a parent: "of its own site with the sequence
+-- number one less"
+abbrev pub isParent : ℕ → ℕ → ℕ → ℕ → Bool
+isParent site sequence thatSite thatSequence = eqb thatSite site && eqb (thatSequence + 1) sequence
+
+-- the same of the blocks of two rows
+abbrev pub parentRow : Row → Row → Bool
+parentRow r q = isParent (r .site) (r .sequence) (q .site) (q .sequence)
 
 -- how many of the places below k are among r's references and a parent for it
 unfoldable pub parents : View → ℕ → Row → ℕ
-parents v k r = countBelow (λ j. r .refersTo j && isParent r (v .row j)) k
+parents v k r = countBelow (λ j. r .refersTo j && parentRow r (v .row j)) k
 
 -- "a block of sequence 0 has no parent; any other has among its references exactly one"
 unfoldable pub parentRule : View → ℕ → Row → Bool

@@ -1,7 +1,7 @@
 -- What document 01's rules read of the blocks that are held. A table's bytes have a view, and so have a ledger's blocks: the rules are
 -- stated once, over it.
 use mathlib.Core.Path.{_≡_}
-use mathlib.Core.Bool.{Bool}
+use mathlib.Core.Bool.{Bool, cond}
 use Prim.Native.Nat.{ℕ, _<_}
 use lib.Dec.{eqb}
 use Rattle.base.specs.Bytes.{Bytes}
@@ -39,6 +39,18 @@ pub record SameRow (r q : Row) : Type 0 where
   pub refersTo : (j : ℕ) → j < maxPlaces → r .refersTo j ≡ q .refersTo j
   pub request : (slot : ℕ) → slot < slotCount → r .request slot ≡ q .request slot
   pub mark : r .mark ≡ q .mark
+
+-- the row, interpreted if the test passes and else as it is
+abbrev pub markedIf : Bool → Row → Row
+markedIf test r =
+    record {
+      digest = r .digest;
+      site = r .site;
+      sequence = r .sequence;
+      refersTo = r .refersTo;
+      request = r .request;
+      mark = cond test 1 (r .mark);
+    }
 
 -- two views agree on the places below k
 abbrev pub SameBelow : View → View → ℕ → Type 0

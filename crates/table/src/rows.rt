@@ -1,6 +1,7 @@
-// What a table's bytes show: n, the count, and the fields of a row.
+// What a table's bytes show: n, the owners, the count, and the fields of a row.
 use crate::COUNT_OFFSET;
 use crate::MARK_OFFSET;
+use crate::OWNERS_OFFSET;
 use crate::REFERENCES_OFFSET;
 use crate::REQUESTS_OFFSET;
 use crate::ROW_SIZE;
@@ -11,6 +12,7 @@ ghost use mathlib.Core.Path.{_≡_};
 ghost use Prim.Native.Nat.{_<_};
 ghost use lib.ListN.{length};
 ghost use Rattle.block.specs.Limits.{slotCount};
+ghost use Rattle.setup.specs.Setup.{ownerOf};
 ghost use Rattle.table.specs.Layout.{tableSize, setupOf, countOf, digestAt, siteAt, sequenceAt, referencesAt, requestAt, markAt};
 ghost use Rattle.table.specs.Steps.{Place};
 
@@ -19,6 +21,13 @@ pub fn sites_of(table: &[u8]) -> u8
     ensures { λ r. ⌜ r ≡ setupOf (now (table .entry)) .sites ⌝ }
 {
     table[0]
+}
+
+pub fn owner_of(table: &[u8], slot: usize) -> u8
+    requires { ⌜ (length (now table) ≡ tableSize) × (slot < slotCount) ⌝ }
+    ensures { λ r. ⌜ r ≡ ownerOf (setupOf (now (table .entry))) slot ⌝ }
+{
+    table[OWNERS_OFFSET + slot]
 }
 
 pub fn count_of(table: &[u8]) -> usize

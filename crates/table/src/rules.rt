@@ -5,7 +5,7 @@ ghost use mathlib.Core.Bool.{_&&_};
 ghost use Rattle.base.specs.Search.{firstBelow};
 ghost use Rattle.base.specs.Mask.{inMask};
 ghost use Rattle.table.specs.Layout.{viewOf, rowAt};
-ghost use Rattle.table.specs.Rules.{placeOf, isParent, parents, parentRule, refersUninterpreted};
+ghost use Rattle.table.specs.Rules.{placeOf, parentRow, parents, parentRule, refersUninterpreted};
 ghost use Rattle.table.specs.Steps.{Place, Places, rowOf};
 
 // The place below k that holds the block of this digest, or k.
@@ -24,9 +24,9 @@ pub fn place_of(table: &[u8], k: usize, digest: &[u8]) -> usize
 }
 
 // Whether the block at place j is among the references of a block and a parent for it.
-fn is_parent(table: &[u8], j: usize, references: u64, site: u8, sequence: u16) -> bool
+pub fn is_parent(table: &[u8], j: usize, references: u64, site: u8, sequence: u16) -> bool
     requires { ⌜ Place (now table) j ⌝ }
-    ensures { λ r. ⌜ r ≡ (inMask references j && isParent (rowOf site sequence references) (rowAt (now (table .entry)) j)) ⌝ }
+    ensures { λ r. ⌜ r ≡ (inMask references j && parentRow (rowOf site sequence references) (rowAt (now (table .entry)) j)) ⌝ }
 {
     if !base::in_mask(references, j) {
         return false;

@@ -9,7 +9,7 @@ use Rattle.base.specs.Count.{countBelow}
 use Rattle.base.specs.Mask.{inMask}
 use Rattle.base.proofs.Count.{count-here, count-past}
 use Rattle.table.specs.Layout.{rowAt, viewOf}
-use Rattle.table.specs.Rules.{isParent, parents}
+use Rattle.table.specs.Rules.{parentRow, parents}
 use Rattle.table.specs.Steps.{Places, rowOf}
 use Rattle.table.proofs.rules.parents_among.Statement.{statement}
 use Rattle.table.proofs.rules.parents_among.Tie as tie
@@ -30,7 +30,7 @@ loop-again c =
     let d = c .before .before .before in
     let l = d .loop in
     let a = d .before .before .args in
-    let f : ℕ → Bool = λ i. inMask (a .references) i && isParent (rowOf (a .site) (a .sequence) (a .references)) (rowAt (a .table .now) i) in
+    let f : ℕ → Bool = λ i. inMask (a .references) i && parentRow (rowOf (a .site) (a .sequence) (a .references)) (rowAt (a .table .now) i) in
     let e : c .before .is-parent .result ≡ f (l .j) = c .before .is-parent .ensures in (
       omega arith,
       search needs,

@@ -1,0 +1,63 @@
+-- The call at the front of an encoded list, run: what the code of each kind answers and leaves is what the run says; and its answer, put. Assumes nothing.
+use mathlib.Core.Path.{_≡_, refl, ap, _∙_}
+use mathlib.Core.Logic.{_≢_}
+use mathlib.Core.List.{List, [], _∷_}
+use Prim.Native.Nat.{ℕ, _+_, _-_, _*_, _≤_, _<_}
+use native.Mathlib.Numerals.{add-one}
+use lib.ListN.{length, getD, set, take, drop}
+use borrow.Author.Tests.{eq-eqb, ne-eqb, le-leb, lt-leb}
+use Rattle.base.specs.Bytes.{Bytes}
+use Rattle.base.proofs.Parts.{part-size}
+use Rattle.base.proofs.Splice.{splice-of-stores}
+use Rattle.block.specs.declared.Answer.{Answer}
+use Rattle.sha256.specs.Sha256.{sha256}
+use Rattle.admission.specs.Admission.{admission, admitted}
+use Rattle.interpret.specs.Interpretation.{interpretation, marked, recorded}
+use Rattle.agreement.specs.Ledger.{Call, admit, interpret}
+use Rattle.agreement.specs.Run.{Site, siteAnswer, siteStep}
+use Rattle.agreement.specs.Encoding.{admissionByte, admissionHeader, wordAt, firstCall, putAnswer}
+
+module _ (t : Bytes) (records : List ℕ) (b : Bytes) where
+  abbrev site : Site
+  site = record { table = t; records = records }
+
+  -- an answer, a table and a buffer as they must be
+  abbrev pub Ran : Answer → Bytes → List ℕ → Type 0
+  Ran r t′ records′ =
+      (r ≡ siteAnswer sha256 site (firstCall b))
+      × ((t′ ≡ siteStep sha256 site (firstCall b) .table) × (records′ ≡ siteStep sha256 site (firstCall b) .records))
+
+  ran : (c : Call) → firstCall b ≡ c → (r : Answer) (t′ : Bytes) (records′ : List ℕ) → r ≡ siteAnswer sha256 site c → t′ ≡ siteStep sha256 site c .table
+      → records′ ≡ siteStep sha256 site c .records → Ran r t′ records′
+  ran c e r t′ records′ p q s = rw e (p, (q, s))
+
+  pub ran-admission : getD b 0 0 ≡ admissionByte → (n : ℕ) → n ≡ wordAt b 2 → (r : Answer) (t′ : Bytes)
+      → r ≡ admission sha256 t (take ((admissionHeader + n) - admissionHeader) (drop admissionHeader b)) (getD b 1 0)
+      → t′ ≡ admitted sha256 t (take ((admissionHeader + n) - admissionHeader) (drop admissionHeader b)) (getD b 1 0)
+      → Ran r t′ records
+  unfolding siteAnswer siteStep firstCall
+  ran-admission e n w r t′ p q =
+      let size : (admissionHeader + n) - admissionHeader ≡ wordAt b 2 = part-size admissionHeader n ∙ w in
+      let its : take ((admissionHeader + n) - admissionHeader) (drop admissionHeader b) ≡ take (wordAt b 2) (drop admissionHeader b) = ap (λ (k : ℕ). take k (drop admissionHeader b)) size in
+      ran (admit (take (wordAt b 2) (drop admissionHeader b)) (getD b 1 0)) (rw (eq-eqb (getD b 0 0) admissionByte e)) r t′ records
+      (p ∙ ap (λ (x : Bytes). admission sha256 t x (getD b 1 0)) its) (q ∙ ap (λ (x : Bytes). admitted sha256 t x (getD b 1 0)) its) refl
+
+  pub ran-interpretation : getD b 0 0 ≢ admissionByte → (n : ℕ) → n ≡ wordAt b 1 → (r : Answer) (t′ : Bytes) (records′ : List ℕ)
+      → r ≡ interpretation t records n → t′ ≡ marked t records n → records′ ≡ recorded t records n → Ran r t′ records′
+  unfolding siteAnswer siteStep firstCall
+  ran-interpretation e n w r t′ records′ p q s =
+      ran (interpret (wordAt b 1)) (rw (ne-eqb (getD b 0 0) admissionByte e)) r t′ records′
+      (p ∙ ap (interpretation t records) w) (q ∙ ap (marked t records) w) (s ∙ ap (recorded t records) w)
+
+-- ---- its answer, as two stores where they fit
+
+module _ (b : List ℕ) (i : ℕ) (a : Answer) where
+  pub answer-put : 2 * i + 2 ≤ length b → set (set b (2 * i) (a .refusal)) (2 * i + 1) (a .value) ≡ putAnswer b i a
+  unfolding putAnswer
+  answer-put h =
+      rw (le-leb (2 * i + 2) (length b) h)
+      (ap (λ (n : ℕ). set (set b (2 * i) (a .refusal)) n (a .value)) (add-one (2 * i)) ∙ splice-of-stores b (a .refusal ∷ a .value ∷ []) (2 * i) h)
+
+  pub answer-lost : length b < 2 * i + 2 → b ≡ putAnswer b i a
+  unfolding putAnswer
+  answer-lost h = rw (lt-leb (2 * i + 2) (length b) h)

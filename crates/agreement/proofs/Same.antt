@@ -1,0 +1,86 @@
+-- The checks of the two calls read of a view only what is held: two views that agree there give one answer. Assumes nothing.
+use mathlib.Core.Path.{_≡_, refl, ap, ap₂, _∙_}
+use mathlib.Core.Bool.{Bool, true, false, not, _&&_}
+use mathlib.Core.List.{List, [], _∷_}
+use Prim.Native.Nat.{ℕ, _≤_, _<_}
+use native.Mathlib.Omega.{arith}
+use lib.Dec.{eqb, ltb}
+use borrow.Author.Tests.{ltb-true}
+use Rattle.base.specs.Search.{firstBelow, anyBelow}
+use Rattle.base.specs.Bytes.{Bytes}
+use Rattle.base.proofs.Tests.{by-test}
+use Rattle.base.proofs.Search.{first-same, any-same}
+use Rattle.block.specs.Layout.{siteOf, referenceCount, referenceList, referenceAt}
+use Rattle.block.specs.Reading.{wellShaped, reading, answerOf}
+use Rattle.setup.specs.Setup.{Setup}
+use Rattle.table.specs.View.{maxPlaces, interpreted, View, SameBelow}
+use Rattle.table.specs.Rules.{hasDigest, placeOf, parentRule, refersUninterpreted}
+use Rattle.table.specs.Checks.{Check, check, answerTo}
+use Rattle.table.proofs.Views.{place-same, rule-reads}
+use Rattle.admission.specs.Admission.{lists, missing, rowFor, admissionChecks}
+use Rattle.interpret.specs.Buffer.{bufferSize}
+use Rattle.interpret.specs.Interpretation.{interpretationChecks}
+
+module _ (v w : View) (n : v .held ≡ w .held) (e : SameBelow v w (v .held)) (f g : Bool) (formed : f ≡ g) where
+  module _ (digest : Bytes → Bytes) (b : Bytes) where
+    digest-same : (d : Bytes) → anyBelow (hasDigest v d) (v .held) ≡ anyBelow (hasDigest w d) (w .held)
+    unfolding anyBelow
+    digest-same d = ap₂ ltb (place-same v w (v .held) d e) refl ∙ ap (λ (k : ℕ). ltb (placeOf w k d) k) n
+
+    place-is : placeOf v (v .held) (digest b) ≡ placeOf w (w .held) (digest b)
+    place-is = place-same v w (v .held) (digest b) e ∙ ap (λ (k : ℕ). placeOf w k (digest b)) n
+
+    missing-same : (i : ℕ) → missing v b i ≡ missing w b i
+    missing-same i = ap not (digest-same (referenceAt (referenceList b) i))
+
+    rule-is : parentRule v (v .held) (rowFor digest v b) ≡ parentRule w (w .held) (rowFor digest w b)
+    rule-is =
+        rule-reads v w (v .held) (rowFor digest v b) (rowFor digest w b) e refl refl
+        (λ j h. ap₂ (λ (k : ℕ) (d : Bytes). ltb j k && lists b d) n (e j h .digest))
+        ∙ ap (λ (k : ℕ). parentRule w k (rowFor digest w b)) n
+
+    pub admission-same : (s : Setup) (verdict : ℕ)
+        → answerTo (admissionChecks digest f s v b verdict) (v .held) ≡ answerTo (admissionChecks digest g s w b verdict) (w .held)
+    admission-same s verdict = λ k. answerTo (
+        check 2 (formed k) 0
+        ∷ check 3 (wellShaped b) 0
+        ∷ check 4 (ltb (siteOf b) (s .sites)) 0
+        ∷ check 5 (eqb verdict 1) 0
+        ∷ check (answerOf (reading b) .refusal) (eqb (answerOf (reading b) .refusal) 0) (answerOf (reading b) .value)
+        ∷ check 8 (not (digest-same (digest b) k)) (place-is k)
+        ∷ check 9 (not (any-same (missing v b) (missing w b) (referenceCount b) (λ i h. missing-same i) k)) (first-same (missing v b) (missing w b) (referenceCount b) (λ i h. missing-same i) k)
+        ∷ check 10 (rule-is k) 0
+        ∷ check 11 (ltb (n k) maxPlaces) 0
+        ∷ []) (n k)
+
+  -- where a check fails, those after it are not made
+  cut : (c : Check) (cs ds : List Check) (value : ℕ) → c .holds ≡ false → answerTo (c ∷ cs) value ≡ answerTo (c ∷ ds) value
+  unfolding answerTo
+  cut c cs ds value z = rw z
+
+  rest-same : (c : Check) (cs ds : List Check) (value : ℕ) → (c .holds ≡ true → answerTo cs value ≡ answerTo ds value) → answerTo (c ∷ cs) value ≡ answerTo (c ∷ ds) value
+  unfolding answerTo
+  rest-same c cs ds value h = by-test (c .holds) (λ y. rw (y, h y)) (λ z. cut c cs ds value z)
+
+  module _ (few : v .held ≤ maxPlaces) (size i : ℕ) where
+    unready-same : i < v .held → (j : ℕ) → j < i → refersUninterpreted v (v .row i) j ≡ refersUninterpreted w (w .row i) j
+    unready-same h j l = ap₂ (λ (x : Bool) (m : ℕ). x && not (eqb m 1)) (e i h .refersTo j (omega arith)) (e j (omega arith) .mark)
+
+    held-checks : i < v .held
+        → answerTo (check 14 (not (interpreted (v .row i))) 0 ∷ check 15 (not (anyBelow (refersUninterpreted v (v .row i)) i)) (firstBelow (refersUninterpreted v (v .row i)) i) ∷ []) 0
+        ≡ answerTo (check 14 (not (interpreted (w .row i))) 0 ∷ check 15 (not (anyBelow (refersUninterpreted w (w .row i)) i)) (firstBelow (refersUninterpreted w (w .row i)) i) ∷ []) 0
+    held-checks h = λ k. answerTo (
+        check 14 (not (eqb (e i h .mark k) 1)) 0
+        ∷ check 15 (not (any-same (refersUninterpreted v (v .row i)) (refersUninterpreted w (w .row i)) i (unready-same h) k)) (first-same (refersUninterpreted v (v .row i)) (refersUninterpreted w (w .row i)) i (unready-same h) k)
+        ∷ []) 0
+
+    pub interpretation-same : answerTo (interpretationChecks f v size i) 0 ≡ answerTo (interpretationChecks g w size i) 0
+    interpretation-same =
+        rest-same _ _ _ 0 (λ _. rest-same _ _ _ 0 (λ _. rest-same _ _ _ 0 (λ y. held-checks (ltb-true i (v .held) y))))
+        ∙ (λ k. answerTo (
+        check 2 (formed k) 0
+        ∷ check 12 (eqb size bufferSize) 0
+        ∷ check 13 (ltb i (n k)) 0
+        ∷ check 14 (not (interpreted (w .row i))) 0
+        ∷ check 15 (not (anyBelow (refersUninterpreted w (w .row i)) i)) (firstBelow (refersUninterpreted w (w .row i)) i)
+        ∷ []) 0)

@@ -1,0 +1,71 @@
+-- A list of calls as bytes, so that one call can run a whole list:
+--
+--   admission       0, verdict, length of the block (8 bytes, low byte first), the block's bytes
+--   interpretation  1, place (8 bytes, low byte first)
+--
+-- A call that is cut, or that begins with another byte, ends the list. The answers are put into a buffer of numbers, two for each.
+use mathlib.Core.Bool.{Bool, true, false, cond, _&&_}
+use mathlib.Core.List.{List, [], _∷_}
+use Prim.Native.Nat.{ℕ, zero, suc, _+_, _*_}
+use lib.Dec.{eqb, leb}
+use lib.ListN.{length, getD, take, drop}
+use Rattle.base.specs.Bytes.{Bytes, splice}
+use Rattle.base.specs.Word.{wordSize, word}
+use Rattle.block.specs.declared.Answer.{Answer}
+use Rattle.agreement.specs.Ledger.{Call, admit, interpret}
+
+-- ---- the calls
+
+-- the first byte of an admission, and of an interpretation
+abbrev pub admissionByte : ℕ
+admissionByte = 0
+
+abbrev pub interpretationByte : ℕ
+interpretationByte = 1
+
+-- what stands before the block of an admission
+abbrev pub admissionHeader : ℕ
+admissionHeader = 2 + wordSize
+
+abbrev pub interpretationSize : ℕ
+interpretationSize = 1 + wordSize
+
+abbrev pub wordAt : Bytes → ℕ → ℕ
+wordAt b at = word (take wordSize (drop at b))
+
+-- a whole admission stands at the front, or a whole interpretation
+abbrev pub admissionFirst : Bytes → Bool
+admissionFirst b = eqb (getD b 0 0) admissionByte && (leb admissionHeader (length b) && leb (admissionHeader + wordAt b 2) (length b))
+
+abbrev pub interpretationFirst : Bytes → Bool
+interpretationFirst b = eqb (getD b 0 0) interpretationByte && leb interpretationSize (length b)
+
+-- how many bytes the call at the front takes, 0 if there is none
+unfoldable pub firstSize : Bytes → ℕ
+firstSize b = cond (admissionFirst b) (admissionHeader + wordAt b 2) (cond (interpretationFirst b) interpretationSize 0)
+
+unfoldable pub firstCall : Bytes → Call
+firstCall b =
+    cond (eqb (getD b 0 0) admissionByte)
+    (admit (take (wordAt b 2) (drop admissionHeader b)) (getD b 1 0))
+    (interpret (wordAt b 1))
+
+-- the first k calls
+unfoldable pub firstCalls : ℕ → Bytes → List Call
+firstCalls zero b = []
+firstCalls (suc k) b = elim (eqb (firstSize b) 0) [ true ↦ [] | false ↦ firstCall b ∷ firstCalls k (drop (firstSize b) b) ]
+
+-- all of them: each takes a byte at least
+unfoldable pub callsIn : Bytes → List Call
+callsIn b = firstCalls (length b) b
+
+-- ---- the answers
+
+-- refusal and value of answer i, where they fit
+unfoldable pub putAnswer : List ℕ → ℕ → Answer → List ℕ
+putAnswer buffer i a = cond (leb (2 * i + 2) (length buffer)) (splice buffer (2 * i) (a .refusal ∷ a .value ∷ [])) buffer
+
+-- the answers from number i on
+unfoldable pub putAnswers : List ℕ → ℕ → List Answer → List ℕ
+putAnswers buffer i [] = buffer
+putAnswers buffer i (a ∷ rest) = putAnswers (putAnswer buffer i a) (suc i) rest

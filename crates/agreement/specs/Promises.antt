@@ -1,0 +1,108 @@
+-- Demand 3, in document 01's words ("Interpreting a place"): what two lists of calls leave behind at two sites of one setup.
+use mathlib.Core.Path.{_≡_}
+use mathlib.Core.Bool.{Bool, true, not, _&&_}
+use mathlib.Core.Logic.{_⊎_, _≢_}
+use mathlib.Core.List.{List, _++_, map, List·Memᴰ}
+use Prim.Native.Nat.{ℕ, _+_, _*_, _≤_, _<_}
+use lib.Dec.{eqb}
+use lib.ListN.{length, getD, drop}
+use Rattle.base.specs.Bytes.{Bytes, sameBytes, allZero}
+use Rattle.base.specs.Count.{countBelow}
+use Rattle.base.specs.List.{someIn}
+use Rattle.block.specs.Limits.{slotCount}
+use Rattle.block.specs.Layout.{siteOf, sequenceOf, referencesOf, requestFor}
+use Rattle.block.specs.declared.Answer.{Answer}
+use Rattle.setup.specs.Setup.{Setup, ownerOf, faults}
+use Rattle.broadcast.specs.Record.{recordSize}
+use Rattle.table.specs.View.{SameBelow}
+use Rattle.table.specs.Layout.{rowStart, setupOf, countOf, viewOf}
+use Rattle.interpret.specs.Buffer.{partOf}
+use Rattle.agreement.specs.History.{History, blockOf, children, meaning}
+use Rattle.agreement.specs.Ancestry.{historyOf, AncestorIn}
+use Rattle.agreement.specs.Ledger.{Call, Ledger, empty, viewIn, ledgerAfter, ledgerAnswers}
+use Rattle.agreement.specs.Run.{Site, started, siteAfter, siteAnswers}
+
+-- "A site forked if it has two different blocks of one sequence number"
+unfoldable pub forked : List Bytes → ℕ → Bool
+forked blocks p =
+    someIn (λ a. someIn (λ b. eqb (siteOf a) p && (eqb (siteOf b) p && (eqb (sequenceOf a) (sequenceOf b) && not (sameBytes a b)))) blocks) blocks
+
+-- "interpreted means marked there"
+pub record Interpreted (l : Ledger) (place : ℕ) : Type 0 where
+  pub below : place < l .held
+  pub mark : l .mark place ≡ 1
+
+-- entry 3 of a record
+abbrev pub deliveredEntry : ℕ
+deliveredEntry = 3
+
+module _ (digest : Bytes → Bytes) where
+  -- no two different blocks share a digest
+  abbrev pub NoCollision : List Bytes → Type 0
+  NoCollision blocks = (a b : Bytes) → List·Memᴰ a blocks → List·Memᴰ b blocks → digest a ≡ digest b → a ≡ b
+
+  -- the block at a place, with its ancestors in the ledger
+  abbrev pub historyAt : Ledger → ℕ → History
+  historyAt l place = historyOf digest (l .blocks) (l .block place)
+
+  -- "A number, not 0, is delivered in a slot if it is entry 3 there in the meaning of an interpreted block"
+  pub record Delivered (s : Setup) (l : Ledger) (slot v : ℕ) : Type 0 where
+    pub place : ℕ
+    pub isInterpreted : Interpreted l place
+    pub notZero : v ≢ 0
+    pub entry : getD (meaning s (historyAt l place)) (recordSize * slot + deliveredEntry) 0 ≡ v
+
+  -- "the owner requested it if an ancestor of that block, built by the owner, has it as the slot's counted request"
+  pub record OwnerRequested (s : Setup) (l : Ledger) (b : Bytes) (slot v : ℕ) : Type 0 where
+    pub requester : Bytes
+    pub ancestor : AncestorIn digest (l .blocks) requester b
+    pub byOwner : siteOf requester ≡ ownerOf s slot
+    pub requests : requestFor requester slot ≡ v
+
+  -- what a site has after its calls, told by its ledger
+  pub record SiteKeeps (s : Setup) (l : Ledger) (x : Site) : Type 0 where
+    -- setup, count and all six fields of every place are the ledger's, and all bytes from the count on are zero
+    pub setup : setupOf (x .table) ≡ s
+    pub count : countOf (x .table) ≡ l .held
+    pub rows : SameBelow (viewOf (x .table)) (viewIn digest l) (l .held)
+    pub rest : allZero (drop (rowStart (l .held)) (x .table)) ≡ true
+    -- "At every marked place the place's part of the buffer equals its block's meaning"
+    pub shown : (place : ℕ) → Interpreted l place → partOf (x .records) place ≡ meaning s (historyAt l place)
+    -- a history's children are, in order and none missing, the blocks of the ledger with the digests that the block lists
+    pub listed : (place : ℕ) → place < l .held → map (λ c. digest (blockOf c)) (children (historyAt l place)) ≡ referencesOf (l .block place)
+    pub held : (place : ℕ) → place < l .held → (c : History) → List·Memᴰ c (children (historyAt l place))
+        → List·Memᴰ (blockOf c) (l .blocks) × (c ≡ historyOf digest (l .blocks) (blockOf c))
+    -- a delivered number was requested by the owner in an ancestor
+    pub requested : (slot v : ℕ) → slot < slotCount → (d : Delivered s l slot v) → OwnerRequested s l (l .block (d .place)) slot v
+
+  -- the answers are the ledger's, number and value, and 2 is none of them
+  pub record AnswersKeep (ours theirs : List Answer) : Type 0 where
+    pub same : ours ≡ theirs
+    pub formed : (a : Answer) → List·Memᴰ a ours → a .refusal ≢ 2
+
+  module _ (s : Setup) where
+    -- what a list of calls leaves, in the ledger and at the site
+    abbrev pub ledgerOf : List ℕ → List Call → Ledger
+    ledgerOf buffer calls = ledgerAfter digest s (length buffer) empty calls
+
+    abbrev pub siteOfCalls : List ℕ → List Call → Site
+    siteOfCalls buffer calls = siteAfter digest (started s buffer) calls
+
+    pub record Promised (buffer₁ buffer₂ : List ℕ) (calls₁ calls₂ : List Call) : Type 0 where
+      -- each site keeps to its ledger
+      pub first : SiteKeeps s (ledgerOf buffer₁ calls₁) (siteOfCalls buffer₁ calls₁)
+      pub second : SiteKeeps s (ledgerOf buffer₂ calls₂) (siteOfCalls buffer₂ calls₂)
+      pub firstAnswers : AnswersKeep (siteAnswers digest (started s buffer₁) calls₁) (ledgerAnswers digest s (length buffer₁) empty calls₁)
+      pub secondAnswers : AnswersKeep (siteAnswers digest (started s buffer₂) calls₂) (ledgerAnswers digest s (length buffer₂) empty calls₂)
+      -- a block interpreted at both has the same part at both
+      pub same : NoCollision (ledgerOf buffer₁ calls₁ .blocks ++ ledgerOf buffer₂ calls₂ .blocks)
+          → (i j : ℕ) → Interpreted (ledgerOf buffer₁ calls₁) i → Interpreted (ledgerOf buffer₂ calls₂) j
+          → ledgerOf buffer₁ calls₁ .block i ≡ ledgerOf buffer₂ calls₂ .block j
+          → partOf (siteOfCalls buffer₁ calls₁ .records) i ≡ partOf (siteOfCalls buffer₂ calls₂ .records) j
+      -- where at most f sites forked, a slot has one number
+      pub agreement : NoCollision (ledgerOf buffer₁ calls₁ .blocks ++ ledgerOf buffer₂ calls₂ .blocks)
+          → countBelow (forked (ledgerOf buffer₁ calls₁ .blocks ++ ledgerOf buffer₂ calls₂ .blocks)) (s .sites) ≤ faults (s .sites)
+          → (slot v w : ℕ) → slot < slotCount
+          → Delivered s (ledgerOf buffer₁ calls₁) slot v ⊎ Delivered s (ledgerOf buffer₂ calls₂) slot v
+          → Delivered s (ledgerOf buffer₁ calls₁) slot w ⊎ Delivered s (ledgerOf buffer₂ calls₂) slot w
+          → v ≡ w

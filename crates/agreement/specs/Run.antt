@@ -1,0 +1,38 @@
+-- A site's run: "A call gets the table and buffer that the last one left; nobody else writes them". Each step is what the contracts of
+-- `admit` and `interpret` say; `digest` is SHA-256 there.
+use mathlib.Core.List.{List, [], _∷_}
+use Prim.Native.Nat.{ℕ}
+use Rattle.base.specs.Bytes.{Bytes}
+use Rattle.block.specs.declared.Answer.{Answer}
+use Rattle.setup.specs.Setup.{Setup}
+use Rattle.table.specs.Fresh.{freshTable}
+use Rattle.admission.specs.Admission.{admission, admitted}
+use Rattle.interpret.specs.Interpretation.{interpretation, marked, recorded}
+use Rattle.agreement.specs.Ledger.{Call, admit, interpret}
+
+pub record Site : Type 0 where
+  pub table : Bytes
+  pub records : List ℕ
+
+-- "Both start from the empty table of one lawful setup, each with its record buffer of any length and content"
+abbrev pub started : Setup → List ℕ → Site
+started s buffer = record { table = freshTable s .table; records = buffer }
+
+module _ (digest : Bytes → Bytes) where
+  unfoldable pub siteAnswer : Site → Call → Answer
+  siteAnswer x (admit b verdict) = admission digest (x .table) b verdict
+  siteAnswer x (interpret place) = interpretation (x .table) (x .records) place
+
+  unfoldable pub siteStep : Site → Call → Site
+  siteStep x (admit b verdict) = record { table = admitted digest (x .table) b verdict; records = x .records }
+  siteStep x (interpret place) =
+      record { table = marked (x .table) (x .records) place; records = recorded (x .table) (x .records) place }
+
+  -- the table and the buffer that a list of calls leaves, and the answer of each call
+  unfoldable pub siteAfter : Site → List Call → Site
+  siteAfter x [] = x
+  siteAfter x (c ∷ cs) = siteAfter (siteStep x c) cs
+
+  unfoldable pub siteAnswers : Site → List Call → List Answer
+  siteAnswers x [] = []
+  siteAnswers x (c ∷ cs) = siteAnswer x c ∷ siteAnswers (siteStep x c) cs

@@ -1,0 +1,11 @@
+-- What the contracts of inner functions cite. Nothing here need be believed.
+use mathlib.Core.Path.{_≡_}
+use Prim.Native.Nat.{_+_, _≤_}
+use lib.ListN.{length, getD}
+use Rattle.base.specs.Bytes.{Bytes}
+use Rattle.agreement.specs.Encoding.{admissionByte, admissionHeader, interpretationSize, wordAt}
+
+-- a whole call stands at the front
+pub record Whole (b : Bytes) : Type 0 where
+  pub word : interpretationSize ≤ length b
+  pub block : getD b 0 0 ≡ admissionByte → admissionHeader + wordAt b 2 ≤ length b

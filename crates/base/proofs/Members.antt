@@ -1,0 +1,49 @@
+-- The elements of a list of values below a bound, with the highest first or last. Assumes nothing.
+use mathlib.Core.Path.{_≡_, refl, ap, ap₂}
+use mathlib.Core.Logic.{inl, inr}
+use mathlib.Core.List.{List, [], _∷_, List·Memᴰ, List·Memᴰ·head, List·Memᴰ·tail, List·Memᴰ·not-nil, List·Memᴰ·cases-cons}
+use Prim.Native.Nat.{ℕ, zero, suc, _<_, suc-le-suc}
+use native.Mathlib.Nat.{eq-or-lt-of-le, le-of-suc-le-suc}
+use native.Mathlib.Omega.{arith}
+use Rattle.base.specs.List.{listBelow}
+
+module _ {A : Type 0} where
+  pub list-has : (f : ℕ → A) (k i : ℕ) → i < k → List·Memᴰ (f i) (listBelow f k)
+  unfolding listBelow
+  list-has f zero i h = absurd (omega arith)
+  list-has f (suc k) zero h = List·Memᴰ·head refl
+  list-has f (suc k) (suc i) h = List·Memᴰ·tail (list-has (λ i. f (suc i)) k i (le-of-suc-le-suc h))
+
+  pub list-from : (f : ℕ → A) (k : ℕ) (x : A) → List·Memᴰ x (listBelow f k) → (i : ℕ) × (i < k) × (x ≡ f i)
+  unfolding listBelow
+  list-from f zero x m = absurd (List·Memᴰ·not-nil m)
+  list-from f (suc k) x m = elim (List·Memᴰ·cases-cons m) [
+    | inl q ↦ (0, omega arith, q)
+    | inr j ↦ let w = list-from (λ i. f (suc i)) k x j in (suc (w .0), suc-le-suc (w .1), w .2)
+  ]
+
+  -- f (k - 1), .. down to f 0
+  unfoldable pub newest : (ℕ → A) → ℕ → List A
+  newest f zero = []
+  newest f (suc k) = f k ∷ newest f k
+
+  pub newest-has : (f : ℕ → A) (k i : ℕ) → i < k → List·Memᴰ (f i) (newest f k)
+  unfolding newest
+  newest-has f zero i h = absurd (omega arith)
+  newest-has f (suc k) i h = elim (eq-or-lt-of-le (le-of-suc-le-suc h)) [
+    | inl q ↦ List·Memᴰ·head (ap f q)
+    | inr l ↦ List·Memᴰ·tail (newest-has f k i l)
+  ]
+
+  pub newest-from : (f : ℕ → A) (k : ℕ) (x : A) → List·Memᴰ x (newest f k) → (i : ℕ) × (i < k) × (x ≡ f i)
+  unfolding newest
+  newest-from f zero x m = absurd (List·Memᴰ·not-nil m)
+  newest-from f (suc k) x m = elim (List·Memᴰ·cases-cons m) [
+    | inl q ↦ (k, omega arith, q)
+    | inr j ↦ let w = newest-from f k x j in (w .0, omega (arith, w .1), w .2)
+  ]
+
+  pub newest-same : (f g : ℕ → A) (k : ℕ) → ((i : ℕ) → i < k → f i ≡ g i) → newest f k ≡ newest g k
+  unfolding newest
+  newest-same f g zero h = refl
+  newest-same f g (suc k) h = ap₂ (λ (x : A) (l : List A). x ∷ l) (h k (omega arith)) (newest-same f g k (λ i l. h i (omega arith)))

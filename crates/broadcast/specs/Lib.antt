@@ -1,0 +1,3 @@
+-- One slot's process. Record and Process are what a reader must believe.
+pub mod Record
+pub mod Process

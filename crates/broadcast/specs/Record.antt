@@ -1,0 +1,81 @@
+-- Document 01, "One slot's process": a record, and its 40 numbers.
+use mathlib.Core.List.{List, [], _∷_, _++_}
+use Prim.Native.Nat.{ℕ, _+_}
+use lib.ListN.{getD, take, drop, set, replicate}
+use Rattle.setup.specs.Setup.{maxSites}
+use Rattle.broadcast.specs.declared.Sent.{Sent}
+use Rattle.broadcast.specs.declared.SlotRecord.{SlotRecord}
+
+-- the SEND, ECHO and READY sent and the number delivered, 0 where there is none
+abbrev pub none : Sent
+none = record { send = 0; echo = 0; ready = 0; delivered = 0 }
+
+abbrev pub withSend : ℕ → Sent → Sent
+withSend v s = record { send = v; echo = s .echo; ready = s .ready; delivered = s .delivered }
+
+abbrev pub withEcho : ℕ → Sent → Sent
+withEcho v s = record { send = s .send; echo = v; ready = s .ready; delivered = s .delivered }
+
+abbrev pub withReady : ℕ → Sent → Sent
+withReady v s = record { send = s .send; echo = s .echo; ready = v; delivered = s .delivered }
+
+abbrev pub withDelivered : ℕ → Sent → Sent
+withDelivered v s = record { send = s .send; echo = s .echo; ready = s .ready; delivered = v }
+
+-- ---- the record: what was sent so far, the ECHO and the READY heard from each site, and what was made in this block
+
+abbrev pub blank : SlotRecord
+blank = record { sent = none; echoes = replicate maxSites 0; readies = replicate maxSites 0; made = none }
+
+-- how a block starts from its parent's record: entries 36 to 39 as 0
+abbrev pub nothingMade : SlotRecord → SlotRecord
+nothingMade r = record { sent = r .sent; echoes = r .echoes; readies = r .readies; made = none }
+
+-- "Sending or delivering v puts v in its entry of 0 to 3 and in its entry of 36 to 39"
+abbrev pub inBoth : (Sent → Sent) → SlotRecord → SlotRecord
+inBoth put r = record { sent = put (r .sent); echoes = r .echoes; readies = r .readies; made = put (r .made) }
+
+abbrev pub noteEcho : ℕ → ℕ → SlotRecord → SlotRecord
+noteEcho p v r = record { sent = r .sent; echoes = set (r .echoes) p v; readies = r .readies; made = r .made }
+
+abbrev pub noteReady : ℕ → ℕ → SlotRecord → SlotRecord
+noteReady p v r = record { sent = r .sent; echoes = r .echoes; readies = set (r .readies) p v; made = r .made }
+
+-- ---- its numbers
+
+-- SEND, ECHO, READY and delivery
+abbrev pub sentCount : ℕ
+sentCount = 4
+
+abbrev pub echoesOffset : ℕ
+echoesOffset = sentCount
+
+abbrev pub readiesOffset : ℕ
+readiesOffset = echoesOffset + maxSites
+
+abbrev pub madeOffset : ℕ
+madeOffset = readiesOffset + maxSites
+
+-- 40 numbers
+abbrev pub recordSize : ℕ
+recordSize = madeOffset + sentCount
+
+abbrev pub sentNumbers : Sent → List ℕ
+sentNumbers s = s .send ∷ s .echo ∷ s .ready ∷ s .delivered ∷ []
+
+-- 0 to 3 sent so far, 4 to 19 ECHO heard, 20 to 35 READY heard, 36 to 39 made in this block
+unfoldable pub flatten : SlotRecord → List ℕ
+flatten r = sentNumbers (r .sent) ++ (r .echoes ++ (r .readies ++ sentNumbers (r .made)))
+
+abbrev pub sentAt : List ℕ → ℕ → Sent
+sentAt b at = record { send = getD b at 0; echo = getD b (at + 1) 0; ready = getD b (at + 2) 0; delivered = getD b (at + 3) 0 }
+
+-- the record whose numbers stand from an index on
+unfoldable pub recordAt : List ℕ → ℕ → SlotRecord
+recordAt b at =
+    record {
+      sent = sentAt b at;
+      echoes = take maxSites (drop (at + echoesOffset) b);
+      readies = take maxSites (drop (at + readiesOffset) b);
+      made = sentAt b (at + madeOffset);
+    }

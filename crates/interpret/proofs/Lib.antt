@@ -1,0 +1,13 @@
+-- The laws of interpretation, a file for each idea. Other crates' proofs cite them.
+pub mod Rising
+pub mod Messages
+pub mod Order
+pub mod Lowest
+pub mod Records
+mod Turns
+pub mod Parts
+mod Typed
+pub mod Causes
+pub mod Kept
+mod Call
+pub mod Promises

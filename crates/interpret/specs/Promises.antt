@@ -1,0 +1,51 @@
+-- What interpretation promises beyond its three equations; proofs/Promises.antt shows it.
+use mathlib.Core.Path.{_≡_}
+use mathlib.Core.Bool.{true}
+use mathlib.Core.Logic.{_↔_, _≢_}
+use mathlib.Core.List.{List}
+use Prim.Native.Nat.{ℕ, _≤_, _<_}
+use lib.ListN.{length}
+use Rattle.base.specs.Bytes.{Bytes}
+use Rattle.table.specs.Layout.{countOf, markAt, rowAt}
+use Rattle.table.specs.Form.{inForm}
+use Rattle.table.specs.Promises.{Marked}
+use Rattle.interpret.specs.Buffer.{bufferSize}
+use Rattle.interpret.specs.Interpretation.{interpretation, marked, recorded}
+
+-- check 2 holds, then 12, then 13, then 14
+pub record Whole (t : Bytes) (buffer : List ℕ) : Type 0 where
+  pub formed : inForm t ≡ true
+  pub size : length buffer ≡ bufferSize
+
+pub record Held (t : Bytes) (buffer : List ℕ) (i : ℕ) : Type 0 where
+  pub isWhole : Whole t buffer
+  pub below : i < countOf t
+
+pub record Open (t : Bytes) (buffer : List ℕ) (i : ℕ) : Type 0 where
+  pub isHeld : Held t buffer i
+  pub unmarked : markAt t i ≢ 1
+
+-- place j is a direct reference of place i and not interpreted
+pub record Unready (t : Bytes) (i j : ℕ) : Type 0 where
+  pub lower : j < i
+  pub refers : rowAt t i .refersTo j ≡ true
+  pub unmarked : markAt t j ≢ 1
+
+-- each refusal comes under its cause and under no other
+pub record Causes (t : Bytes) (buffer : List ℕ) (i : ℕ) : Type 0 where
+  pub twelve : (interpretation t buffer i .refusal ≡ 12) ↔ ((inForm t ≡ true) × (length buffer ≢ bufferSize))
+  pub thirteen : (interpretation t buffer i .refusal ≡ 13) ↔ (Whole t buffer × (countOf t ≤ i))
+  pub fourteen : (interpretation t buffer i .refusal ≡ 14) ↔ (Held t buffer i × (markAt t i ≡ 1))
+  pub fifteen : (interpretation t buffer i .refusal ≡ 15) ↔ (Open t buffer i × ((j : ℕ) × Unready t i j))
+  pub none : (interpretation t buffer i .refusal ≡ 0) ↔ (Open t buffer i × (((j : ℕ) × Unready t i j) → ⊥))
+  -- "lowest such place"
+  pub lowest : interpretation t buffer i .refusal ≡ 15
+      → Unready t i (interpretation t buffer i .value) × ((j : ℕ) → j < interpretation t buffer i .value → Unready t i j → ⊥)
+
+pub record Promises : Type 0 where
+  pub causes : (t : Bytes) (buffer : List ℕ) (i : ℕ) → Causes t buffer i
+  -- the place is marked, and the table has no other change
+  pub shown : (t : Bytes) (buffer : List ℕ) (i : ℕ) → interpretation t buffer i .refusal ≡ 0 → Marked t (marked t buffer i) i
+  -- form is kept, and the buffer's length
+  pub kept : (t : Bytes) (buffer : List ℕ) (i : ℕ) → inForm t ≡ true → inForm (marked t buffer i) ≡ true
+  pub sized : (t : Bytes) (buffer : List ℕ) (i : ℕ) → length (recorded t buffer i) ≡ length buffer

@@ -1,0 +1,157 @@
+// Interpretation of a place: its records from those of the places that it refers to. Promises: a lent table and a lent record buffer of any
+// content are judged, and the place's records written and its mark set, as specs/Interpretation.antt says. Assumes nothing of the two.
+mod buffer;
+mod hearing;
+
+use block::Answer;
+use block::SLOTS;
+use broadcast::SlotRecord;
+use setup::MAX_SITES;
+use table::MARK_OFFSET;
+use table::MAX_PLACES;
+use table::ROW_SIZE;
+use table::ROWS_OFFSET;
+use table::rows;
+use table::rules;
+ghost use mathlib.Core.Path.{_≡_};
+ghost use Prim.Native.Nat.{_<_};
+ghost use lib.ListN.{length};
+ghost use Rattle.block.specs.Limits.{slotCount};
+ghost use Rattle.broadcast.specs.Record.{nothingMade};
+ghost use Rattle.table.specs.Layout.{setupOf, referencesAt, rowAt, viewOf};
+ghost use Rattle.table.specs.Steps.{Place};
+ghost use Rattle.interpret.specs.Buffer.{bufferSize};
+ghost use Rattle.interpret.specs.Interpretation.{recordFor, written, interpretation, marked, recorded};
+ghost use Rattle.interpret.specs.Steps.{Ready, ReadySlot, parentBelow, stateAt};
+
+// Where each part of a record's numbers stands: what was sent so far, the ECHO and the READY heard from each site, and what was made.
+pub const SENT_COUNT: usize = 4;
+
+pub const ECHOES_OFFSET: usize = SENT_COUNT;
+
+pub const READIES_OFFSET: usize = ECHOES_OFFSET + MAX_SITES;
+
+pub const MADE_OFFSET: usize = READIES_OFFSET + MAX_SITES;
+
+pub const RECORD_SIZE: usize = MADE_OFFSET + SENT_COUNT;
+
+// The numbers of a place, and of all places.
+pub const PART_SIZE: usize = RECORD_SIZE * SLOTS;
+
+pub const BUFFER_SIZE: usize = PART_SIZE * MAX_PLACES;
+
+// The highest place below this one that is its parent's, or MAX_PLACES.
+fn parent_of(table: &[u8], place: usize, references: u64) -> usize
+    requires { ⌜ Place (now table) place × (references ≡ referencesAt (now table) place) ⌝ }
+    ensures { λ r. ⌜ r ≡ parentBelow (viewOf (now (table .entry))) (rowAt (now (table .entry)) place) place ⌝ }
+{
+    let site = rows::site_at(table, place);
+    let sequence = rows::sequence_at(table, place);
+    let mut parent = MAX_PLACES;
+    let mut j = 0;
+    while j < place {
+        if rules::is_parent(table, j, references, site, sequence) {
+            parent = j;
+        }
+        j += 1;
+    }
+    parent
+}
+
+// How a block starts in a slot: the record at the parent's place, or a blank one, with nothing made.
+fn start_of(records: &[u16], parent: usize, slot: usize) -> SlotRecord
+    requires { ⌜ (length (now records) ≡ bufferSize) × (slot < slotCount) ⌝ }
+    ensures { λ r. ⌜ r ≡ nothingMade (stateAt (now (records .entry)) slot parent) ⌝ }
+{
+    let blank = broadcast::empty();
+    if MAX_PLACES <= parent {
+        return blank;
+    }
+    let mut s = buffer::record_at(records, PART_SIZE * parent + RECORD_SIZE * slot);
+    let none = blank.made;
+    s.made = none;
+    s
+}
+
+// A slot's record of a place: the parent's with nothing made, then the request, then the messages.
+fn slot_record(
+    table: &[u8],
+    place: usize,
+    references: u64,
+    parent: usize,
+    records: &[u16],
+    slot: usize,
+) -> SlotRecord
+    requires { ⌜ ReadySlot (now table) place (now records) references slot × (parent ≡ parentBelow (viewOf (now table)) (rowAt (now table) place) place) ⌝ }
+    ensures { λ r. ⌜ r ≡ recordFor (setupOf (now (table .entry))) (viewOf (now (table .entry))) (now (records .entry)) place slot ⌝ }
+{
+    let site = rows::site_at(table, place);
+    let owner = rows::owner_of(table, slot);
+    let number = rows::request_at(table, place, slot);
+    let start = start_of(records, parent, slot);
+    let asked = broadcast::requested(start, owner, site, number);
+    hearing::hear_all(asked, table, place, references, records, slot)
+}
+
+// The numbers of a place: its records, slot after slot.
+fn place_records(table: &[u8], place: usize, records: &[u16]) -> [u16; PART_SIZE]
+    requires { ⌜ Ready (now table) place (now records) ⌝ }
+    ensures { λ r. ⌜ r ≡ written (setupOf (now (table .entry))) (viewOf (now (table .entry))) (now (records .entry)) place ⌝ }
+{
+    let references = rows::references_at(table, place);
+    let parent = parent_of(table, place, references);
+    let mut out = [0u16; PART_SIZE];
+    let mut slot = 0;
+    while slot < SLOTS {
+        let state = slot_record(table, place, references, parent, records, slot);
+        buffer::put_record(&mut out, RECORD_SIZE * slot, state);
+        slot += 1;
+    }
+    out
+}
+
+// Writes the records of a place and marks it interpreted. Refuses in the order of document 01; a refusal changes nothing.
+pub fn interpret(table: &mut [u8], place: usize, records: &mut [u16]) -> Answer
+    ensures { λ r. ⌜ r ≡ interpretation (now (table .entry)) (now (records .entry)) place ⌝ }
+    ensures { λ _. ⌜ now (table .exit) ≡ marked (now (table .entry)) (now (records .entry)) place ⌝ }
+    ensures { λ _. ⌜ now (records .exit) ≡ recorded (now (table .entry)) (now (records .entry)) place ⌝ }
+{
+    if !table::in_form(table) {
+        return Answer {
+            refusal: 2,
+            value: 0,
+        };
+    }
+    if records.len() != BUFFER_SIZE {
+        return Answer {
+            refusal: 12,
+            value: 0,
+        };
+    }
+    if rows::count_of(table) <= place {
+        return Answer {
+            refusal: 13,
+            value: 0,
+        };
+    }
+    if rows::mark_at(table, place) == 1 {
+        return Answer {
+            refusal: 14,
+            value: 0,
+        };
+    }
+    let missing = rules::first_uninterpreted(table, place, rows::references_at(table, place));
+    if missing < place {
+        return Answer {
+            refusal: 15,
+            value: missing,
+        };
+    }
+    let part = place_records(table, place, records);
+    buffer::put(records, PART_SIZE * place, &part);
+    base::put(table, ROWS_OFFSET + ROW_SIZE * place + MARK_OFFSET, &[1u8]);
+    Answer {
+        refusal: 0,
+        value: 0,
+    }
+}
