@@ -1,10 +1,12 @@
--- The theory's laws.
+-- The theory, from the ground up: histories and what their records keep; agreement in any collection of histories; the histories of a
+-- ledger's blocks; site and ledger side by side; the theorem. Then what `replay` needs.
 pub mod Histories
 pub mod Meanings
 pub mod Validity
 pub mod Agreement
 pub mod Found
 pub mod Ancestry
+pub mod Worlds
 pub mod Listed
 pub mod Same
 pub mod Entered
@@ -12,8 +14,7 @@ pub mod Tied
 pub mod Passed
 pub mod Shown
 pub mod Runs
-pub mod Worlds
 pub mod Theorem
 mod Encoded
-mod Replayed
 mod First
+mod Replayed

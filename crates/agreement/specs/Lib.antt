@@ -1,8 +1,9 @@
--- The two-site theorem.
+-- The theorem of two sites. History, Ancestry, Ledger, Run, Promises and Encoding are what a reader must believe; nothing in Steps need be
+-- believed.
 pub mod History
 pub mod Ancestry
 pub mod Ledger
 pub mod Run
-pub mod Encoding
 pub mod Promises
+pub mod Encoding
 pub mod Steps

@@ -85,20 +85,20 @@ module _ (digest : Bytes → Bytes) where
     abbrev pub ledgerOf : List ℕ → List Call → Ledger
     ledgerOf buffer calls = ledgerAfter digest s (length buffer) empty calls
 
-    abbrev pub siteOfCalls : List ℕ → List Call → Site
-    siteOfCalls buffer calls = siteAfter digest (started s buffer) calls
+    abbrev pub runOf : List ℕ → List Call → Site
+    runOf buffer calls = siteAfter digest (started s buffer) calls
 
     pub record Promised (buffer₁ buffer₂ : List ℕ) (calls₁ calls₂ : List Call) : Type 0 where
       -- each site keeps to its ledger
-      pub first : SiteKeeps s (ledgerOf buffer₁ calls₁) (siteOfCalls buffer₁ calls₁)
-      pub second : SiteKeeps s (ledgerOf buffer₂ calls₂) (siteOfCalls buffer₂ calls₂)
+      pub first : SiteKeeps s (ledgerOf buffer₁ calls₁) (runOf buffer₁ calls₁)
+      pub second : SiteKeeps s (ledgerOf buffer₂ calls₂) (runOf buffer₂ calls₂)
       pub firstAnswers : AnswersKeep (siteAnswers digest (started s buffer₁) calls₁) (ledgerAnswers digest s (length buffer₁) empty calls₁)
       pub secondAnswers : AnswersKeep (siteAnswers digest (started s buffer₂) calls₂) (ledgerAnswers digest s (length buffer₂) empty calls₂)
       -- a block interpreted at both has the same part at both
       pub same : NoCollision (ledgerOf buffer₁ calls₁ .blocks ++ ledgerOf buffer₂ calls₂ .blocks)
           → (i j : ℕ) → Interpreted (ledgerOf buffer₁ calls₁) i → Interpreted (ledgerOf buffer₂ calls₂) j
           → ledgerOf buffer₁ calls₁ .block i ≡ ledgerOf buffer₂ calls₂ .block j
-          → partOf (siteOfCalls buffer₁ calls₁ .records) i ≡ partOf (siteOfCalls buffer₂ calls₂ .records) j
+          → partOf (runOf buffer₁ calls₁ .records) i ≡ partOf (runOf buffer₂ calls₂ .records) j
       -- where at most f sites forked, a slot has one number
       pub agreement : NoCollision (ledgerOf buffer₁ calls₁ .blocks ++ ledgerOf buffer₂ calls₂ .blocks)
           → countBelow (forked (ledgerOf buffer₁ calls₁ .blocks ++ ledgerOf buffer₂ calls₂ .blocks)) (s .sites) ≤ faults (s .sites)
