@@ -1,6 +1,6 @@
 # make demo    shows the control program on a small campaign
 # make test    proves and tests everything: the gate
-# make bench   measures SHA-256 against a baseline in C, and the form check of a full table against a digest
+# make bench   measures SHA-256 against a baseline in C, and a full table's calls against a digest
 # make fuzz    compares the library with the harness's model for long: FUZZ_SEED and FUZZ_CASES say where and how far
 # make host    builds the two libraries for C and the control program
 # make clean   removes all that was built
@@ -36,12 +36,14 @@ demo: host
 test: prerequisites
 	@tools/gate.sh
 
-# What the library costs on this machine: its SHA-256 against a baseline in C, the form check of a full table against a
-# digest.
-bench: prerequisites $(HOST)/bench_sha256 $(HOST)/bench_form
+# What the library costs on this machine: its SHA-256 against a baseline in C, a full table's calls against
+# a digest.
+bench: prerequisites $(HOST)/bench_sha256 $(HOST)/bench_table $(HOST)/bench_stack
 	$(HOST)/bench_sha256
 	@echo
-	$(HOST)/bench_form
+	$(HOST)/bench_table
+	@echo
+	$(HOST)/bench_stack
 
 # The library against the harness's model. A million cases take some minutes; another seed gives other cases.
 fuzz: harness
@@ -84,8 +86,11 @@ $(HOST)/core_calls: host/tests/core_calls.c host/tests/checks.h $(HEADERS) $(LIB
 $(HOST)/bench_sha256: bench/sha256.c bench/sha256_baseline.c bench/timing.h host/giangotum.h $(C_LIBRARY) | $(HOST)
 	$(CC) $(BENCH_CFLAGS) -Ihost -o $@ bench/sha256.c bench/sha256_baseline.c $(C_LIBRARY)
 
-$(HOST)/bench_form: bench/form.c bench/timing.h $(HEADERS) $(LIBRARIES) | $(HOST)
-	$(CC) $(BENCH_CFLAGS) -Ihost -o $@ bench/form.c $(LIBRARIES)
+$(HOST)/bench_stack: bench/stack.c $(HEADERS) $(LIBRARIES) | $(HOST)
+	$(CC) $(BENCH_CFLAGS) -Ihost -o $@ bench/stack.c $(LIBRARIES) -lpthread
+
+$(HOST)/bench_table: bench/table.c bench/timing.h $(HEADERS) $(LIBRARIES) | $(HOST)
+	$(CC) $(BENCH_CFLAGS) -Ihost -o $@ bench/table.c $(LIBRARIES)
 
 $(HOST): | prerequisites
 	mkdir -p $@

@@ -1,4 +1,5 @@
-/* The table of a campaign, for C and C++ programs that keep one: an empty table, its form, and admission.
+/* The table and the records of a campaign, for C and C++ programs that keep them: an empty table, its form, admission,
+ * interpretation, and a whole list of calls at once.
  *
  * Link with libcore_interface.a, beside libc_interface.a where the calls of giangotum.h are used too (`make host` builds
  * both). Every function here is proved to meet its contract for all bytes, all lengths and all numbers: none crashes, none
@@ -27,6 +28,10 @@ extern "C" {
 #define GT_MAX_PLACES 64
 /* Slots, and so owners. */
 #define GT_SLOTS 8
+/* The numbers of a record, of a place's eight records, and of a record buffer: place after place, slot after slot. */
+#define GT_RECORD_NUMBERS 40
+#define GT_PART_NUMBERS 320
+#define GT_RECORDS_NUMBERS 20480
 
 /* Writes the empty table of a setup, the number of sites n and an owner for each slot, over whatever the buffer has.
  *   1: the setup is not lawful: n is not 1, 4, 7, 10, 13 or 16, the owners are not eight, or an owner is not below n;
@@ -49,6 +54,25 @@ bool gt_in_form(const uint8_t *table, size_t table_length);
  *   10: the sequence number is over 0, and not exactly one reference is to a block of the same site with the number one less;
  *   11: the table holds GT_MAX_PLACES blocks already. */
 gt_answer gt_admit(uint8_t *table, size_t table_length, const uint8_t *block, size_t block_length, uint8_t verdict);
+
+/* Works out the records of the block at a place from those of the blocks that it refers to, writes them as the place's
+ * GT_PART_NUMBERS numbers of the buffer, and marks the place interpreted. No other number and no other byte changes. The
+ * buffer may start with any content. The value is 0.
+ *   2: the table is not in form;
+ *   12: the record buffer is not of GT_RECORDS_NUMBERS numbers;
+ *   13: the place is not below the table's count;
+ *   14: it is interpreted already;
+ *   15, value the lowest such place: it refers to a block that is not interpreted. */
+gt_answer gt_interpret(uint8_t *table, size_t table_length, size_t place, uint16_t *records, size_t records_length);
+
+/* Runs an encoded list of calls, one after the other, as if gt_admit and gt_interpret had been called, and gives how many
+ * ran. A call is
+ *   0, verdict, length of the block (8 bytes, low byte first), the block's bytes: an admission; or
+ *   1, place (8 bytes, low byte first): an interpretation.
+ * A call that is cut, or that begins with another byte, ends the list. The answer of call i is put at answers[2 * i]
+ * (refusal) and answers[2 * i + 1] (value) where both are within the buffer; all other elements stay. It refuses nothing. */
+size_t gt_replay(uint8_t *table, size_t table_length, uint16_t *records, size_t records_length, const uint8_t *calls,
+                 size_t calls_length, uint64_t *answers, size_t answers_length);
 
 #ifdef __cplusplus
 }

@@ -1,5 +1,6 @@
-/* What the form check of a full table costs, and an admission at its last place, as ratios to the digest of the longest
- * block. Every call on a table begins with the form check, and every admission has such a digest in it.
+/* What the form check of a full table costs, an admission at its last place and the interpretation of that place, as
+ * ratios to the digest of the longest block and to the admission. Every call on a table begins with the form check, and
+ * every admission has such a digest in it.
  * It prints what it measures and judges no speed. An answer other than the expected one ends it with status 1. */
 #include <stdbool.h>
 #include <stdint.h>
@@ -14,7 +15,9 @@ enum { SITES = 16, LAST_PLACE = GT_MAX_PLACES - 1, CALLS = 2000 };
 
 static uint8_t full[GT_TABLE_BYTES];    /* with all 64 blocks */
 static uint8_t but_one[GT_TABLE_BYTES]; /* before the last of them */
-static uint8_t lent[GT_TABLE_BYTES];    /* filled anew for each admission */
+static uint8_t unmarked[GT_TABLE_BYTES]; /* full, and all but the last place interpreted */
+static uint8_t lent[GT_TABLE_BYTES];    /* filled anew for each call that changes it */
+static uint16_t records[GT_RECORDS_NUMBERS];
 static uint8_t block[GT_MAX_BLOCK_BYTES];
 static uint8_t digests[GT_MAX_PLACES][GT_DIGEST_BYTES];
 
@@ -59,6 +62,16 @@ static void fill_table(void)
     expect(length == GT_MAX_BLOCK_BYTES, "the last block is not of 541 bytes");
 }
 
+/* Interprets all places but the last, on a copy. */
+static void interpret_all_but_one(void)
+{
+    memcpy(unmarked, full, GT_TABLE_BYTES);
+    for (size_t place = 0; place < LAST_PLACE; place++) {
+        gt_answer answer = gt_interpret(unmarked, GT_TABLE_BYTES, place, records, GT_RECORDS_NUMBERS);
+        expect(answer.refusal == 0, "an interpretation of the campaign was refused");
+    }
+}
+
 /* ---- Batches */
 
 static double time_digest(void)
@@ -99,39 +112,68 @@ static double time_admission(void)
     return taken;
 }
 
-static void print_line(const char *call, double seconds[REPETITIONS], double ratio[REPETITIONS])
+/* The mark is taken back before each call, by a copy that is in the time. */
+static double time_interpretation(void)
 {
-    printf("%-24s %12.2f %8.2f\n", call, 1e6 * median(seconds) / CALLS, median(ratio));
+    bool all = true;
+    double start = cpu_seconds();
+
+    for (int i = 0; i < CALLS; i++) {
+        memcpy(lent, unmarked, GT_TABLE_BYTES);
+        all = gt_interpret(lent, GT_TABLE_BYTES, LAST_PLACE, records, GT_RECORDS_NUMBERS).refusal == 0 && all;
+    }
+    double taken = cpu_seconds() - start;
+    expect(all, "the last place was not interpreted");
+    return taken;
+}
+
+static void divide(double quotient[REPETITIONS], const double seconds[REPETITIONS], const double by[REPETITIONS])
+{
+    for (int i = 0; i < REPETITIONS; i++)
+        quotient[i] = seconds[i] / by[i];
+}
+
+static void print_call(const char *call, double seconds[REPETITIONS], const double digest[REPETITIONS],
+                       const double admission[REPETITIONS])
+{
+    double digests_of[REPETITIONS], admissions_of[REPETITIONS];
+
+    divide(digests_of, seconds, digest);
+    divide(admissions_of, seconds, admission);
+    printf("%-28s %12.2f %8.2f %10.2f\n", call, 1e6 * median(seconds) / CALLS, median(digests_of),
+           median(admissions_of));
 }
 
 int main(void)
 {
-    double digest[REPETITIONS], form[REPETITIONS], admission[REPETITIONS];
-    double one[REPETITIONS], form_ratio[REPETITIONS], admission_ratio[REPETITIONS];
+    double digest[REPETITIONS], form[REPETITIONS], admission[REPETITIONS], interpretation[REPETITIONS];
 
     fill_table();
+    interpret_all_but_one();
     time_digest();
     time_form();
     time_admission();
+    time_interpretation();
     for (int i = 0; i < REPETITIONS; i++) {
         digest[i] = time_digest();
         form[i] = time_form();
         admission[i] = time_admission();
-        one[i] = 1;
-        form_ratio[i] = form[i] / digest[i];
-        admission_ratio[i] = admission[i] / digest[i];
+        interpretation[i] = time_interpretation();
     }
 
-    puts("A full table: its form check, and the admission that fills it, against the digest of a block of 541 bytes.");
-    puts("The table has 16 sites and 64 blocks: four rounds, each block with references to all 16 of the round before.");
-    printf("Measured in CPU time: medians of %d repetitions, each a batch of %d calls of digest, form and admission in\n",
+    puts("A full table: its form check, the admission that fills it and the interpretation of its last place, against the");
+    puts("digest of a block of 541 bytes and against that admission.");
+    puts("The table has 16 sites and 64 blocks: four rounds, each block with references to all 16 of the round before; the");
+    puts("last block hears 16 sites in all eight slots.");
+    printf("Measured in CPU time: medians of %d repetitions, each a batch of %d calls of each kind in turn, after a batch\n",
            REPETITIONS, CALLS);
-    puts("turn, after a batch of each to warm up. Before each admission the table is put back; that copy of 3,850 bytes");
-    puts("is counted with it. A ratio is the median of the ratios within the repetitions.");
+    puts("of each to warm up. Before each admission and interpretation the table is put back; that copy of 3,850 bytes is");
+    puts("counted with it. A ratio is the median of the ratios within the repetitions.");
     puts("");
-    puts("call                     microseconds  digests");
-    print_line("gt_digest, 541 bytes", digest, one);
-    print_line("gt_in_form, 64 places", form, form_ratio);
-    print_line("gt_admit, at place 63", admission, admission_ratio);
+    puts("call                         microseconds  digests admissions");
+    print_call("gt_digest, 541 bytes", digest, digest, admission);
+    print_call("gt_in_form, 64 places", form, digest, admission);
+    print_call("gt_admit, at place 63", admission, digest, admission);
+    print_call("gt_interpret, of place 63", interpretation, digest, admission);
     return 0;
 }
