@@ -26,7 +26,7 @@ use Rattle.agreement.specs.History.{History, slotRecord, meaning}
 use Rattle.agreement.specs.Ancestry.{historyOf}
 use Rattle.agreement.specs.Ledger.{Call, Ledger, empty}
 use Rattle.agreement.specs.Run.{Site, started}
-use Rattle.agreement.specs.Promises.{forked, Interpreted, deliveredEntry, NoCollision, historyAt, Delivered, OwnerRequested, SiteKeeps, ledgerOf, runOf, Promised}
+use Rattle.agreement.specs.Promises.{forked, Interpreted, deliveredEntry, NoCollision, historyAt, Delivered, OwnerRequested, SiteKeeps, ledgerOf, siteWith, Promised}
 use Rattle.agreement.proofs.Meanings.{record-sized}
 use Rattle.agreement.proofs.Validity.{owner-requested}
 use Rattle.agreement.proofs.Ancestry.{child-of, children-listed, ancestor-in}
@@ -99,10 +99,10 @@ module _ (digest : Bytes → Bytes) (sized : (b : Bytes) → length (digest b) �
     abbrev l₂ : Ledger
     l₂ = ledgerOf digest s buffer₂ calls₂
 
-    run₁ : Together digest sized s (length buffer₁) l₁ (runOf digest s buffer₁ calls₁)
+    run₁ : Together digest sized s (length buffer₁) l₁ (siteWith digest s buffer₁ calls₁)
     run₁ = run-together digest sized s (length buffer₁) empty (started s buffer₁) (start buffer₁) calls₁
 
-    run₂ : Together digest sized s (length buffer₂) l₂ (runOf digest s buffer₂ calls₂)
+    run₂ : Together digest sized s (length buffer₂) l₂ (siteWith digest s buffer₂ calls₂)
     run₂ = run-together digest sized s (length buffer₂) empty (started s buffer₂) (start buffer₂) calls₂
 
     among₁ : (i : ℕ) → i < l₁ .held → List·Memᴰ (l₁ .block i) (l₁ .blocks)

@@ -59,7 +59,14 @@ module _ (digest : Bytes → Bytes) where
     pub byOwner : siteOf requester ≡ ownerOf s slot
     pub requests : requestFor requester slot ≡ v
 
-  -- what a site has after its calls, told by its ledger
+  -- what a list of calls leaves in a ledger and at a site that starts with this record buffer
+  abbrev pub ledgerOf : Setup → List ℕ → List Call → Ledger
+  ledgerOf s buffer calls = ledgerAfter digest s (length buffer) empty calls
+
+  abbrev pub siteWith : Setup → List ℕ → List Call → Site
+  siteWith s buffer calls = siteAfter digest (started s buffer) calls
+
+  -- one site, told by its ledger
   pub record SiteKeeps (s : Setup) (l : Ledger) (x : Site) : Type 0 where
     -- setup, count and all six fields of every place are the ledger's, and all bytes from the count on are zero
     pub setup : setupOf (x .table) ≡ s
@@ -75,34 +82,41 @@ module _ (digest : Bytes → Bytes) where
     -- a delivered number was requested by the owner in an ancestor
     pub requested : (slot v : ℕ) → slot < slotCount → (d : Delivered s l slot v) → OwnerRequested s l (l .block (d .place)) slot v
 
-  -- the answers are the ledger's, number and value, and 2 is none of them
-  pub record AnswersKeep (ours theirs : List Answer) : Type 0 where
-    pub same : ours ≡ theirs
-    pub formed : (a : Answer) → List·Memᴰ a ours → a .refusal ≢ 2
+  -- the answers of its calls
+  pub record AnswersKeep (s : Setup) (buffer : List ℕ) (calls : List Call) : Type 0 where
+    -- each is the ledger's, number and value
+    pub same : siteAnswers digest (started s buffer) calls ≡ ledgerAnswers digest s (length buffer) empty calls
+    -- and none is 2
+    pub formed : (a : Answer) → List·Memᴰ a (siteAnswers digest (started s buffer) calls) → a .refusal ≢ 2
 
-  module _ (s : Setup) where
-    -- what a list of calls leaves, in the ledger and at the site
-    abbrev pub ledgerOf : List ℕ → List Call → Ledger
-    ledgerOf buffer calls = ledgerAfter digest s (length buffer) empty calls
+  -- two sites of one setup, each with its record buffer, of any length and content, and its list of calls, refused ones included
+  module _ (s : Setup) (buffer₁ buffer₂ : List ℕ) (calls₁ calls₂ : List Call) where
+    abbrev pub ledger₁ : Ledger
+    ledger₁ = ledgerOf s buffer₁ calls₁
 
-    abbrev pub runOf : List ℕ → List Call → Site
-    runOf buffer calls = siteAfter digest (started s buffer) calls
+    abbrev pub ledger₂ : Ledger
+    ledger₂ = ledgerOf s buffer₂ calls₂
 
-    pub record Promised (buffer₁ buffer₂ : List ℕ) (calls₁ calls₂ : List Call) : Type 0 where
+    abbrev pub site₁ : Site
+    site₁ = siteWith s buffer₁ calls₁
+
+    abbrev pub site₂ : Site
+    site₂ = siteWith s buffer₂ calls₂
+
+    -- "delivered .. of either"
+    abbrev pub DeliveredAtEither : ℕ → ℕ → Type 0
+    DeliveredAtEither slot v = Delivered s ledger₁ slot v ⊎ Delivered s ledger₂ slot v
+
+    pub record Promised : Type 0 where
       -- each site keeps to its ledger
-      pub first : SiteKeeps s (ledgerOf buffer₁ calls₁) (runOf buffer₁ calls₁)
-      pub second : SiteKeeps s (ledgerOf buffer₂ calls₂) (runOf buffer₂ calls₂)
-      pub firstAnswers : AnswersKeep (siteAnswers digest (started s buffer₁) calls₁) (ledgerAnswers digest s (length buffer₁) empty calls₁)
-      pub secondAnswers : AnswersKeep (siteAnswers digest (started s buffer₂) calls₂) (ledgerAnswers digest s (length buffer₂) empty calls₂)
+      pub first : SiteKeeps s ledger₁ site₁
+      pub second : SiteKeeps s ledger₂ site₂
+      pub firstAnswers : AnswersKeep s buffer₁ calls₁
+      pub secondAnswers : AnswersKeep s buffer₂ calls₂
       -- a block interpreted at both has the same part at both
-      pub same : NoCollision (ledgerOf buffer₁ calls₁ .blocks ++ ledgerOf buffer₂ calls₂ .blocks)
-          → (i j : ℕ) → Interpreted (ledgerOf buffer₁ calls₁) i → Interpreted (ledgerOf buffer₂ calls₂) j
-          → ledgerOf buffer₁ calls₁ .block i ≡ ledgerOf buffer₂ calls₂ .block j
-          → partOf (runOf buffer₁ calls₁ .records) i ≡ partOf (runOf buffer₂ calls₂ .records) j
+      pub same : NoCollision (ledger₁ .blocks ++ ledger₂ .blocks) → (i j : ℕ) → Interpreted ledger₁ i → Interpreted ledger₂ j
+          → ledger₁ .block i ≡ ledger₂ .block j → partOf (site₁ .records) i ≡ partOf (site₂ .records) j
       -- where at most f sites forked, a slot has one number
-      pub agreement : NoCollision (ledgerOf buffer₁ calls₁ .blocks ++ ledgerOf buffer₂ calls₂ .blocks)
-          → countBelow (forked (ledgerOf buffer₁ calls₁ .blocks ++ ledgerOf buffer₂ calls₂ .blocks)) (s .sites) ≤ faults (s .sites)
-          → (slot v w : ℕ) → slot < slotCount
-          → Delivered s (ledgerOf buffer₁ calls₁) slot v ⊎ Delivered s (ledgerOf buffer₂ calls₂) slot v
-          → Delivered s (ledgerOf buffer₁ calls₁) slot w ⊎ Delivered s (ledgerOf buffer₂ calls₂) slot w
-          → v ≡ w
+      pub agreement : NoCollision (ledger₁ .blocks ++ ledger₂ .blocks)
+          → countBelow (forked (ledger₁ .blocks ++ ledger₂ .blocks)) (s .sites) ≤ faults (s .sites)
+          → (slot v w : ℕ) → slot < slotCount → DeliveredAtEither slot v → DeliveredAtEither slot w → v ≡ w
