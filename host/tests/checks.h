@@ -24,9 +24,9 @@ static inline bool is(gt_answer answer, uint8_t refusal, size_t value)
 }
 
 /* The bytes in an allocation of their own length, so that valgrind sees an access past their end. */
-static inline uint8_t *exact_copy(const uint8_t *bytes, size_t length)
+static inline void *exact_copy(const void *bytes, size_t length)
 {
-    uint8_t *copy = malloc(length);
+    void *copy = malloc(length);
 
     if (copy == NULL && length > 0) {
         fputs("no memory\n", stderr);

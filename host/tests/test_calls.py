@@ -1,11 +1,15 @@
-"""The libraries' calls at the edges of what they take: host/tests/calls.c and host/tests/core_calls.c."""
+"""The libraries' calls at the edges of what they take: calls.c, core_calls.c and record_calls.c here."""
 
-from programs import CALLS, CORE_CALLS, expect_all_ok
+from programs import CALLS, CORE_CALLS, RECORD_CALLS, expect_all_ok
 
 
 def test_digest_and_reading():
     expect_all_ok(CALLS)
 
 
-def test_core():
+def test_table_and_admission():
     expect_all_ok(CORE_CALLS)
+
+
+def test_interpretation_and_replay():
+    expect_all_ok(RECORD_CALLS)

@@ -4,7 +4,7 @@ import random
 
 import bad_inputs
 import generate
-from programs import CALLS, CORE_CALLS, DOME, VALGRIND, digests, dome, expect, expect_same_lines, output_of, run
+from programs import CALLS, CORE_CALLS, DOME, RECORD_CALLS, VALGRIND, digests, dome, expect, expect_same_lines, output_of, run
 from reference import text_of
 from test_examples import ARRIVALS
 
@@ -35,6 +35,10 @@ def test_calls():
 
 def test_core_calls():
     output_of([*VALGRIND, CORE_CALLS])
+
+
+def test_record_calls():
+    output_of([*VALGRIND, RECORD_CALLS])
 
 
 def test_digests():

@@ -1,0 +1,284 @@
+/* Calls interpretation and replay at the edges of what they take. Writes a line for each check, and ends with exit status
+ * 1 if one fails. All that is lent lies in an allocation of its own length, so that valgrind sees an access past its end. */
+#include "campaigns.h"
+
+#include <stdio.h>
+#include <stdlib.h>
+#include <string.h>
+
+/* Entries of a record. */
+enum { DELIVERED = 3, MADE = 36 };
+
+/* ---- Record buffers */
+
+typedef struct {
+    uint16_t numbers[GT_RECORDS_NUMBERS + 1]; /* room for a buffer that is too long */
+} buffer;
+
+static buffer of_number(uint16_t number)
+{
+    buffer b;
+
+    for (size_t i = 0; i < sizeof b.numbers / sizeof b.numbers[0]; i++)
+        b.numbers[i] = number;
+    return b;
+}
+
+static bool same_numbers(const buffer *x, const buffer *y)
+{
+    return memcmp(x->numbers, y->numbers, sizeof x->numbers) == 0;
+}
+
+static uint16_t *record_of(buffer *b, size_t place, size_t slot)
+{
+    return b->numbers + GT_PART_NUMBERS * place + GT_RECORD_NUMBERS * slot;
+}
+
+static bool made(buffer *b, size_t place, size_t slot, uint16_t send, uint16_t echo, uint16_t ready, uint16_t delivery)
+{
+    return memcmp(record_of(b, place, slot) + MADE, (uint16_t[]){send, echo, ready, delivery}, 8) == 0;
+}
+
+/* ---- The two calls, on exact copies. What a call left is put back. */
+
+static gt_answer interpret_of_length(table *t, size_t table_length, size_t place, buffer *b, size_t count)
+{
+    uint8_t *lent_table = exact_copy(t->bytes, table_length);
+    uint16_t *lent_records = exact_copy(b->numbers, 2 * count);
+    gt_answer answer = gt_interpret(lent_table, table_length, place, lent_records, count);
+
+    memcpy(t->bytes, lent_table, table_length);
+    memcpy(b->numbers, lent_records, 2 * count);
+    free(lent_table);
+    free(lent_records);
+    return answer;
+}
+
+static gt_answer interpret(table *t, size_t place, buffer *b)
+{
+    return interpret_of_length(t, GT_TABLE_BYTES, place, b, GT_RECORDS_NUMBERS);
+}
+
+static bool refused_of_length(table t, size_t table_length, size_t place, size_t count, uint8_t refusal, size_t value)
+{
+    buffer b = of_number(7), numbers_before = b;
+    table before = t;
+
+    return is(interpret_of_length(&t, table_length, place, &b, count), refusal, value) && same(&t, &before)
+        && same_numbers(&b, &numbers_before);
+}
+
+static bool refused(table t, size_t place, uint8_t refusal, size_t value)
+{
+    return refused_of_length(t, GT_TABLE_BYTES, place, GT_RECORDS_NUMBERS, refusal, value);
+}
+
+/* ---- Document 01's chain of four: n is 1, and the first block requests 7 in slot 0. */
+
+static block chain_block(uint16_t sequence)
+{
+    block b = block_of(0, sequence);
+
+    return sequence == 0 ? with_request(b, 0, 7) : referring_to(b, chain_block((uint16_t)(sequence - 1)));
+}
+
+static table chain(uint16_t blocks)
+{
+    table t = empty_table(1);
+
+    for (uint16_t i = 0; i < blocks; i++)
+        admit(&t, chain_block(i));
+    return t;
+}
+
+/* The buffer's content is no matter: only the place's numbers are written, and all of them. */
+static bool chain_interpreted(uint16_t content)
+{
+    table t = chain(4), wanted = t;
+    buffer b = of_number(content), rest;
+
+    for (size_t place = 0; place < 4; place++) {
+        row(&wanted, place)[MARK] = 1;
+        if (!is(interpret(&t, place, &b), 0, 0) || !same(&t, &wanted))
+            return false;
+    }
+    rest = of_number(content);
+    memcpy(rest.numbers, b.numbers, 2 * 4 * GT_PART_NUMBERS);
+    return same_numbers(&b, &rest) && made(&b, 0, 0, 7, 0, 0, 0) && made(&b, 1, 0, 0, 7, 0, 0)
+        && made(&b, 2, 0, 0, 0, 7, 0) && made(&b, 3, 0, 0, 0, 0, 7) && record_of(&b, 3, 0)[DELIVERED] == 7
+        && made(&b, 3, 7, 0, 0, 0, 0);
+}
+
+static void check_interpreted(void)
+{
+    check("interpretation, the chain of four into zeros", chain_interpreted(0));
+    check("interpretation, the chain of four into other numbers", chain_interpreted(0xa5a5));
+}
+
+static void check_refused(void)
+{
+    table t = chain(3), marked = chain(3), unlawful = filled_with(0);
+    uint16_t none = 0;
+
+    row(&marked, 0)[MARK] = 1;
+    check("interpretation, all zeros", refused(unlawful, 0, 2, 0));
+    check("interpretation, a table of 3849 bytes",
+          refused_of_length(t, GT_TABLE_BYTES - 1, 0, GT_RECORDS_NUMBERS, 2, 0));
+    check("interpretation, a table of 0 bytes at NULL", is(gt_interpret(NULL, 0, 0, &none, 1), 2, 0));
+    check("interpretation, 20479 numbers", refused_of_length(t, GT_TABLE_BYTES, 0, GT_RECORDS_NUMBERS - 1, 12, 0));
+    check("interpretation, 20481 numbers", refused_of_length(t, GT_TABLE_BYTES, 0, GT_RECORDS_NUMBERS + 1, 12, 0));
+    check("interpretation, 0 numbers at NULL", is(gt_interpret(t.bytes, GT_TABLE_BYTES, 0, NULL, 0), 12, 0));
+    check("interpretation, place 0 of an empty table", refused(empty_table(4), 0, 13, 0));
+    check("interpretation, place 3 of three", refused(t, 3, 13, 0));
+    check("interpretation, place 64", refused(t, 64, 13, 0));
+    check("interpretation, place 256", refused(t, 256, 13, 0));
+    check("interpretation, place 2^32", refused(t, (size_t)1 << 32, 13, 0));
+    check("interpretation, the greatest place", refused(t, SIZE_MAX, 13, 0));
+    check("interpretation, place 0 again", refused(marked, 0, 14, 0));
+    check("interpretation, place 1 before place 0", refused(t, 1, 15, 0));
+    check("interpretation, place 2 before place 1", refused(marked, 2, 15, 1));
+    check("interpretation: 2 before 12", refused_of_length(unlawful, GT_TABLE_BYTES, 0, 1, 2, 0));
+    check("interpretation: 12 before 13", refused_of_length(t, GT_TABLE_BYTES, 9, 1, 12, 0));
+}
+
+/* ---- Lists of calls */
+
+typedef struct {
+    uint8_t bytes[4096];
+    size_t length;
+} list;
+
+static void put_word(list *l, uint64_t word)
+{
+    for (int i = 0; i < 8; i++)
+        l->bytes[l->length++] = (uint8_t)(word >> 8 * i);
+}
+
+static void put_admission(list *l, block b, uint8_t verdict)
+{
+    l->bytes[l->length++] = 0;
+    l->bytes[l->length++] = verdict;
+    put_word(l, b.length);
+    memcpy(l->bytes + l->length, b.bytes, b.length);
+    l->length += b.length;
+}
+
+static void put_interpretation(list *l, uint64_t place)
+{
+    l->bytes[l->length++] = 1;
+    put_word(l, place);
+}
+
+/* The chain of four, with calls that are refused among them. */
+static list chain_list(void)
+{
+    list l = {.length = 0};
+
+    put_interpretation(&l, 0);
+    put_admission(&l, chain_block(1), 1);
+    for (uint16_t i = 0; i < 4; i++) {
+        put_admission(&l, chain_block(i), 2);
+        put_admission(&l, chain_block(i), 1);
+        put_interpretation(&l, i);
+    }
+    put_interpretation(&l, (uint64_t)1 << 40);
+    return l;
+}
+
+enum { CALLS = 15, UNTOUCHED = 99 };
+
+/* What the calls of chain_list are answered: refusal and value of each. */
+static const uint64_t chain_answers[2 * CALLS] = {13, 0, 9, 0, 5, 0, 0, 0, 0, 0, 5, 0, 0, 1, 0, 0, 5,
+                                                  0, 0, 2, 0, 0, 5, 0, 0, 3, 0, 0, 13, 0};
+
+/* Replays the first bytes of a list, and gives how many calls ran. */
+static size_t replay(table *t, buffer *b, list l, size_t length, uint64_t *answers, size_t answers_length)
+{
+    uint8_t *lent_table = exact_copy(t->bytes, GT_TABLE_BYTES), *lent_calls = exact_copy(l.bytes, length);
+    uint16_t *lent_records = exact_copy(b->numbers, 2 * GT_RECORDS_NUMBERS);
+    uint64_t *lent_answers = exact_copy(answers, 8 * answers_length);
+    size_t count = gt_replay(lent_table, GT_TABLE_BYTES, lent_records, GT_RECORDS_NUMBERS, lent_calls, length,
+                             lent_answers, answers_length);
+
+    memcpy(t->bytes, lent_table, GT_TABLE_BYTES);
+    memcpy(b->numbers, lent_records, 2 * GT_RECORDS_NUMBERS);
+    if (answers_length > 0)
+        memcpy(answers, lent_answers, 8 * answers_length);
+    free(lent_table);
+    free(lent_calls);
+    free(lent_records);
+    free(lent_answers);
+    return count;
+}
+
+/* The answers that fit are there, and the elements after them stay. */
+static bool answers_put(size_t answers_length)
+{
+    table t = empty_table(1);
+    buffer b = of_number(0);
+    uint64_t answers[2 * CALLS + 2];
+    size_t written = answers_length / 2 < CALLS ? answers_length / 2 : CALLS;
+    bool ok = true;
+
+    for (size_t i = 0; i < 2 * CALLS + 2; i++)
+        answers[i] = UNTOUCHED;
+    ok = replay(&t, &b, chain_list(), chain_list().length, answers, answers_length) == CALLS;
+    for (size_t i = 0; i < 2 * CALLS + 2; i++)
+        ok = ok && answers[i] == (i < 2 * written ? chain_answers[i] : UNTOUCHED);
+    return ok && made(&b, 3, 0, 0, 0, 0, 7);
+}
+
+/* Cut anywhere, a list leaves what its whole calls leave. */
+static bool cut_anywhere(void)
+{
+    list l = chain_list();
+    size_t calls = 0, at = 0, next = 9;
+
+    for (size_t length = 0; length <= l.length; length++) {
+        table t = empty_table(1);
+        buffer b = of_number(0);
+        if (length == next) {
+            at = next;
+            calls++;
+            next = at == l.length                ? SIZE_MAX
+                : l.bytes[at] == 1               ? at + 9
+                                                 : at + 10 + l.bytes[at + 2] + 256u * l.bytes[at + 3];
+        }
+        if (replay(&t, &b, l, length, NULL, 0) != calls)
+            return false;
+    }
+    return calls == CALLS;
+}
+
+static bool nothing_run(list l)
+{
+    table t = chain(2), before = t;
+    buffer b = of_number(3), numbers_before = b;
+
+    return replay(&t, &b, l, l.length, NULL, 0) == 0 && same(&t, &before) && same_numbers(&b, &numbers_before);
+}
+
+static void check_replay(void)
+{
+    list unknown = chain_list(), long_block = {.bytes = {0, 1}, .length = 2};
+
+    unknown.bytes[0] = 2;
+    put_word(&long_block, UINT64_MAX);
+    check("replay, every answer put", answers_put(2 * CALLS));
+    check("replay, room for more answers", answers_put(2 * CALLS + 2));
+    check("replay, half an answer is not put", answers_put(2 * CALLS - 1));
+    check("replay, room for one answer", answers_put(2));
+    check("replay, room for no answer", answers_put(1) && answers_put(0));
+    check("replay, cut anywhere", cut_anywhere());
+    check("replay, an unknown first byte", nothing_run(unknown));
+    check("replay, a block of 2^64 - 1 bytes", nothing_run(long_block));
+    check("replay, nothing lent", gt_replay(NULL, 0, NULL, 0, NULL, 0, NULL, 0) == 0);
+}
+
+int main(void)
+{
+    check_interpreted();
+    check_refused();
+    check_replay();
+    return all_ok ? EXIT_SUCCESS : EXIT_FAILURE;
+}
