@@ -1,8 +1,6 @@
 // A test program: the digests of published messages, what reading answers of blocks at every limit, what admission answers of a table that
 // fills up, and what the blocks of document 01's campaigns make. The file stdout has what it must write; the values there are the standard's
 // and document 01's. Promises: safe, and ends. Assumes: the contracts of io and libc.
-// table that fills up. The file stdout has what it must write; the values there are the standard's and document 01's. Promises: safe,
-// and ends. Assumes: the contracts of io and libc.
 mod admissions;
 mod blocks;
 mod campaigns;
