@@ -1,14 +1,58 @@
--- The case of a full table, which is slower to compute than all the others together. Assumes nothing.
-use mathlib.Core.Path.{_≡_, refl}
-use mathlib.Core.List.{[], _∷_}
-use Rattle.table.specs.Checks.{refused}
+-- The case of a full table. That a table of 63 blocks is in form is slower to compute than all the other cases together, so it is computed
+-- once: admission keeps form. Assumes nothing.
+use mathlib.Core.Path.{_≡_, refl, ap, ap₂, _∙_}
+use mathlib.Core.Bool.{true, cond}
+use mathlib.Core.List.{List, [], _∷_, map}
+use lib.Dec.{eqb}
+use Rattle.base.specs.Bytes.{Bytes}
+use Rattle.block.specs.declared.Answer.{Answer}
+use Rattle.table.specs.Layout.{setupOf, countOf, viewOf, withRow}
+use Rattle.table.specs.Form.{inForm}
+use Rattle.table.specs.Checks.{refused, answerTo}
+use Rattle.admission.specs.Admission.{rowFor, admissionChecks, admission, admitted}
+use Rattle.admission.proofs.Promises.{promises}
+use Rattle.agreement.specs.Run.{siteAnswer, siteStep, siteAnswers}
 use Rattle.cases.specs.Toy.{toy, block}
 use Rattle.cases.specs.Run.{good, placed, answers}
 use Rattle.cases.specs.Blocks.{numbered, holding}
-use Rattle.cases.proofs.Opened.{opened}
+use Rattle.cases.proofs.Toy.{toyDigest}
+use Rattle.cases.proofs.Opened.{openedTable}
+
+-- the answer of an admission at a table in form, and the table that it leaves
+unfoldable answerAt : Bytes → Bytes → Answer
+answerAt t b = answerTo (admissionChecks toy true (setupOf t) (viewOf t) b 1) (countOf t)
+
+unfoldable nextTable : Bytes → Bytes → Bytes
+nextTable t b = cond (eqb (answerAt t b .refusal) 0) (withRow t (rowFor toy (viewOf t) b)) t
+
+unfoldable answersAt : Bytes → List Bytes → List Answer
+answersAt t [] = []
+answersAt t (b ∷ bs) = answerAt t b ∷ answersAt (nextTable t b) bs
+
+answer-is : (t b : Bytes) → inForm t ≡ true → admission toy t b 1 ≡ answerAt t b
+unfolding admission answerAt
+answer-is t b e = rw e
+
+table-is : (t b : Bytes) → inForm t ≡ true → admitted toy t b 1 ≡ nextTable t b
+unfolding admitted nextTable
+table-is t b e = rw (answer-is t b e)
+
+in-form : (t : Bytes) (bs : List Bytes) → inForm t ≡ true → answers toy t (map good bs) ≡ answersAt t bs
+unfolding answers siteAnswers siteAnswer siteStep answersAt
+in-form t [] e = refl
+in-form t (b ∷ bs) e =
+    ap₂ (λ (a : Answer) (rest : List Answer). a ∷ rest) (answer-is t b e)
+    (in-form (admitted toy t b 1) bs (promises toy (toyDigest .size) .kept t b 1 e) ∙ ap (λ (u : Bytes). answersAt u bs) (table-is t b e))
+
+formed : inForm (holding 63) ≡ true
+unfolding openedTable
+formed = refl
+
+last : answersAt (holding 63) (numbered 63 ∷ numbered 5 ∷ block 0 1 [] [] ∷ block 0 0 [] [] ∷ []) ≡ placed 63 ∷ refused 8 5 ∷ refused 10 0 ∷ refused 11 0 ∷ []
+unfolding openedTable answerAt nextTable answersAt
+last = refl
 
 pub parent-before-full :
     answers toy (holding 63) (good (numbered 63) ∷ good (numbered 5) ∷ good (block 0 1 [] []) ∷ good (block 0 0 [] []) ∷ [])
     ≡ placed 63 ∷ refused 8 5 ∷ refused 10 0 ∷ refused 11 0 ∷ []
-unfolding opened
-parent-before-full = refl
+parent-before-full = in-form (holding 63) (numbered 63 ∷ numbered 5 ∷ block 0 1 [] [] ∷ block 0 0 [] [] ∷ []) formed ∙ last

@@ -1,5 +1,12 @@
--- The cases hold.
+-- The cases hold. Told is how most of them are computed.
 pub mod Toy
+pub mod Told
 pub mod Opened
+pub mod Form
 pub mod Full
-pub mod Cases
+pub mod Admission
+pub mod Interpretation
+pub mod Starred
+pub mod Thresholds
+pub mod Traps
+pub mod Premises

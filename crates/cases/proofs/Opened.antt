@@ -1,5 +1,6 @@
--- All that computing a case opens, under one name. Assumes nothing.
+-- All that computing a case opens, under three names. Assumes nothing.
 use mathlib.Core.Bool.{Bool, true}
+use lib.Count.{ones, onesIn}
 use Rattle.base.specs.Search.{firstBelow, anyBelow, allBelow}
 use Rattle.base.specs.Count.{countBelow}
 use Rattle.base.specs.Mask.{maskBelow}
@@ -8,20 +9,49 @@ use Rattle.base.specs.Bytes.{sameBytes, allZero, parts, joined, splice}
 use Rattle.base.specs.Word.{word, wordBytes}
 use Rattle.block.specs.Layout.{countedRequest, encode}
 use Rattle.block.specs.Reading.{wellShaped, reading}
-use Rattle.setup.specs.Setup.{lawfulSites, ownersBelow, lawful}
+use Rattle.setup.specs.Setup.{lawfulSites, ownersBelow, lawful, faults, echoQuorum, readyAmplification, readyQuorum}
+use Rattle.broadcast.specs.Process.{madeOf, support, onlyIf, readyOnEchoes, readyOnReadies, deliverOnReadies, takeSend, takeEcho, takeReady, take, receive, receiveAll, request}
 use Rattle.table.specs.Layout.{rowBytes, layout, withRow}
 use Rattle.table.specs.Rules.{parents, parentRule, rowInForm, heldInForm}
 use Rattle.table.specs.Form.{inForm}
 use Rattle.table.specs.Fresh.{emptyTable}
 use Rattle.table.specs.Checks.{answerTo}
 use Rattle.admission.specs.Admission.{admission, admitted}
-use Rattle.cases.specs.Toy.{toy, block}
-use Rattle.cases.specs.Run.{tableAfter, answers}
-use Rattle.cases.specs.Blocks.{fresh, unlawful, first, fork, second, both, stranger, third, fourth, numbered, four, holding}
+use Rattle.interpret.specs.Slot.{parentState, insert, insertIf, numbers, messagesOf, messages, interpretSlot}
+use Rattle.interpret.specs.Interpretation.{interpretation}
+use Rattle.agreement.specs.Ledger.{taken}
+use Rattle.agreement.specs.History.{slotRecord, directs}
+use Rattle.agreement.specs.Ancestry.{found, gather, find, historyOf}
+use Rattle.agreement.specs.Run.{siteAnswer, siteStep, siteAfter, siteAnswers}
+use Rattle.cases.specs.Toy.{seen, toy, block}
+use Rattle.cases.specs.Run.{tableAfter, answers, arriving}
+use Rattle.cases.specs.Blocks.{fresh, unlawful, first, fork, second, both, stranger, third, fourth, later, echoing, readying, delivering, numbered, four, holding}
+use Rattle.cases.specs.Starred.{chained, twoEchoes, twoReadies, thirdReady}
+use Rattle.cases.specs.Thresholds.{oneReady, oneMoreReady, threeReadies, fourOfFiveEchoes, twoReadiesOfFive, thirdReadyOfFive, ownReady, fiveReadies}
+use Rattle.cases.specs.Traps.{echoingTwin, readyingTwin, otherEchoing, otherReadying, twinEchoes, oneSender, sameSender, idle, afterIdle, besideIdle, bothReversed, mixedEchoes, readyingThree, twoSlots}
+use Rattle.cases.specs.Premises.{forkEchoing, turning, turned, firstTurns, secondTurns}
+use Rattle.cases.proofs.Told.{claimed, answerInForm, told, ledgerFrom, allMarked, madeBy}
 
--- `unfolding opened` opens what this line names
-unfoldable pub opened : Bool
-unfolding firstBelow anyBelow allBelow countBelow maskBelow listBelow sameBytes allZero parts joined splice word wordBytes countedRequest encode
+-- `unfolding openedBlocks` opens what this line names: the blocks of the cases
+unfoldable pub openedBlocks : Bool
+unfolding joined encode seen toy block first fork second both stranger third fourth later echoing readying delivering numbered chained twoEchoes twoReadies
+    thirdReady oneReady oneMoreReady threeReadies fourOfFiveEchoes twoReadiesOfFive thirdReadyOfFive ownReady fiveReadies echoingTwin readyingTwin
+    otherEchoing otherReadying twinEchoes oneSender sameSender idle afterIdle besideIdle bothReversed mixedEchoes readyingThree twoSlots
+    forkEchoing turning turned
+openedBlocks = true
+
+-- what a ledger's answers and its blocks' meanings are computed by
+unfoldable pub openedLedger : Bool
+unfolding openedBlocks firstBelow anyBelow allBelow countBelow maskBelow listBelow sameBytes parts countedRequest wellShaped reading lawfulSites
+    ownersBelow lawful faults echoQuorum readyAmplification readyQuorum ones onesIn madeOf support onlyIf readyOnEchoes readyOnReadies
+    deliverOnReadies takeSend takeEcho takeReady take receive receiveAll request parents parentRule answerTo parentState insert insertIf numbers
+    messagesOf messages interpretSlot taken slotRecord directs found gather find historyOf fresh arriving claimed answerInForm told
+    ledgerFrom allMarked madeBy firstTurns secondTurns
+openedLedger = true
+
+-- what a table's answers are computed by
+unfoldable pub openedTable : Bool
+unfolding openedBlocks firstBelow anyBelow allBelow countBelow maskBelow listBelow sameBytes allZero parts splice word wordBytes countedRequest
     wellShaped reading lawfulSites ownersBelow lawful rowBytes layout withRow parents parentRule rowInForm heldInForm inForm emptyTable answerTo
-    admission admitted toy block tableAfter answers fresh unlawful first fork second both stranger third fourth numbered four holding
-opened = true
+    admission admitted interpretation siteAnswer siteStep siteAfter siteAnswers tableAfter answers fresh unlawful four holding
+openedTable = true

@@ -1,6 +1,6 @@
 -- The blocks and tables that the cases share.
-use mathlib.Core.List.{[], _∷_}
-use Prim.Native.Nat.{ℕ, _+_}
+use mathlib.Core.List.{List, [], _∷_, map}
+use Prim.Native.Nat.{ℕ, zero, suc, _+_}
 use lib.ListN.{replicate}
 use Rattle.base.specs.Bytes.{Bytes}
 use Rattle.block.specs.Limits.{slotCount}
@@ -57,6 +57,32 @@ fourth = block 3 1 (toy third ∷ toy first ∷ []) (request 5 772 ∷ request 5
 -- blocks that differ in the number requested
 unfoldable pub numbered : ℕ → Bytes
 numbered i = block 0 0 [] (request 0 (i + 1) ∷ [])
+
+-- ---- from the first block's request to delivery
+
+-- the sequence number of the k-th block, from 0, that a site builds after the first block, which site 0 built
+unfoldable pub later : ℕ → ℕ → ℕ
+later zero k = suc k
+later (suc p) k = k
+
+-- the sites that take part in a setup of four
+abbrev pub threeSites : List ℕ
+threeSites = 0 ∷ 1 ∷ 2 ∷ []
+
+abbrev pub fourSites : List ℕ
+fourSites = 0 ∷ 1 ∷ 2 ∷ 3 ∷ []
+
+-- the block of a site that refers to the first and hears its SEND
+unfoldable pub echoing : ℕ → Bytes
+echoing p = block p (later p 0) (toy first ∷ []) []
+
+-- the block of a site that refers to such blocks of these sites and hears their ECHOs
+unfoldable pub readying : List ℕ → ℕ → Bytes
+readying voters p = block p (later p 1) (map (λ q. toy (echoing q)) voters) []
+
+-- the block of a site that refers to those again and hears their READYs
+unfoldable pub delivering : List ℕ → ℕ → Bytes
+delivering voters p = block p (later p 2) (map (λ q. toy (readying voters q)) voters) []
 
 -- ---- tables that hold some
 

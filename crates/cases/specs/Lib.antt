@@ -3,4 +3,9 @@ pub mod Toy
 pub mod Run
 pub mod Blocks
 pub mod Form
-pub mod Cases
+pub mod Admission
+pub mod Interpretation
+pub mod Starred
+pub mod Thresholds
+pub mod Traps
+pub mod Premises

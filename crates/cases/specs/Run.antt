@@ -1,37 +1,112 @@
--- A run of admissions: each gets the table that the last one left. The steps are the right-hand sides of the contract of `admit`, over the
--- table's bytes; `digest` is SHA-256 there.
-use mathlib.Core.List.{List, [], _∷_}
-use Prim.Native.Nat.{ℕ}
+-- A run of calls from a table and a record buffer: each step is the right-hand sides of the contracts of `admit` and `interpret`, over the
+-- table's bytes and the buffer's numbers; `digest` is SHA-256 there.
+use mathlib.Core.Path.{_≡_}
+use mathlib.Core.List.{List, [], _∷_, map}
+use Prim.Native.Nat.{ℕ, suc}
+use lib.ListN.{length, replicate}
 use Rattle.base.specs.Bytes.{Bytes}
+use Rattle.base.specs.List.{listBelow}
 use Rattle.block.specs.declared.Answer.{Answer}
+use Rattle.setup.specs.Setup.{Setup}
+use Rattle.broadcast.specs.declared.Sent.{Sent}
+use Rattle.broadcast.specs.Record.{none, withSend, withEcho, withReady, withDelivered}
+use Rattle.table.specs.Fresh.{emptyTable}
 use Rattle.table.specs.Checks.{success}
-use Rattle.admission.specs.Admission.{admission, admitted}
+use Rattle.interpret.specs.Buffer.{bufferSize, recordIn}
+use Rattle.agreement.specs.Ledger.{Call}
+use Rattle.agreement.specs.Ledger.Call.{admit, interpret}
+use Rattle.agreement.specs.Run.{Site, siteAfter, siteAnswers}
+use Rattle.cases.specs.Toy.{toy}
 
--- what a call is given beside the table
-pub record Arrival : Type 0 where
-  pub bytes : Bytes
-  -- the link's verdict
-  pub verdict : ℕ
+-- ---- calls and answers
 
--- with verdict 1
-abbrev pub good : Bytes → Arrival
-good b = record { bytes = b; verdict = 1 }
+-- an admission with verdict 1, and with another
+abbrev pub good : Bytes → Call
+good b = admit b 1
 
--- with another verdict
-abbrev pub judged : ℕ → Bytes → Arrival
-judged verdict b = record { bytes = b; verdict = verdict }
+abbrev pub judged : ℕ → Bytes → Call
+judged verdict b = admit b verdict
 
 -- "A success has refusal 0, with the place from admission"
 abbrev pub placed : ℕ → Answer
 placed place = success place
 
+-- a place is interpreted
+abbrev pub done : Answer
+done = success 0
+
+-- ---- runs
+
+-- a table, with a record buffer of zeros
+abbrev pub at : Bytes → Site
+at t = record { table = t; records = replicate bufferSize 0 }
+
 module _ (digest : Bytes → Bytes) where
   -- the table that a run leaves
-  unfoldable pub tableAfter : Bytes → List Arrival → Bytes
-  tableAfter t [] = t
-  tableAfter t (a ∷ rest) = tableAfter (admitted digest t (a .bytes) (a .verdict)) rest
+  unfoldable pub tableAfter : Bytes → List Call → Bytes
+  tableAfter t calls = siteAfter digest (at t) calls .table
 
   -- the answer of each call
-  unfoldable pub answers : Bytes → List Arrival → List Answer
-  answers t [] = []
-  answers t (a ∷ rest) = admission digest t (a .bytes) (a .verdict) ∷ answers (admitted digest t (a .bytes) (a .verdict)) rest
+  unfoldable pub answers : Bytes → List Call → List Answer
+  answers t calls = siteAnswers digest (at t) calls
+
+-- ---- calls with their answers
+
+pub record Turn : Type 0 where
+  pub call : Call
+  pub answer : Answer
+
+infix 70 _giving_
+abbrev pub _giving_ : Call → Answer → Turn
+c giving a = record { call = c; answer = a }
+
+abbrev pub callsOf : List Turn → List Call
+callsOf turns = map (λ t. t .call) turns
+
+abbrev pub answersOf : List Turn → List Answer
+answersOf turns = map (λ t. t .answer) turns
+
+-- at a site of this setup each call gets its answer
+pub record Session (s : Setup) (turns : List Turn) : Type 0 where
+  pub answered : answers toy (emptyTable s) (callsOf turns) ≡ answersOf turns
+
+-- ---- blocks that arrive one after the other, and what they make
+
+-- a block, and what it makes in a slot
+pub record Step : Type 0 where
+  pub arrives : Bytes
+  pub makes : Sent
+
+infix 70 _making_
+abbrev pub _making_ : Bytes → Sent → Step
+b making m = record { arrives = b; makes = m }
+
+-- one message or the delivery of v, and both a READY and the delivery; `none` is nothing
+abbrev pub sends : ℕ → Sent
+sends v = withSend v none
+
+abbrev pub echoes : ℕ → Sent
+echoes v = withEcho v none
+
+abbrev pub readies : ℕ → Sent
+readies v = withReady v none
+
+abbrev pub delivers : ℕ → Sent
+delivers v = withDelivered v none
+
+abbrev pub readiesAndDelivers : ℕ → Sent
+readiesAndDelivers v = withDelivered v (readies v)
+
+-- each block is admitted, from this place on, and interpreted there
+unfoldable pub arriving : ℕ → List Step → List Turn
+arriving place [] = []
+arriving place (x ∷ xs) = good (x .arrives) giving placed place ∷ interpret place giving done ∷ arriving (suc place) xs
+
+-- what the records of the first k places show as made in a slot
+abbrev pub madeIn : Site → ℕ → ℕ → List Sent
+madeIn x slot k = listBelow (λ i. recordIn (x .records) i slot .made) k
+
+-- at a site of this setup every block is taken, in this order, and each place's record of the slot shows what its block makes
+pub record Campaign (s : Setup) (slot : ℕ) (steps : List Step) : Type 0 where
+  pub taken : Session s (arriving 0 steps)
+  pub recorded : madeIn (siteAfter toy (at (emptyTable s)) (callsOf (arriving 0 steps))) slot (length steps) ≡ map (λ x. x .makes) steps

@@ -9,13 +9,17 @@ use Rattle.block.specs.Limits.{headerSize, referenceSize}
 use Rattle.block.specs.Layout.{requestList, encode}
 use Rattle.block.specs.declared.Request.{Request}
 
+-- what the digest sees of a block: header and request list. Two blocks share it only where they have the same site, sequence number, counts
+-- and requests and refer to other blocks; cases that need a shared digest have two such
+unfoldable pub seen : Bytes → Bytes
+seen b = take headerSize b ++ requestList b
+
 abbrev zeros : Bytes
 zeros = replicate referenceSize 0
 
--- header and request list, then zeros: 32 bytes. Two blocks share it only where they have the same site, sequence number, counts and requests
--- and refer to other blocks; cases that need a shared digest have two such
+-- 32 bytes
 unfoldable pub toy : Bytes → Bytes
-toy b = take referenceSize (take headerSize b ++ (requestList b ++ zeros))
+toy b = take referenceSize (seen b ++ zeros)
 
 -- a number requested in a slot
 abbrev pub request : ℕ → ℕ → Request

@@ -1,3 +1,4 @@
-// Document 01's cases: blocks written down field by field, brought to admission in the order given, and the answers that the rules give;
-// and tables in form and out of it. No code. Promises: each row of specs/Cases.antt and specs/Form.antt holds, by computing the right-hand
-// sides of the contracts of `admit` and `in_form` over a table's bytes; the digest there is a toy one (specs/Toy.antt). Assumes nothing.
+// Document 01's cases: calls of admission and interpretation on blocks that are written down field by field, the answer of each call and what
+// each block makes; tables in form and out of it; and two runs that meet the premises of the theorem of crates/agreement. No code. Promises:
+// each row of the records in specs/ holds of the right-hand sides of the contracts of `admit`, `interpret` and `in_form`, over a table's bytes
+// and a buffer's numbers; the digest there is a toy one (specs/Toy.antt). Assumes nothing.

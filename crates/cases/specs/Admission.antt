@@ -1,4 +1,4 @@
--- Cases of document 01's rules, each a short run from a named table with the answer of each call. The digest is the toy one.
+-- Admission: short runs from a named table, with the answer of each call. The digest is the toy one.
 use mathlib.Core.Path.{_≡_}
 use mathlib.Core.Bool.{true}
 use mathlib.Core.List.{[], _∷_, _++_}
@@ -13,13 +13,6 @@ use Rattle.table.specs.Checks.{refused}
 use Rattle.cases.specs.Toy.{toy, request, block}
 use Rattle.cases.specs.Run.{good, judged, placed, tableAfter, answers}
 use Rattle.cases.specs.Blocks.{fresh, unlawful, first, fork, second, both, stranger, third, fourth, numbered, four, holding}
-
--- Document 01, "Small skies to try": those marked *.
-pub record StarredCases : Type 0 where
-  -- "Sequence 1 without references, or with both forks of sequence 0: 10"
-  pub withoutOneParent :
-      (answers toy fresh (good (block 0 1 [] []) ∷ []) ≡ refused 10 0 ∷ [])
-      × (answers toy fresh (good first ∷ good fork ∷ good (block 0 1 (toy first ∷ toy fork ∷ []) []) ∷ []) ≡ placed 0 ∷ placed 1 ∷ refused 10 0 ∷ [])
 
 -- "checks 2 to 11 in that order": a row for each two neighbours. Of the last two arrivals the first has both causes and gets the earlier
 -- number; in the second only the earlier cause is mended, and it gets the later number.

@@ -1,0 +1,93 @@
+-- The theorem's premises hold of two runs, by computing, and so does what it says of them. Assumes nothing.
+use mathlib.Core.Path.{_≡_, refl, sym, subst}
+use mathlib.Core.Bool.{Bool, true, false, not, _&&_}
+use mathlib.Core.List.{List}
+use native.Mathlib.Omega.{arith}
+use Rattle.base.specs.Bytes.{Bytes, sameBytes}
+use Rattle.base.specs.List.{someIn}
+use Rattle.base.proofs.Tests.{by-test, true-not-false}
+use Rattle.base.proofs.List.{some-at}
+use Rattle.base.proofs.Bytes.{same-equal, equal-same}
+use Rattle.setup.specs.Setup.{lawful}
+use Rattle.broadcast.specs.Record.{flatten}
+use Rattle.interpret.specs.Buffer.{numbersOf}
+use Rattle.agreement.specs.History.{meaning}
+use Rattle.agreement.specs.Ledger.{Ledger, empty}
+use Rattle.agreement.specs.Promises.{forked, NoCollision, Promised}
+use Rattle.agreement.proofs.Theorem.{promised}
+use Rattle.cases.specs.Toy.{toy}
+use Rattle.cases.specs.Run.{callsOf, answersOf}
+use Rattle.cases.specs.Blocks.{sites}
+use Rattle.cases.specs.Premises.{firstTurns, secondTurns, firstBuffer, secondBuffer, firstLedger, secondLedger, Met, PremiseCases}
+use Rattle.cases.proofs.Toy.{toyDigest}
+use Rattle.cases.proofs.Told.{told, ledgerFrom, whole, answers-told, ledger-told}
+use Rattle.cases.proofs.Opened.{openedLedger}
+
+-- ---- a test of all pairs shows that no two different blocks share a digest
+
+unfoldable collision : List Bytes → Bool
+collision blocks = someIn (λ a. someIn (λ b. sameBytes (toy a) (toy b) && not (sameBytes a b)) blocks) blocks
+
+no-collision : (blocks : List Bytes) → collision blocks ≡ false → NoCollision toy blocks
+unfolding collision
+no-collision blocks n a b m k e = by-test (sameBytes a b) (λ y. same-equal a b y)
+    (λ z. true-not-false (some-at _ blocks a m (some-at _ blocks b k (rw (equal-same (toy a) (toy b) e, z)))) n)
+
+-- ---- the two ledgers
+
+met : Met (ledgerFrom firstTurns) (ledgerFrom secondTurns)
+unfolding openedLedger collision someIn forked meaning numbersOf flatten
+met =
+    record {
+      noCollision = no-collision _ refl;
+      fewForked = omega arith;
+      mostForked = refl;
+      forkedInBoth = refl;
+      forkedInFirst = refl;
+      firstDelivers = record { place = 7; isInterpreted = record { below = omega arith; mark = refl }; notZero = λ e. omega arith; entry = refl };
+      secondDelivers = record { place = 10; isInterpreted = record { below = omega arith; mark = refl }; notZero = λ e. omega arith; entry = refl };
+      firstInterpreted = record { below = omega arith; mark = refl };
+      secondInterpreted = record { below = omega arith; mark = refl };
+      sameBlock = refl;
+    }
+
+-- each call gets its answer where the earlier ones do
+first-told : told (sites 4) empty (callsOf firstTurns) (answersOf firstTurns) ≡ answersOf firstTurns
+unfolding openedLedger
+first-told = refl
+
+second-told : told (sites 4) empty (callsOf secondTurns) (answersOf secondTurns) ≡ answersOf secondTurns
+unfolding openedLedger
+second-told = refl
+
+lawful-setup : lawful (sites 4) ≡ true
+unfolding openedLedger
+lawful-setup = refl
+
+first-is : firstLedger ≡ ledgerFrom firstTurns
+unfolding ledgerFrom
+first-is = ledger-told (sites 4) lawful-setup firstBuffer (whole 0) (callsOf firstTurns) (answersOf firstTurns) first-told
+
+second-is : secondLedger ≡ ledgerFrom secondTurns
+unfolding ledgerFrom
+second-is = ledger-told (sites 4) lawful-setup secondBuffer (whole 7) (callsOf secondTurns) (answersOf secondTurns) second-told
+
+met-by-both : Met firstLedger secondLedger
+met-by-both =
+    subst (λ (l : Ledger). Met l secondLedger) (sym first-is) (subst (λ (l : Ledger). Met (ledgerFrom firstTurns) l) (sym second-is) met)
+
+-- ---- the theorem
+
+theorem : Promised toy (sites 4) firstBuffer secondBuffer (callsOf firstTurns) (callsOf secondTurns)
+theorem = promised toy (toyDigest .size) (sites 4) lawful-setup firstBuffer secondBuffer (callsOf firstTurns) (callsOf secondTurns)
+
+pub premises : PremiseCases
+premises =
+    record {
+      firstAnswers = answers-told (sites 4) lawful-setup firstBuffer (whole 0) (callsOf firstTurns) (answersOf firstTurns) first-told;
+      secondAnswers = answers-told (sites 4) lawful-setup secondBuffer (whole 7) (callsOf secondTurns) (answersOf secondTurns) second-told;
+      lawfulSetup = lawful-setup;
+      met = met-by-both;
+      oneNumber = λ v w. theorem .agreement (met-by-both .noCollision) (met-by-both .fewForked) 0 v w (omega arith);
+      samePart = theorem .same (met-by-both .noCollision) 5 8 (met-by-both .firstInterpreted) (met-by-both .secondInterpreted) (met-by-both .sameBlock);
+    }

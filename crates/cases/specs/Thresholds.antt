@@ -1,0 +1,132 @@
+-- Document 01, "One slot's process": READY at exactly 2f + 1 ECHOs or f + 1 READYs and delivery at exactly 2f + 1 READYs, and none of them
+-- at one less, for n 4 (f 1) and n 7 (f 2). One site hears of the others' blocks, one after the other. The digest is the toy one.
+use mathlib.Core.Path.{_≡_}
+use mathlib.Core.List.{List, [], _∷_, map}
+use Prim.Native.Nat.{ℕ}
+use Rattle.base.specs.Bytes.{Bytes}
+use Rattle.setup.specs.Setup.{faults, echoQuorum, readyAmplification, readyQuorum}
+use Rattle.broadcast.specs.Record.{none}
+use Rattle.cases.specs.Toy.{toy, block}
+use Rattle.cases.specs.Run.{Campaign, _making_, sends, echoes, readies, delivers, readiesAndDelivers}
+use Rattle.cases.specs.Blocks.{sites, first, threeSites, echoing, readying}
+use Rattle.cases.specs.Starred.{twoEchoes}
+
+-- n 1, 4, 7, 10, 13 and 16
+abbrev pub lawfulCounts : List ℕ
+lawfulCounts = 1 ∷ 4 ∷ 7 ∷ 10 ∷ 13 ∷ 16 ∷ []
+
+-- in a setup of seven, ECHO and READY are sent by sites 1 to 5
+abbrev pub fiveSites : List ℕ
+fiveSites = 1 ∷ 2 ∷ 3 ∷ 4 ∷ 5 ∷ []
+
+-- ---- n 4: site 3 hears
+
+unfoldable pub oneReady : Bytes
+oneReady = block 3 0 (toy (readying threeSites 0) ∷ []) []
+
+unfoldable pub oneMoreReady : Bytes
+oneMoreReady = block 3 1 (toy oneReady ∷ toy (readying threeSites 1) ∷ []) []
+
+unfoldable pub threeReadies : Bytes
+threeReadies = block 3 0 (map (λ p. toy (readying threeSites p)) threeSites) []
+
+-- ---- n 7: site 6 hears
+
+unfoldable pub fourOfFiveEchoes : Bytes
+fourOfFiveEchoes = block 6 0 (map (λ p. toy (echoing p)) (1 ∷ 2 ∷ 3 ∷ 4 ∷ [])) []
+
+unfoldable pub twoReadiesOfFive : Bytes
+twoReadiesOfFive = block 6 0 (map (λ p. toy (readying fiveSites p)) (1 ∷ 2 ∷ [])) []
+
+unfoldable pub thirdReadyOfFive : Bytes
+thirdReadyOfFive = block 6 1 (toy twoReadiesOfFive ∷ toy (readying fiveSites 3) ∷ []) []
+
+unfoldable pub ownReady : Bytes
+ownReady = block 6 2 (toy thirdReadyOfFive ∷ []) []
+
+unfoldable pub fiveReadies : Bytes
+fiveReadies = block 6 0 (map (λ p. toy (readying fiveSites p)) fiveSites) []
+
+pub record ThresholdCases : Type 0 where
+  -- f, 2f + 1 ECHOs, f + 1 READYs and 2f + 1 READYs for each n
+  pub faultsOf : map faults lawfulCounts ≡ 0 ∷ 1 ∷ 2 ∷ 3 ∷ 4 ∷ 5 ∷ []
+  pub echoQuorums : map echoQuorum lawfulCounts ≡ 1 ∷ 3 ∷ 5 ∷ 7 ∷ 9 ∷ 11 ∷ []
+  pub readyAmplifications : map readyAmplification lawfulCounts ≡ 1 ∷ 2 ∷ 3 ∷ 4 ∷ 5 ∷ 6 ∷ []
+  pub readyQuorums : map readyQuorum lawfulCounts ≡ 1 ∷ 3 ∷ 5 ∷ 7 ∷ 9 ∷ 11 ∷ []
+  -- n 4, ECHO from two sites: nothing; from a third: READY
+  pub echoesOfFour : Campaign (sites 4) 0
+      (first making sends 42
+      ∷ echoing 0 making echoes 42
+      ∷ echoing 1 making echoes 42
+      ∷ echoing 2 making echoes 42
+      ∷ twoEchoes making none
+      ∷ block 3 1 (toy twoEchoes ∷ toy (echoing 2) ∷ []) [] making readies 42
+      ∷ [])
+  -- n 4, READY from one site: nothing; from two: READY, no delivery; a block later its own is the third: delivery
+  pub readiesOfFour : Campaign (sites 4) 0
+      (first making sends 42
+      ∷ echoing 0 making echoes 42
+      ∷ echoing 1 making echoes 42
+      ∷ echoing 2 making echoes 42
+      ∷ readying threeSites 0 making readies 42
+      ∷ readying threeSites 1 making readies 42
+      ∷ oneReady making none
+      ∷ oneMoreReady making readies 42
+      ∷ block 3 2 (toy oneMoreReady ∷ []) [] making delivers 42
+      ∷ [])
+  -- n 4, READY from three sites at once: READY and delivery; a block later its own is the fourth: nothing more
+  pub readiesOfFourAtOnce : Campaign (sites 4) 0
+      (first making sends 42
+      ∷ echoing 0 making echoes 42
+      ∷ echoing 1 making echoes 42
+      ∷ echoing 2 making echoes 42
+      ∷ readying threeSites 0 making readies 42
+      ∷ readying threeSites 1 making readies 42
+      ∷ readying threeSites 2 making readies 42
+      ∷ threeReadies making readiesAndDelivers 42
+      ∷ block 3 1 (toy threeReadies ∷ []) [] making none
+      ∷ [])
+  -- n 7, ECHO from four sites: nothing; from a fifth: READY
+  pub echoesOfSeven : Campaign (sites 7) 0
+      (first making sends 42
+      ∷ echoing 1 making echoes 42
+      ∷ echoing 2 making echoes 42
+      ∷ echoing 3 making echoes 42
+      ∷ echoing 4 making echoes 42
+      ∷ echoing 5 making echoes 42
+      ∷ fourOfFiveEchoes making none
+      ∷ block 6 1 (toy fourOfFiveEchoes ∷ toy (echoing 5) ∷ []) [] making readies 42
+      ∷ [])
+  -- n 7, READY from two sites: nothing; from three: READY; a block later its own is the fourth: no delivery; from a fifth: delivery
+  pub readiesOfSeven : Campaign (sites 7) 0
+      (first making sends 42
+      ∷ echoing 1 making echoes 42
+      ∷ echoing 2 making echoes 42
+      ∷ echoing 3 making echoes 42
+      ∷ echoing 4 making echoes 42
+      ∷ echoing 5 making echoes 42
+      ∷ readying fiveSites 1 making readies 42
+      ∷ readying fiveSites 2 making readies 42
+      ∷ readying fiveSites 3 making readies 42
+      ∷ readying fiveSites 4 making readies 42
+      ∷ twoReadiesOfFive making none
+      ∷ thirdReadyOfFive making readies 42
+      ∷ ownReady making none
+      ∷ block 6 3 (toy ownReady ∷ toy (readying fiveSites 4) ∷ []) [] making delivers 42
+      ∷ [])
+  -- n 7, READY from five sites at once: READY and delivery; a block later its own is the sixth: nothing more
+  pub readiesOfSevenAtOnce : Campaign (sites 7) 0
+      (first making sends 42
+      ∷ echoing 1 making echoes 42
+      ∷ echoing 2 making echoes 42
+      ∷ echoing 3 making echoes 42
+      ∷ echoing 4 making echoes 42
+      ∷ echoing 5 making echoes 42
+      ∷ readying fiveSites 1 making readies 42
+      ∷ readying fiveSites 2 making readies 42
+      ∷ readying fiveSites 3 making readies 42
+      ∷ readying fiveSites 4 making readies 42
+      ∷ readying fiveSites 5 making readies 42
+      ∷ fiveReadies making readiesAndDelivers 42
+      ∷ block 6 1 (toy fiveReadies ∷ []) [] making none
+      ∷ [])
