@@ -2,15 +2,16 @@
 
 use crate::block;
 use crate::checks::Check;
-use crate::sha256::sha256;
+use crate::sha256::Digest;
 use crate::sizes::PLACES;
 use crate::table::{Row, Table};
 
-/// What admission is asked, with the answer of form.
+/// What admission is asked, with the answer of form and the block's digest.
 pub struct Arrival {
     pub table: Table,
     pub in_form: bool,
     pub block: Vec<u8>,
+    pub digest: Digest,
     pub verdict: u8,
 }
 
@@ -35,7 +36,7 @@ fn site_unknown(arrival: &Arrival) -> Option<usize> {
 
 /// "digest held", with its place.
 fn digest_held(arrival: &Arrival) -> Option<usize> {
-    arrival.table.place_of(&sha256(&arrival.block))
+    arrival.table.place_of(&arrival.digest)
 }
 
 /// "reference not held", with the index of the first such.
@@ -59,7 +60,7 @@ fn places_referred_to(arrival: &Arrival) -> u64 {
 /// What the table holds of an admitted block, "uninterpreted".
 pub fn row(arrival: &Arrival) -> Row {
     Row {
-        digest: sha256(&arrival.block),
+        digest: arrival.digest,
         site: block::site(&arrival.block),
         sequence: block::sequence(&arrival.block),
         references: places_referred_to(arrival),

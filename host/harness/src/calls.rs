@@ -8,6 +8,9 @@ pub trait Calls {
     fn fresh(&self, sites: u8, owners: &mut [u8], table: &mut [u8]) -> Answer;
     fn in_form(&self, table: &mut [u8]) -> bool;
     fn admit(&self, table: &mut [u8], block: &mut [u8], verdict: u8) -> Answer;
+    fn interpret(&self, table: &mut [u8], place: usize, records: &mut [u16]) -> Answer;
+    /// How many calls of the list ran.
+    fn replay(&self, table: &mut [u8], records: &mut [u16], calls: &mut [u8], answers: &mut [u64]) -> usize;
     fn read_block(&self, block: &mut [u8]) -> Reading;
     fn digest(&self, message: &mut [u8], output: &mut [u8]) -> Answer;
 }

@@ -1,31 +1,37 @@
-//! One call, made by both sides on their own copies: answers and every byte that was lent must be equal afterwards.
+//! One call, made by both sides on their own copies: answers and everything that was lent must be equal afterwards.
 
 use std::fmt::{self, Debug, Display, Formatter};
 
 use crate::answer::Answer;
 use crate::calls::Calls;
 use crate::counts::Counts;
+use crate::lent::{first_other, hex, Lent, Sides};
 use crate::model::Model;
+use crate::record::record_at;
+use crate::replay;
+use crate::sizes::SLOTS;
+use crate::table::{places, Table};
 
 /// Something that the two sides have different, with what they were given.
 pub struct Difference {
-    call: &'static str,
-    what: String,
-    inputs: Vec<(&'static str, Vec<u8>)>,
+    pub call: &'static str,
+    pub what: String,
+    pub inputs: Vec<(String, String)>,
 }
 
 impl Display for Difference {
     fn fmt(&self, to: &mut Formatter) -> fmt::Result {
         writeln!(to, "{}: {}", self.call, self.what)?;
-        for (name, bytes) in &self.inputs {
-            write!(to, "  {name} ({} bytes): ", bytes.len())?;
-            for byte in bytes {
-                write!(to, "{byte:02x}")?;
-            }
-            writeln!(to)?;
+        for (name, value) in &self.inputs {
+            writeln!(to, "  {name}: {value}")?;
         }
         Ok(())
     }
+}
+
+/// Bytes by their name, as a difference shows them.
+pub fn shown(name: &str, bytes: &[u8]) -> (String, String) {
+    (format!("{name} ({} bytes)", bytes.len()), hex(bytes))
 }
 
 /// The library, or what stands in its place, beside the model.
@@ -35,9 +41,18 @@ pub struct Compare<'a> {
     pub counts: &'a mut Counts,
 }
 
+/// A list of calls that were made one by one: what there was before, what they answered, and what they left.
+pub struct Made<'a> {
+    pub before: &'a Lent,
+    pub calls: &'a [u8],
+    pub answers: &'a [Answer],
+    pub after: &'a Lent,
+}
+
 impl Compare<'_> {
-    /// Makes a call on both sides. A number counts as a buffer of one byte. Gives back the model's answer and buffers.
-    fn both<T: Debug + PartialEq, const N: usize>(
+    /// Makes a call on copies of the inputs. A number counts as a buffer of one byte. Gives back the model's answer and
+    /// buffers.
+    fn on_copies<T: Debug + PartialEq, const N: usize>(
         &mut self,
         call: &'static str,
         inputs: [(&'static str, &[u8]); N],
@@ -47,60 +62,135 @@ impl Compare<'_> {
         let mut expected = tested.clone();
         let answer = make(self.tested, &mut tested);
         let expected_answer = make(self.model, &mut expected);
-        let difference = if answer != expected_answer {
-            Some(format!("answered {answer:?}, the model {expected_answer:?}"))
-        } else {
-            (0..N).find_map(|i| first_other_byte(inputs[i].0, &tested[i], &expected[i]))
-        };
+        let difference = other_answer(&answer, &expected_answer)
+            .or_else(|| (0..N).find_map(|i| first_other(inputs[i].0, &tested[i], &expected[i])));
         match difference {
             None => Ok((expected_answer, expected)),
             Some(what) => {
-                let inputs = inputs.map(|(name, bytes)| (name, bytes.to_vec())).to_vec();
+                let inputs = inputs.iter().map(|(name, bytes)| shown(name, bytes)).collect();
                 Err(Difference { call, what, inputs })
             }
+        }
+    }
+
+    /// Makes a call on the sides' own buffers. What differs, if something does.
+    fn on_sides<T: Debug + PartialEq>(
+        &mut self,
+        sides: &mut Sides,
+        make: impl Fn(&dyn Calls, &mut Lent) -> T,
+    ) -> Result<T, String> {
+        let answer = make(self.tested, &mut sides.tested);
+        let expected = make(self.model, &mut sides.expected);
+        match other_answer(&answer, &expected).or_else(|| sides.tested.first_other(&sides.expected)) {
+            None => Ok(expected),
+            Some(what) => Err(what),
         }
     }
 
     pub fn fresh(&mut self, sites: u8, owners: &[u8], table: &mut Vec<u8>) -> Result<Answer, Difference> {
         let inputs = [("sites", &[sites][..]), ("owners", owners), ("table", table)];
         let (answer, [_, _, after]) =
-            self.both("gt_fresh", inputs, |calls, [sites, owners, table]| calls.fresh(sites[0], owners, table))?;
+            self.on_copies("gt_fresh", inputs, |calls, [sites, owners, table]| calls.fresh(sites[0], owners, table))?;
         self.counts.fresh += 1;
         *table = after;
         Ok(answer)
     }
 
     pub fn in_form(&mut self, table: &[u8]) -> Result<bool, Difference> {
-        let (answer, _) = self.both("gt_in_form", [("table", table)], |calls, [table]| calls.in_form(table))?;
+        let (answer, _) = self.on_copies("gt_in_form", [("table", table)], |calls, [table]| calls.in_form(table))?;
         self.counts.form(answer);
         Ok(answer)
     }
 
-    pub fn admit(&mut self, table: &mut Vec<u8>, block: &[u8], verdict: u8) -> Result<Answer, Difference> {
-        let inputs = [("table", &table[..]), ("block", block), ("verdict", &[verdict])];
-        let (answer, [after, _, _]) =
-            self.both("gt_admit", inputs, |calls, [table, block, verdict]| calls.admit(table, block, verdict[0]))?;
+    pub fn admit(&mut self, sides: &mut Sides, block: &[u8], verdict: u8) -> Result<Answer, Difference> {
+        let before = sides.expected.table.clone();
+        sides.each(|lent| lent.block = block.to_vec());
+        let answer = self.on_sides(sides, |calls, lent| calls.admit(&mut lent.table, &mut lent.block, verdict));
+        let answer = answer.map_err(|what| {
+            let inputs = vec![shown("table", &before), shown("block", block), shown("verdict", &[verdict])];
+            Difference { call: "gt_admit", what, inputs }
+        })?;
         self.counts.admission(answer);
-        *table = after;
         Ok(answer)
     }
 
+    pub fn interpret(&mut self, sides: &mut Sides, place: usize) -> Result<Answer, Difference> {
+        let before = sides.expected.table.clone();
+        let answer = self.on_sides(sides, |calls, lent| calls.interpret(&mut lent.table, place, &mut lent.records));
+        let answer = answer.map_err(|what| {
+            let mut inputs = vec![shown("table", &before), ("place".to_string(), place.to_string())];
+            inputs.extend(records_read(&Table::from_bytes(&before), place, &sides.expected.records));
+            Difference { call: "gt_interpret", what, inputs }
+        })?;
+        self.counts.interpretation(answer);
+        Ok(answer)
+    }
+
+    /// Replays a list. How many calls ran.
+    pub fn replay(&mut self, sides: &mut Sides, calls: &[u8], answers: &[u64]) -> Result<usize, Difference> {
+        let before = sides.expected.table.clone();
+        sides.each(|lent| {
+            lent.calls = calls.to_vec();
+            lent.answers = answers.to_vec();
+        });
+        let ran = self.on_sides(sides, |calls, lent| {
+            calls.replay(&mut lent.table, &mut lent.records, &mut lent.calls, &mut lent.answers)
+        });
+        let ran = ran.map_err(|what| {
+            let answers = ("answers".to_string(), hex(answers));
+            let inputs = vec![shown("table", &before), shown("calls", calls), answers];
+            Difference { call: "gt_replay", what, inputs }
+        })?;
+        self.counts.replay(ran);
+        Ok(ran)
+    }
+
+    /// Replays calls that were made one by one, which comes to the same. The model isn't asked again.
+    pub fn replay_made(&mut self, made: &Made, answers: &[u64]) -> Result<(), Difference> {
+        let mut lent = Lent { calls: made.calls.to_vec(), answers: answers.to_vec(), ..made.before.clone() };
+        let mut expected = Lent { calls: made.calls.to_vec(), answers: answers.to_vec(), ..made.after.clone() };
+        for (index, answer) in made.answers.iter().enumerate() {
+            replay::note(&mut expected.answers, index, *answer);
+        }
+        let ran = self.tested.replay(&mut lent.table, &mut lent.records, &mut lent.calls, &mut lent.answers);
+        let other = other_answer(&ran, &made.answers.len()).or_else(|| lent.first_other(&expected));
+        if let Some(what) = other {
+            let inputs = vec![shown("table", &made.before.table), shown("calls", made.calls)];
+            return Err(Difference { call: "gt_replay after single calls", what, inputs });
+        }
+        self.counts.replay(ran);
+        Ok(())
+    }
+
     pub fn read_block(&mut self, block: &[u8]) -> Result<(), Difference> {
-        self.both("gt_read_block", [("block", block)], |calls, [block]| calls.read_block(block))?;
+        self.on_copies("gt_read_block", [("block", block)], |calls, [block]| calls.read_block(block))?;
         self.counts.reading += 1;
         Ok(())
     }
 
     pub fn digest(&mut self, message: &[u8], output: &[u8]) -> Result<(), Difference> {
         let inputs = [("message", message), ("output", output)];
-        self.both("gt_digest", inputs, |calls, [message, output]| calls.digest(message, output))?;
+        self.on_copies("gt_digest", inputs, |calls, [message, output]| calls.digest(message, output))?;
         self.counts.digest += 1;
         Ok(())
     }
 }
 
-fn first_other_byte(name: &str, tested: &[u8], expected: &[u8]) -> Option<String> {
-    let at = (0..expected.len()).find(|&at| tested[at] != expected[at])?;
-    let (left, wanted) = (tested[at], expected[at]);
-    Some(format!("left {left:02x} at byte {at} of {name}, the model {wanted:02x}"))
+fn other_answer<T: Debug + PartialEq>(tested: &T, expected: &T) -> Option<String> {
+    (tested != expected).then(|| format!("answered {tested:?}, the model {expected:?}"))
+}
+
+/// The records of the place's direct references that hold something. The whole buffer would be too long to show.
+fn records_read(table: &Table, place: usize, records: &[u16]) -> Vec<(String, String)> {
+    let references = table.rows.get(place).map_or(0, |row| row.references);
+    let mut shown = Vec::new();
+    for reference in places(references) {
+        for slot in 0..SLOTS {
+            let record = record_at(records, reference, slot);
+            if record.iter().any(|&number| number != 0) {
+                shown.push((format!("record of place {reference}, slot {slot}"), hex(&record)));
+            }
+        }
+    }
+    shown
 }

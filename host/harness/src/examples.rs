@@ -1,6 +1,9 @@
 //! Document 01's own examples, as far as these calls go, and published vectors of the digest. The self-test asks them
 //! of the model, which nothing else there would contradict.
 
+mod lists;
+mod skies;
+
 use crate::block::Request;
 use crate::calls::Calls;
 use crate::draft::Draft;
@@ -9,7 +12,7 @@ use crate::sizes::{DIGEST_BYTES, MAX_REFERENCES, MAX_REQUESTS, PLACES, SLOTS, TA
 
 /// The names of the examples that come out otherwise.
 pub fn failed(calls: &dyn Calls) -> Vec<&'static str> {
-    let examples = [
+    let mut examples = vec![
         ("digest of no bytes", digest(calls, b"") == NO_BYTES_DIGEST),
         ("digest of abc", digest(calls, b"abc") == ABC_DIGEST),
         ("digest of 56 bytes", digest(calls, FIFTY_SIX_BYTES) == FIFTY_SIX_BYTES_DIGEST),
@@ -28,6 +31,8 @@ pub fn failed(calls: &dyn Calls) -> Vec<&'static str> {
         ),
         ("65th that repeats a held one 8", admitted(calls, &full_and_again(5)).last() == Some(&(8, 5))),
     ];
+    examples.extend(skies::all(calls));
+    examples.extend(lists::all(calls));
     examples.into_iter().filter(|(_, holds)| !holds).map(|(name, _)| name).collect()
 }
 

@@ -8,6 +8,23 @@ extern "C" {
     fn gt_fresh(sites: u8, owners: *const u8, owners_length: usize, table: *mut u8, table_length: usize) -> Answer;
     fn gt_in_form(table: *const u8, table_length: usize) -> bool;
     fn gt_admit(table: *mut u8, table_length: usize, block: *const u8, block_length: usize, verdict: u8) -> Answer;
+    fn gt_interpret(
+        table: *mut u8,
+        table_length: usize,
+        place: usize,
+        records: *mut u16,
+        records_length: usize,
+    ) -> Answer;
+    fn gt_replay(
+        table: *mut u8,
+        table_length: usize,
+        records: *mut u16,
+        records_length: usize,
+        calls: *const u8,
+        calls_length: usize,
+        answers: *mut u64,
+        answers_length: usize,
+    ) -> usize;
 }
 
 // libc_interface.a
@@ -18,7 +35,7 @@ extern "C" {
 
 pub struct Library;
 
-// What the functions ask of their caller holds for each call below: a pointer has as many bytes behind it as the
+// What the functions ask of their caller holds for each call below: a pointer has as many items behind it as the
 // length beside it says, and no two buffers overlap, since each comes from a slice that is borrowed alone.
 // The pointers are taken as writable ones, so that the compiler may not take a buffer as unchanged by the call.
 impl Calls for Library {
@@ -32,6 +49,25 @@ impl Calls for Library {
 
     fn admit(&self, table: &mut [u8], block: &mut [u8], verdict: u8) -> Answer {
         unsafe { gt_admit(table.as_mut_ptr(), table.len(), block.as_mut_ptr(), block.len(), verdict) }
+    }
+
+    fn interpret(&self, table: &mut [u8], place: usize, records: &mut [u16]) -> Answer {
+        unsafe { gt_interpret(table.as_mut_ptr(), table.len(), place, records.as_mut_ptr(), records.len()) }
+    }
+
+    fn replay(&self, table: &mut [u8], records: &mut [u16], calls: &mut [u8], answers: &mut [u64]) -> usize {
+        unsafe {
+            gt_replay(
+                table.as_mut_ptr(),
+                table.len(),
+                records.as_mut_ptr(),
+                records.len(),
+                calls.as_mut_ptr(),
+                calls.len(),
+                answers.as_mut_ptr(),
+                answers.len(),
+            )
+        }
     }
 
     fn read_block(&self, block: &mut [u8]) -> Reading {

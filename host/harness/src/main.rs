@@ -1,8 +1,9 @@
 //! Compares the library with an implementation of document 01 of its own, on seeded random and damaged input.
 //!
-//!     harness [--seed S] [--cases N] [--only K]    compares the library with the model
-//!     harness --self-test [--seed S] [--cases N]   shows that the comparison finds each of a list of mistakes
+//!     harness [--seed S] [--cases N] [--only K] [--kind NAME]   compares the library with the model
+//!     harness --self-test [--seed S] [--cases N]                shows that the comparison finds each of a list of mistakes
 //!
+//! With a kind, all cases are of that kind: as in `--kind campaigns --cases 100000`.
 //! Status 0: no difference. 1: a difference, or a mistake that wasn't found. 2: bad arguments.
 
 mod admission;
@@ -10,31 +11,43 @@ mod answer;
 mod arrivals;
 mod block;
 mod calls;
+mod campaign;
 mod cases;
 mod checks;
 mod compare;
+mod contents;
 mod counts;
 mod damage;
 mod draft;
+mod ends;
 mod examples;
 mod form;
+mod interpretation;
+mod keeper;
+mod laws;
+mod lent;
 mod library;
 mod model;
 mod mutants;
 mod options;
+mod process;
 mod random;
+mod record;
+mod replay;
 mod self_test;
 mod setup;
 mod sha256;
 mod sizes;
 mod table;
 mod tables;
+mod targets;
 
 use std::process::ExitCode;
 
 use crate::cases::first_difference;
 use crate::counts::Counts;
 use crate::library::Library;
+use crate::model::Model;
 use crate::options::Options;
 
 /// A broken library would differ in most cases; a few tell enough.
@@ -47,7 +60,7 @@ fn main() -> ExitCode {
         Ok(options) => options,
         Err(message) => {
             eprintln!("harness: {message}");
-            eprintln!("usage: harness [--seed S] [--cases N] [--only K] [--self-test]");
+            eprintln!("usage: harness [--seed S] [--cases N] [--only K] [--kind NAME] [--self-test]");
             return ExitCode::from(BAD_ARGUMENTS);
         }
     };
@@ -60,14 +73,14 @@ fn main() -> ExitCode {
 }
 
 fn compare_library(options: &Options) -> bool {
-    let seed = options.seed;
+    let model = Model::document();
     let mut cases = options.cases.clone();
     let mut counts = Counts::default();
     let mut differences = 0;
     while differences < MOST_DIFFERENCES {
-        let Some((case, difference)) = first_difference(&Library, seed, &mut cases, &mut counts) else { break };
+        let Some(found) = first_difference(&Library, &model, &mut cases, &mut counts) else { break };
         differences += 1;
-        println!("seed {seed}, case {case}: {difference}");
+        println!("seed {}, case {}, kind {}: {}", cases.seed, found.case, found.kind, found.difference);
     }
     print!("{counts}");
     println!("{} cases, {differences} differences", counts.cases);

@@ -6,9 +6,11 @@ use crate::block;
 use crate::calls::Calls;
 use crate::checks::{first_refusal, Check};
 use crate::form::{self, Condition};
+use crate::interpretation::{Asked, Interpretation};
+use crate::replay::{Call, Replay};
 use crate::setup;
 use crate::sha256::{sha256, Digest};
-use crate::sizes::{DIGEST_BYTES, SLOTS, TABLE_BYTES};
+use crate::sizes::{DIGEST_BYTES, PLACES, SLOTS, TABLE_BYTES};
 use crate::table::{Row, Table};
 
 /// What a fresh table is asked for with.
@@ -25,6 +27,8 @@ pub struct Model {
     pub admission: Vec<Check<Arrival>>,
     pub row: fn(&Arrival) -> Row,
     pub put: fn(&mut Table, Row),
+    pub interpretation: Interpretation,
+    pub replay: Replay,
     pub reading: Vec<Check<[u8]>>,
     pub fields: fn(&[u8]) -> Fields,
     pub digest: fn(&[u8]) -> Digest,
@@ -41,6 +45,8 @@ impl Model {
             admission: admission::CHECKS.to_vec(),
             row: admission::row,
             put: admission::put,
+            interpretation: Interpretation::document(),
+            replay: Replay::document(),
             // "Reading checks 3, 6 and 7".
             reading: vec![
                 Check { number: 3, finds: block::misshapen },
@@ -69,15 +75,55 @@ impl Calls for Model {
     }
 
     fn admit(&self, table: &mut [u8], block: &mut [u8], verdict: u8) -> Answer {
-        let mut held = Table::from_bytes(table);
+        let held = Table::from_bytes(table);
         let in_form = form::in_form(&self.form, &held);
-        let arrival = Arrival { table: held.clone(), in_form, block: block.to_vec(), verdict };
+        let arrival = Arrival { table: held, in_form, block: block.to_vec(), digest: sha256(block), verdict };
         if let Some(refusal) = first_refusal(&self.admission, &arrival) {
             return refusal;
         }
-        (self.put)(&mut held, (self.row)(&arrival));
+        let row = (self.row)(&arrival);
+        let mut held = arrival.table;
+        let place = held.count;
+        (self.put)(&mut held, row);
         held.write(table);
-        Answer::success(arrival.table.count)
+        Answer::success(place)
+    }
+
+    fn interpret(&self, table: &mut [u8], place: usize, records: &mut [u16]) -> Answer {
+        let held = Table::from_bytes(table);
+        let in_form = form::in_form(&self.form, &held);
+        let asked = Asked { table: held, in_form, place, numbers: records.len() };
+        if let Some(refusal) = first_refusal(&self.interpretation.checks, &asked) {
+            return refusal;
+        }
+        // Only a model without check 13 comes here with a place that no table has.
+        if place < PLACES {
+            let mut held = asked.table;
+            let part = self.interpretation.part(&held, place, records);
+            (self.interpretation.write)(records, place, &part);
+            (self.interpretation.mark)(&mut held, place);
+            held.write(table);
+        }
+        Answer::success(0)
+    }
+
+    /// As if the calls of the list had been made one after the other.
+    fn replay(&self, table: &mut [u8], records: &mut [u16], calls: &mut [u8], answers: &mut [u64]) -> usize {
+        let mut rest = &calls[..];
+        let mut ran = 0;
+        while let Some((call, after)) = (self.replay.first)(rest) {
+            let answer = match call {
+                Call::Admission { verdict, block } => self.admit(table, &mut block.to_vec(), verdict),
+                Call::Interpretation { place } => self.interpret(table, place, records),
+            };
+            (self.replay.note)(answers, ran, answer);
+            rest = after;
+            ran += 1;
+            if !(self.replay.goes_on)(ran, answer, answers.len()) {
+                break;
+            }
+        }
+        ran
     }
 
     fn read_block(&self, block: &mut [u8]) -> Reading {

@@ -6,13 +6,19 @@
 mod admission;
 mod form;
 mod fresh;
+mod interpretation;
+mod process;
 mod reading;
+mod replay;
 
 use crate::admission::Arrival;
 use crate::answer::{Answer, Reading};
 use crate::calls::Calls;
 use crate::checks::Check;
+use crate::interpretation::Asked;
+use crate::laws::{EQUAL_PARTS, ONE_NUMBER, REQUESTED};
 use crate::model::{Model, Wanted};
+use crate::process::Process;
 use crate::table::Table;
 
 pub struct Mutant {
@@ -21,6 +27,8 @@ pub struct Mutant {
     after_fresh: AfterCall,
     after_form: AfterForm,
     after_admission: AfterCall,
+    after_interpretation: AfterInterpretation,
+    after_replay: AfterReplay,
     after_reading: AfterReading,
     after_digest: AfterCall,
 }
@@ -28,22 +36,59 @@ pub struct Mutant {
 // Each is given the answer and the buffers in their order, and gives the answer that goes out.
 type AfterForm = Box<dyn Fn(bool, &mut [u8]) -> bool>;
 type AfterReading = Box<dyn Fn(Reading, &mut [u8]) -> Reading>;
+type AfterInterpretation = Box<dyn Fn(Answer, &mut [u8], usize, &mut [u16]) -> Answer>;
+type AfterReplay = Box<dyn Fn(usize, &mut [u8], &mut [u16], &mut [u8], &mut [u64]) -> usize>;
 type AfterCall = Box<dyn Fn(Answer, &mut [u8], &mut [u8]) -> Answer>;
 
 /// A mistake by its name.
 type Mistake = (&'static str, fn(&mut Mutant));
 
 pub fn all() -> Vec<Mutant> {
-    let listed = [form::MISTAKES, admission::MISTAKES, fresh::MISTAKES, reading::MISTAKES].concat();
-    let listed = listed.into_iter().map(|(name, make)| Mutant::with(name.to_string(), make));
+    let listed = mistakes().into_iter().map(|(name, make)| Mutant::with(name.to_string(), make));
     let mut mutants = form::conditions_left_out();
     mutants.extend(admission::checks_exchanged());
+    mutants.extend(interpretation::checks_exchanged());
     mutants.extend(reading::checks_exchanged());
     mutants.extend(listed);
     mutants
 }
 
+/// Mutants that break a law when they stand on both sides, where no call differs, each with the law.
+pub fn lawless() -> Vec<(Mutant, &'static str)> {
+    let names: [(&[&str], &str); 6] = [
+        (&[interpretation::ARRIVAL_ORDER], EQUAL_PARTS),
+        (&[interpretation::STATE_OF_HIGHEST], EQUAL_PARTS),
+        (&[interpretation::STATE_OF_OTHER_BRANCH], EQUAL_PARTS),
+        (&[process::DELIVERING_AT_SEND], ONE_NUMBER),
+        (&[process::ECHO_QUORUM_F_PLUS_1, process::DELIVERY_AT_F_PLUS_1], ONE_NUMBER),
+        (&[process::SEND_FROM_ANYONE, interpretation::REQUEST_OF_ANYONE], REQUESTED),
+    ];
+    names.into_iter().map(|(names, law)| (Mutant::of(names), law)).collect()
+}
+
+fn mistakes() -> Vec<Mistake> {
+    let tables = [form::MISTAKES, admission::MISTAKES, fresh::MISTAKES, reading::MISTAKES];
+    let records = [process::MISTAKES, interpretation::MISTAKES, replay::MISTAKES];
+    [tables.concat(), records.concat()].concat()
+}
+
 impl Mutant {
+    /// With all mistakes of these names.
+    fn of(names: &[&str]) -> Mutant {
+        let make = |mutant: &mut Mutant| {
+            for wanted in names {
+                let (_, mistake) = mistakes().into_iter().find(|(name, _)| name == wanted).expect("a mistake's name");
+                mistake(mutant);
+            }
+        };
+        Mutant::with(names.join("; "), make)
+    }
+
+    /// The rules that it follows.
+    pub fn model(&self) -> &Model {
+        &self.model
+    }
+
     fn with(name: String, make: impl FnOnce(&mut Mutant)) -> Mutant {
         let mut mutant = Mutant {
             name,
@@ -51,6 +96,8 @@ impl Mutant {
             after_fresh: Box::new(|answer, _, _| answer),
             after_form: Box::new(|answer, _| answer),
             after_admission: Box::new(|answer, _, _| answer),
+            after_interpretation: Box::new(|answer, _, _, _| answer),
+            after_replay: Box::new(|ran, _, _, _, _| ran),
             after_reading: Box::new(|reading, _| reading),
             after_digest: Box::new(|answer, _, _| answer),
         };
@@ -74,6 +121,16 @@ impl Mutant {
         exchange(&mut self.model.admission, number, finds);
     }
 
+    /// Exchanges a check of interpretation.
+    fn interpretation(&mut self, number: u8, finds: fn(&Asked) -> Option<usize>) {
+        exchange(&mut self.model.interpretation.checks, number, finds);
+    }
+
+    /// The rules of one slot's process.
+    fn process(&mut self) -> &mut Process {
+        &mut self.model.interpretation.process
+    }
+
     /// Exchanges a check of the reader.
     fn reading(&mut self, number: u8, finds: fn(&[u8]) -> Option<usize>) {
         exchange(&mut self.model.reading, number, finds);
@@ -89,6 +146,14 @@ impl Mutant {
 
     fn after_admission(&mut self, after: impl Fn(Answer, &mut [u8], &mut [u8]) -> Answer + 'static) {
         self.after_admission = Box::new(after);
+    }
+
+    fn after_interpretation(&mut self, after: impl Fn(Answer, &mut [u8], usize, &mut [u16]) -> Answer + 'static) {
+        self.after_interpretation = Box::new(after);
+    }
+
+    fn after_replay(&mut self, after: impl Fn(usize, &mut [u8], &mut [u16], &mut [u8], &mut [u64]) -> usize + 'static) {
+        self.after_replay = Box::new(after);
     }
 
     fn after_digest(&mut self, after: impl Fn(Answer, &mut [u8], &mut [u8]) -> Answer + 'static) {
@@ -128,6 +193,16 @@ impl Calls for Mutant {
     fn admit(&self, table: &mut [u8], block: &mut [u8], verdict: u8) -> Answer {
         let answer = self.model.admit(table, block, verdict);
         (self.after_admission)(answer, table, block)
+    }
+
+    fn interpret(&self, table: &mut [u8], place: usize, records: &mut [u16]) -> Answer {
+        let answer = self.model.interpret(table, place, records);
+        (self.after_interpretation)(answer, table, place, records)
+    }
+
+    fn replay(&self, table: &mut [u8], records: &mut [u16], calls: &mut [u8], answers: &mut [u64]) -> usize {
+        let ran = self.model.replay(table, records, calls, answers);
+        (self.after_replay)(ran, table, records, calls, answers)
     }
 
     fn read_block(&self, block: &mut [u8]) -> Reading {

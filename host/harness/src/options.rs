@@ -1,35 +1,36 @@
 //! The arguments.
 
-use std::ops::Range;
+use crate::cases::{Cases, Kind, KINDS};
 
 const DEFAULT_SEED: u64 = 1;
 const DEFAULT_CASES: u64 = 10_000;
 
 pub struct Options {
-    pub seed: u64,
-    pub cases: Range<u64>,
+    pub cases: Cases,
     pub self_test: bool,
 }
 
 impl Options {
     pub fn from_arguments(mut arguments: impl Iterator<Item = String>) -> Result<Options, String> {
-        let mut options = Options { seed: DEFAULT_SEED, cases: 0..DEFAULT_CASES, self_test: false };
+        let cases = Cases { seed: DEFAULT_SEED, numbers: 0..DEFAULT_CASES, kind: None };
+        let mut options = Options { cases, self_test: false };
         while let Some(argument) = arguments.next() {
             match argument.as_str() {
-                "--seed" => options.seed = number(&argument, arguments.next())?,
+                "--seed" => options.cases.seed = number(&argument, arguments.next())?,
                 "--cases" => {
                     let count = number(&argument, arguments.next())?;
                     // A run of no cases would pass and show nothing.
                     if count == 0 {
                         return Err("--cases: at least one".to_string());
                     }
-                    options.cases = 0..count;
+                    options.cases.numbers = 0..count;
                 }
                 "--only" => {
                     let case = number(&argument, arguments.next())?;
                     let next = case.checked_add(1).ok_or("--only: the number is too great")?;
-                    options.cases = case..next;
+                    options.cases.numbers = case..next;
                 }
+                "--kind" => options.cases.kind = Some(kind(arguments.next())?),
                 "--self-test" => options.self_test = true,
                 _ => return Err(format!("unknown argument {argument}")),
             }
@@ -41,4 +42,11 @@ impl Options {
 fn number(name: &str, text: Option<String>) -> Result<u64, String> {
     let text = text.ok_or(format!("{name} needs a number"))?;
     text.parse().map_err(|_| format!("{name}: {text} is no number"))
+}
+
+fn kind(name: Option<String>) -> Result<&'static Kind, String> {
+    let name = name.ok_or("--kind needs a name")?;
+    let names: Vec<&str> = KINDS.iter().map(|kind| kind.name).collect();
+    let kind = KINDS.iter().find(|kind| kind.name == name);
+    kind.ok_or(format!("--kind: {name} is none of {}", names.join(", ")))
 }

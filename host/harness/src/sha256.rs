@@ -53,11 +53,11 @@ fn small_sigma_1(x: u32) -> u32 {
 /// 5.1.1: a one bit, zeros, and the bit count in the last 64 bits.
 fn padded(message: &[u8]) -> Vec<u8> {
     let bits = (message.len() as u64).wrapping_mul(8);
-    let mut bytes = message.to_vec();
+    let whole = (message.len() + 1 + LENGTH_BYTES).next_multiple_of(BLOCK_BYTES);
+    let mut bytes = Vec::with_capacity(whole);
+    bytes.extend(message);
     bytes.push(0x80);
-    while bytes.len() % BLOCK_BYTES != BLOCK_BYTES - LENGTH_BYTES {
-        bytes.push(0);
-    }
+    bytes.resize(whole - LENGTH_BYTES, 0);
     bytes.extend(bits.to_be_bytes());
     bytes
 }

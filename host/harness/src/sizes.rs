@@ -2,6 +2,7 @@
 
 /// What n may be.
 pub const SITE_COUNTS: [u8; 6] = [1, 4, 7, 10, 13, 16];
+pub const MAX_SITES: usize = 16;
 pub const SLOTS: usize = 8;
 
 pub const DIGEST_BYTES: usize = 32;
@@ -16,7 +17,16 @@ pub const HEAD_BYTES: usize = 1 + SLOTS + 1;
 pub const ROW_BYTES: usize = DIGEST_BYTES + 1 + 2 + PLACES / 8 + 2 * SLOTS + 1;
 pub const TABLE_BYTES: usize = HEAD_BYTES + PLACES * ROW_BYTES;
 
+/// Numbers of a record: four sent so far, two heard from each site, four made in the block.
+pub const RECORD_NUMBERS: usize = 4 + 2 * MAX_SITES + 4;
+/// Numbers that belong to one place: a record for each slot.
+pub const PART_NUMBERS: usize = SLOTS * RECORD_NUMBERS;
+pub const BUFFER_NUMBERS: usize = PLACES * PART_NUMBERS;
+
 // The sums as the documents give them.
 const _: () = assert!(MAX_BLOCK_BYTES == 541);
 const _: () = assert!(ROW_BYTES == 60);
 const _: () = assert!(TABLE_BYTES == 3850);
+const _: () = assert!(RECORD_NUMBERS == 40);
+const _: () = assert!(PART_NUMBERS == 320);
+const _: () = assert!(BUFFER_NUMBERS == 20_480);

@@ -3,7 +3,7 @@
 //! Any bytes can be taken as a table; what a short buffer lacks reads as 0. Whether it is in form is said elsewhere.
 
 use crate::sha256::Digest;
-use crate::sizes::{PLACES, SLOTS, TABLE_BYTES};
+use crate::sizes::{DIGEST_BYTES, HEAD_BYTES, PLACES, ROW_BYTES, SLOTS, TABLE_BYTES};
 
 /// What is held for one place.
 #[derive(Clone, Copy, Debug, Default, PartialEq, Eq)]
@@ -76,72 +76,78 @@ impl Table {
     }
 
     pub fn from_bytes(bytes: &[u8]) -> Table {
-        let mut rest = Rest(bytes);
+        let mut whole = [0; TABLE_BYTES];
+        let length = bytes.len().min(TABLE_BYTES);
+        whole[..length].copy_from_slice(&bytes[..length]);
+        let (head, rows) = whole.split_at(HEAD_BYTES);
         Table {
             length: bytes.len(),
-            sites: rest.byte(),
-            owners: rest.take(),
-            count: rest.byte().into(),
-            rows: std::array::from_fn(|_| Row::taken(&mut rest)),
+            sites: head[0],
+            owners: part(head, 1),
+            count: head[1 + SLOTS].into(),
+            rows: std::array::from_fn(|place| Row::from_bytes(&part(rows, ROW_BYTES * place))),
         }
     }
 
     pub fn to_bytes(&self) -> Vec<u8> {
-        let mut bytes = vec![self.sites];
-        bytes.extend(self.owners);
-        bytes.push(self.count as u8);
-        for row in &self.rows {
-            bytes.extend(row.to_bytes());
+        let mut bytes = vec![0; TABLE_BYTES];
+        let (head, rows) = bytes.split_at_mut(HEAD_BYTES);
+        head[0] = self.sites;
+        head[1..=SLOTS].copy_from_slice(&self.owners);
+        head[1 + SLOTS] = self.count as u8;
+        for (bytes, row) in rows.chunks_exact_mut(ROW_BYTES).zip(&self.rows) {
+            // The bytes are zero already.
+            if *row != Row::default() {
+                bytes.copy_from_slice(&row.to_bytes());
+            }
         }
         bytes
     }
 
     /// Writes the table over the bytes of a buffer; the bytes after a table's stay.
     pub fn write(&self, buffer: &mut [u8]) {
-        for (byte, new) in buffer.iter_mut().zip(self.to_bytes()) {
-            *byte = new;
-        }
+        let bytes = self.to_bytes();
+        let length = bytes.len().min(buffer.len());
+        buffer[..length].copy_from_slice(&bytes[..length]);
     }
 }
+
+// Where a row's fields begin.
+const SITE: usize = DIGEST_BYTES;
+const SEQUENCE: usize = SITE + 1;
+const REFERENCES: usize = SEQUENCE + 2;
+const REQUESTS: usize = REFERENCES + PLACES / 8;
+const MARK: usize = REQUESTS + 2 * SLOTS;
+const _: () = assert!(MARK + 1 == ROW_BYTES);
 
 impl Row {
-    fn taken(rest: &mut Rest) -> Row {
+    fn from_bytes(bytes: &[u8; ROW_BYTES]) -> Row {
         Row {
-            digest: rest.take(),
-            site: rest.byte(),
-            sequence: u16::from_be_bytes(rest.take()),
+            digest: part(bytes, 0),
+            site: bytes[SITE],
+            sequence: u16::from_be_bytes(part(bytes, SEQUENCE)),
             // Low byte first, and in a byte the low bit first.
-            references: u64::from_le_bytes(rest.take()),
-            requests: std::array::from_fn(|_| u16::from_be_bytes(rest.take())),
-            mark: rest.byte(),
+            references: u64::from_le_bytes(part(bytes, REFERENCES)),
+            requests: std::array::from_fn(|slot| u16::from_be_bytes(part(bytes, REQUESTS + 2 * slot))),
+            mark: bytes[MARK],
         }
     }
 
-    fn to_bytes(self) -> Vec<u8> {
-        let mut bytes = self.digest.to_vec();
-        bytes.push(self.site);
-        bytes.extend(self.sequence.to_be_bytes());
-        bytes.extend(self.references.to_le_bytes());
-        bytes.extend(self.requests.iter().flat_map(|number| number.to_be_bytes()));
-        bytes.push(self.mark);
+    fn to_bytes(self) -> [u8; ROW_BYTES] {
+        let mut bytes = [0; ROW_BYTES];
+        bytes[..SITE].copy_from_slice(&self.digest);
+        bytes[SITE] = self.site;
+        bytes[SEQUENCE..REFERENCES].copy_from_slice(&self.sequence.to_be_bytes());
+        bytes[REFERENCES..REQUESTS].copy_from_slice(&self.references.to_le_bytes());
+        for (bytes, number) in bytes[REQUESTS..MARK].chunks_exact_mut(2).zip(self.requests) {
+            bytes.copy_from_slice(&number.to_be_bytes());
+        }
+        bytes[MARK] = self.mark;
         bytes
     }
 }
 
-/// Bytes still to be taken; past the end there are zeros.
-struct Rest<'a>(&'a [u8]);
-
-impl Rest<'_> {
-    fn take<const N: usize>(&mut self) -> [u8; N] {
-        let (taken, rest) = self.0.split_at(N.min(self.0.len()));
-        self.0 = rest;
-        let mut bytes = [0; N];
-        bytes[..taken.len()].copy_from_slice(taken);
-        bytes
-    }
-
-    fn byte(&mut self) -> u8 {
-        let [byte] = self.take();
-        byte
-    }
+/// N bytes, from one on.
+fn part<const N: usize>(bytes: &[u8], at: usize) -> [u8; N] {
+    bytes[at..at + N].try_into().expect("as many bytes")
 }

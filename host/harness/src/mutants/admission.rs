@@ -86,15 +86,15 @@ pub const MISTAKES: &[Mistake] = &[
     }),
     ("admission: 8 doesn't look at the last place", |m| {
         m.admission(8, |asked| {
-            let place = asked.table.place_of(&sha256(&asked.block))?;
+            let place = asked.table.place_of(&asked.digest)?;
             (place + 1 < asked.table.count).then_some(place)
         })
     }),
     ("admission: 8 doesn't look at place 0", |m| {
-        m.admission(8, |asked| asked.table.place_of(&sha256(&asked.block)).filter(|&place| place > 0))
+        m.admission(8, |asked| asked.table.place_of(&asked.digest).filter(|&place| place > 0))
     }),
     ("admission: 8 leaves out the digest's last byte", |m| {
-        m.admission(8, |asked| place_of_part(&asked.table, &sha256(&asked.block)))
+        m.admission(8, |asked| place_of_part(&asked.table, &asked.digest))
     }),
     ("admission: 9 leaves out the digest's last byte", |m| {
         m.admission(9, |asked| {

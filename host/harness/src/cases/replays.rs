@@ -1,0 +1,119 @@
+//! Replays of short lists, whole and damaged, on any tables and records.
+
+use crate::arrivals::{any, good};
+use crate::compare::{Compare, Difference};
+use crate::contents;
+use crate::damage::damaged;
+use crate::lent::{Lent, Sides};
+use crate::random::Random;
+use crate::replay::{admission, interpretation, BEFORE_BLOCK, WIDE_BYTES};
+use crate::table::Table;
+use crate::tables;
+use crate::targets::some_target;
+
+const MOST_CALLS: usize = 5;
+const DAMAGES_A_LIST: usize = 6;
+/// Lists that are no longer are cut at every place.
+const SHORT_LIST_BYTES: usize = 100;
+
+pub fn run(random: &Random, compare: &mut Compare) -> Result<(), Difference> {
+    let table = some_table(random);
+    let length = contents::some_length(random);
+    let bytes = if random.one_in(6) { damaged(random, &table) } else { table.to_bytes() };
+    let lent = Lent::new(bytes, contents::records(random, length));
+    let calls = some_calls(random, &table);
+    let whole = calls.concat();
+    replay(random, compare, &lent, &whole)?;
+    for _ in 0..DAMAGES_A_LIST {
+        replay(random, compare, &lent, &damaged_list(random, &calls))?;
+    }
+    if whole.len() <= SHORT_LIST_BYTES && random.one_in(4) {
+        for cut in 0..whole.len() {
+            replay(random, compare, &lent, &whole[..cut])?;
+        }
+    }
+    Ok(())
+}
+
+/// Often an empty one, whose arrivals are short.
+fn some_table(random: &Random) -> Table {
+    if random.one_in(2) {
+        tables::empty(random)
+    } else {
+        tables::in_form(random)
+    }
+}
+
+/// Each starts from the same table and records.
+fn replay(random: &Random, compare: &mut Compare, lent: &Lent, calls: &[u8]) -> Result<(), Difference> {
+    let length = random.between(0, 2 * MOST_CALLS + 2);
+    let answers: Vec<u64> = (0..length).map(|_| random.set()).collect();
+    compare.replay(&mut Sides::new(lent.clone()), calls, &answers)?;
+    Ok(())
+}
+
+// ---- Lists
+
+/// The calls, each in its own bytes.
+fn some_calls(random: &Random, table: &Table) -> Vec<Vec<u8>> {
+    let mut calls = Vec::new();
+    let mut held = table.clone();
+    let mut earlier = Vec::new();
+    for _ in 0..random.between(1, MOST_CALLS) {
+        if random.one_in(2) {
+            let sent = if random.one_in(3) { any(random, table, &earlier) } else { good(random, table) };
+            calls.push(admission(sent.verdict, &sent.block));
+            earlier.push(sent.block);
+            // As if it were admitted: so that its place is asked for.
+            held.count = (held.count + 1).min(held.rows.len());
+        } else {
+            calls.push(interpretation(some_target(random, &held)));
+        }
+    }
+    calls
+}
+
+/// A list with one thing wrong, or with a call after the end.
+fn damaged_list(random: &Random, calls: &[Vec<u8>]) -> Vec<u8> {
+    let mut calls = calls.to_vec();
+    let at = random.below(calls.len());
+    let after: usize = calls[at + 1..].iter().map(Vec::len).sum();
+    match random.below(6) {
+        // Cut anywhere.
+        0 => {
+            let whole = calls.concat();
+            return whole[..random.below(whole.len())].to_vec();
+        }
+        // Cut in a call's fixed part, or right before its end.
+        1 => {
+            let most = calls[at].len() - 1;
+            let cut = random.pick(&[1, 2, WIDE_BYTES, WIDE_BYTES + 1, BEFORE_BLOCK, most]);
+            calls.truncate(at + 1);
+            calls[at].truncate(cut.min(most));
+        }
+        // Not a call.
+        2 => calls[at][0] = random.pick(&[2, 3, 128, 255, random.byte()]),
+        // The one in the place of the other.
+        3 => calls[at][0] ^= 1,
+        4 => other_length(random, &mut calls[at], after),
+        _ => {
+            let length = random.between(1, 12);
+            let junk = random.bytes(length);
+            calls.insert(at, junk);
+        }
+    }
+    calls.concat()
+}
+
+/// Another block length; an interpretation gets another place by it. `after` is how many bytes follow the call.
+fn other_length(random: &Random, call: &mut [u8], after: usize) {
+    let at = if call[0] == 0 { 2 } else { 1 };
+    let field: &mut [u8; WIDE_BYTES] = (&mut call[at..at + WIDE_BYTES]).try_into().expect("eight bytes");
+    let length = u64::from_le_bytes(*field);
+    let after = after as u64;
+    let more = [1, after, after + 1, after + 2].map(|bytes| length.wrapping_add(bytes));
+    // Sums with these go round, and their low bits are those of the right length.
+    let huge =
+        [u64::MAX, u64::MAX - 9, u64::MAX - 10, 1 << 63, length | 1 << 32, length | 1 << 63, length.swap_bytes()];
+    *field = random.pick(&[length.wrapping_sub(1), random.pick(&more), random.pick(&huge), random.set()]).to_le_bytes();
+}

@@ -1,0 +1,76 @@
+//! The buffers of one site that are lent to calls, and the same twice, one for each side of a comparison.
+
+use std::fmt::LowerHex;
+use std::mem::size_of;
+
+use crate::sizes::{PART_NUMBERS, RECORD_NUMBERS};
+
+/// A site keeps its table and its records from call to call. The other buffers are filled for a call.
+#[derive(Clone, Default)]
+pub struct Lent {
+    pub table: Vec<u8>,
+    pub records: Vec<u16>,
+    pub block: Vec<u8>,
+    pub calls: Vec<u8>,
+    pub answers: Vec<u64>,
+}
+
+impl Lent {
+    pub fn new(table: Vec<u8>, records: Vec<u16>) -> Lent {
+        Lent { table, records, ..Lent::default() }
+    }
+
+    /// The first item that is other than in `expected`, if there is one.
+    pub fn first_other(&self, expected: &Lent) -> Option<String> {
+        first_other("table", &self.table, &expected.table)
+            .or_else(|| self.first_other_record(&expected.records))
+            .or_else(|| first_other("block", &self.block, &expected.block))
+            .or_else(|| first_other("calls", &self.calls, &expected.calls))
+            .or_else(|| first_other("answers", &self.answers, &expected.answers))
+    }
+
+    fn first_other_record(&self, expected: &[u16]) -> Option<String> {
+        let what = first_other("records", &self.records, expected)?;
+        let at = other_at(&self.records, expected)?;
+        let (place, slot, entry) = (at / PART_NUMBERS, at % PART_NUMBERS / RECORD_NUMBERS, at % RECORD_NUMBERS);
+        Some(format!("{what}: place {place}, slot {slot}, entry {entry}"))
+    }
+}
+
+/// Each side goes on with the buffers that its own calls left. Between calls both have the same in them.
+pub struct Sides {
+    pub tested: Lent,
+    pub expected: Lent,
+}
+
+impl Sides {
+    pub fn new(lent: Lent) -> Sides {
+        Sides { tested: lent.clone(), expected: lent }
+    }
+
+    pub fn each(&mut self, change: impl Fn(&mut Lent)) {
+        change(&mut self.tested);
+        change(&mut self.expected);
+    }
+}
+
+fn other_at<T: PartialEq>(tested: &[T], expected: &[T]) -> Option<usize> {
+    (0..expected.len()).find(|&at| tested[at] != expected[at])
+}
+
+/// The first item of a buffer that is other than the model's. Whole slices are compared first, which is quicker.
+pub fn first_other<T: PartialEq + LowerHex>(name: &str, tested: &[T], expected: &[T]) -> Option<String> {
+    if tested == expected {
+        return None;
+    }
+    let at = other_at(tested, expected)?;
+    let width = 2 * size_of::<T>();
+    let (left, wanted) = (&tested[at], &expected[at]);
+    Some(format!("left {left:0width$x} at {at} of {name}, the model {wanted:0width$x}"))
+}
+
+/// All items, in hexadecimal.
+pub fn hex<T: LowerHex>(items: &[T]) -> String {
+    let width = 2 * size_of::<T>();
+    items.iter().map(|item| format!("{item:0width$x}")).collect()
+}
