@@ -34,10 +34,10 @@ use Rattle.cases.proofs.Told.{claimed, answerInForm, told, ledgerFrom, 
 
 -- `unfolding openedBlocks` opens what this line names: the blocks of the cases
 unfoldable pub openedBlocks : Bool
-unfolding joined encode seen toy block first fork second both stranger third fourth later echoing readying delivering numbered chained twoEchoes twoReadies
-    thirdReady oneReady oneMoreReady threeReadies fourOfFiveEchoes twoReadiesOfFive thirdReadyOfFive ownReady fiveReadies echoingTwin readyingTwin
-    otherEchoing otherReadying twinEchoes oneSender sameSender idle afterIdle besideIdle bothReversed mixedEchoes readyingThree twoSlots
-    forkEchoing turning turned
+unfolding joined encode seen toy block first fork second both stranger third fourth later echoing readying delivering numbered chained twoEchoes
+    twoReadies thirdReady oneReady oneMoreReady threeReadies fourOfFiveEchoes twoReadiesOfFive thirdReadyOfFive ownReady fiveReadies echoingTwin
+    readyingTwin otherEchoing otherReadying twinEchoes oneSender sameSender idle afterIdle besideIdle bothReversed mixedEchoes readyingThree
+    twoSlots forkEchoing turning turned
 openedBlocks = true
 
 -- what a ledger's answers and its blocks' meanings are computed by
@@ -45,8 +45,8 @@ unfoldable pub openedLedger : Bool
 unfolding openedBlocks firstBelow anyBelow allBelow countBelow maskBelow listBelow sameBytes parts countedRequest wellShaped reading lawfulSites
     ownersBelow lawful faults echoQuorum readyAmplification readyQuorum ones onesIn madeOf support onlyIf readyOnEchoes readyOnReadies
     deliverOnReadies takeSend takeEcho takeReady take receive receiveAll request parents parentRule answerTo parentState insert insertIf numbers
-    messagesOf messages interpretSlot taken slotRecord directs found gather find historyOf fresh arriving claimed answerInForm told
-    ledgerFrom allMarked madeBy firstTurns secondTurns
+    messagesOf messages interpretSlot taken slotRecord directs found gather find historyOf fresh arriving claimed answerInForm told ledgerFrom
+    allMarked madeBy firstTurns secondTurns
 openedLedger = true
 
 -- what a table's answers are computed by

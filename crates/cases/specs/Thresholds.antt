@@ -16,8 +16,8 @@ abbrev pub lawfulCounts : List ℕ
 lawfulCounts = 1 ∷ 4 ∷ 7 ∷ 10 ∷ 13 ∷ 16 ∷ []
 
 -- in a setup of seven, ECHO and READY are sent by sites 1 to 5
-abbrev pub fiveSites : List ℕ
-fiveSites = 1 ∷ 2 ∷ 3 ∷ 4 ∷ 5 ∷ []
+abbrev pub oneToFive : List ℕ
+oneToFive = 1 ∷ 2 ∷ 3 ∷ 4 ∷ 5 ∷ []
 
 -- ---- n 4: site 3 hears
 
@@ -36,16 +36,16 @@ unfoldable pub fourOfFiveEchoes : Bytes
 fourOfFiveEchoes = block 6 0 (map (λ p. toy (echoing p)) (1 ∷ 2 ∷ 3 ∷ 4 ∷ [])) []
 
 unfoldable pub twoReadiesOfFive : Bytes
-twoReadiesOfFive = block 6 0 (map (λ p. toy (readying fiveSites p)) (1 ∷ 2 ∷ [])) []
+twoReadiesOfFive = block 6 0 (map (λ p. toy (readying oneToFive p)) (1 ∷ 2 ∷ [])) []
 
 unfoldable pub thirdReadyOfFive : Bytes
-thirdReadyOfFive = block 6 1 (toy twoReadiesOfFive ∷ toy (readying fiveSites 3) ∷ []) []
+thirdReadyOfFive = block 6 1 (toy twoReadiesOfFive ∷ toy (readying oneToFive 3) ∷ []) []
 
 unfoldable pub ownReady : Bytes
 ownReady = block 6 2 (toy thirdReadyOfFive ∷ []) []
 
 unfoldable pub fiveReadies : Bytes
-fiveReadies = block 6 0 (map (λ p. toy (readying fiveSites p)) fiveSites) []
+fiveReadies = block 6 0 (map (λ p. toy (readying oneToFive p)) oneToFive) []
 
 pub record ThresholdCases : Type 0 where
   -- f, 2f + 1 ECHOs, f + 1 READYs and 2f + 1 READYs for each n
@@ -105,14 +105,14 @@ pub record ThresholdCases : Type 0 where
       ∷ echoing 3 making echoes 42
       ∷ echoing 4 making echoes 42
       ∷ echoing 5 making echoes 42
-      ∷ readying fiveSites 1 making readies 42
-      ∷ readying fiveSites 2 making readies 42
-      ∷ readying fiveSites 3 making readies 42
-      ∷ readying fiveSites 4 making readies 42
+      ∷ readying oneToFive 1 making readies 42
+      ∷ readying oneToFive 2 making readies 42
+      ∷ readying oneToFive 3 making readies 42
+      ∷ readying oneToFive 4 making readies 42
       ∷ twoReadiesOfFive making none
       ∷ thirdReadyOfFive making readies 42
       ∷ ownReady making none
-      ∷ block 6 3 (toy ownReady ∷ toy (readying fiveSites 4) ∷ []) [] making delivers 42
+      ∷ block 6 3 (toy ownReady ∷ toy (readying oneToFive 4) ∷ []) [] making delivers 42
       ∷ [])
   -- n 7, READY from five sites at once: READY and delivery; a block later its own is the sixth: nothing more
   pub readiesOfSevenAtOnce : Campaign (sites 7) 0
@@ -122,11 +122,11 @@ pub record ThresholdCases : Type 0 where
       ∷ echoing 3 making echoes 42
       ∷ echoing 4 making echoes 42
       ∷ echoing 5 making echoes 42
-      ∷ readying fiveSites 1 making readies 42
-      ∷ readying fiveSites 2 making readies 42
-      ∷ readying fiveSites 3 making readies 42
-      ∷ readying fiveSites 4 making readies 42
-      ∷ readying fiveSites 5 making readies 42
+      ∷ readying oneToFive 1 making readies 42
+      ∷ readying oneToFive 2 making readies 42
+      ∷ readying oneToFive 3 making readies 42
+      ∷ readying oneToFive 4 making readies 42
+      ∷ readying oneToFive 5 making readies 42
       ∷ fiveReadies making readiesAndDelivers 42
       ∷ block 6 1 (toy fiveReadies ∷ []) [] making none
       ∷ [])

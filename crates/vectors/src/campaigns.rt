@@ -456,6 +456,22 @@ fn show_second_site() {
     );
 }
 
+// Interpretation of a place that is not there, with a buffer of one number too few, then with a whole one.
+fn show_lengths() {
+    let fresh = table::fresh(4, [0; SLOTS]);
+    let mut table = fresh.table;
+    let mut short = [0u16; BUFFER_SIZE - 1];
+    let mut whole = [0u16; BUFFER_SIZE];
+    show_answer(
+        b"interpret, 20479 numbers",
+        interpret::interpret(&mut table, 0, &mut short),
+    );
+    show_answer(
+        b"interpret, 20480 numbers",
+        interpret::interpret(&mut table, 0, &mut whole),
+    );
+}
+
 fn show_campaigns() {
     show_chain();
     show_thirteen();
@@ -480,6 +496,7 @@ fn show_traps() {
 }
 
 fn show_sites() {
+    show_lengths();
     show_echo_first();
     show_order();
     show_first_site();
