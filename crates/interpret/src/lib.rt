@@ -1,5 +1,6 @@
-// Interpretation of a place: its records from those of the places that it refers to. Promises: a lent table and a lent record buffer of any
-// content are judged, and the place's records written and its mark set, as specs/Interpretation.antt says. Assumes nothing of the two.
+// Interpretation of a place: its records from those of the places that it refers to. Promises: `interpret` answers and leaves what
+// specs/Interpretation.antt says, for any table, record buffer and place; form is kept, and each of 12 to 15 comes under its cause and under
+// no other (specs/Promises.antt). Assumes nothing.
 mod buffer;
 mod hearing;
 

@@ -27,6 +27,9 @@ const ARRIVES: u8 = b'a';
 // It is admitted. With another letter it is brought with verdict 0.
 const ADMITTED: u8 = b'd';
 
+// It is named and not brought, so that another can refer to it.
+const NAMED: u8 = b'n';
+
 // The place that stands for the site is interpreted.
 const INTERPRETED: u8 = b'i';
 
@@ -195,6 +198,9 @@ fn show_interpreted(table: &mut [u8], records: &mut [u16], place: usize) {
 
 // Admits the block, and interprets it at its place if that is asked for.
 fn settle(table: &mut [u8], records: &mut [u16], step: u8, block: &[u8]) {
+    if step == NAMED {
+        return;
+    }
     let verdict: u8 = if step <= ADMITTED { 1 } else { 0 };
     let answer = admission::admit(table, block, verdict);
     if step != ARRIVES {
@@ -443,7 +449,7 @@ fn show_first_site() {
     show(
         b"n 4, the first of two sites",
         4,
-        b"i00..0 d00*.0 d01..10 i10..0 i00..0 i10..0 d00*.0 d10..10 d20..10 i30..0 i20..0 v02..3134 d02..3134 d12..26= d11..3134 d21..3134 i40..0 i50..0 i60..0 d12..3689 i70..0 i70..0",
+        b"i00..0 d00*.0 d01..10 i10..0 i00..0 i10..0 d00*.0 d10..10 d20..10 i30..0 i20..0 v02..3134 d02..3134 n11..3134 n21..3134 d12..3678 d11..3134 d21..3134 i40..0 i50..0 i60..0 d12..3678 i70..0 i70..0",
     );
 }
 
