@@ -26,9 +26,9 @@ pub static KINDS: [Kind; 7] = [
     Kind { name: "arrivals", shares: 2, run: admissions::arrivals },
     Kind { name: "tables", shares: 2, run: admissions::tables_in_form },
     Kind { name: "damaged", shares: 3, run: admissions::damaged_tables },
-    Kind { name: "interpretations", shares: 2, run: interpretations::run },
+    Kind { name: "interpretations", shares: 3, run: interpretations::run },
     Kind { name: "campaigns", shares: 2, run: campaigns::run },
-    Kind { name: "replays", shares: 1, run: replays::run },
+    Kind { name: "replays", shares: 2, run: replays::run },
 ];
 
 /// Which cases are run.

@@ -9,7 +9,6 @@ use crate::lent::{first_other, hex, Lent, Sides};
 use crate::model::Model;
 use crate::record::record_at;
 use crate::replay;
-use crate::sizes::SLOTS;
 use crate::table::{places, Table};
 
 /// Something that the two sides have different, with what they were given.
@@ -32,6 +31,11 @@ impl Display for Difference {
 /// Bytes by their name, as a difference shows them.
 pub fn shown(name: &str, bytes: &[u8]) -> (String, String) {
     (format!("{name} ({} bytes)", bytes.len()), hex(bytes))
+}
+
+/// A number by its name; of a long buffer its length.
+fn counted(name: &str, number: usize) -> (String, String) {
+    (name.to_string(), number.to_string())
 }
 
 /// The library, or what stands in its place, beside the model.
@@ -118,8 +122,11 @@ impl Compare<'_> {
         let before = sides.expected.table.clone();
         let answer = self.on_sides(sides, |calls, lent| calls.interpret(&mut lent.table, place, &mut lent.records));
         let answer = answer.map_err(|what| {
-            let mut inputs = vec![shown("table", &before), ("place".to_string(), place.to_string())];
-            inputs.extend(records_read(&Table::from_bytes(&before), place, &sides.expected.records));
+            let records = &sides.expected.records;
+            let mut inputs = vec![shown("table", &before), counted("place", place), counted("records", records.len())];
+            if let Some(slot) = sides.other_slot() {
+                inputs.extend(records_read(&Table::from_bytes(&before), place, slot, records));
+            }
             Difference { call: "gt_interpret", what, inputs }
         })?;
         self.counts.interpretation(answer);
@@ -137,8 +144,8 @@ impl Compare<'_> {
             calls.replay(&mut lent.table, &mut lent.records, &mut lent.calls, &mut lent.answers)
         });
         let ran = ran.map_err(|what| {
-            let answers = ("answers".to_string(), hex(answers));
-            let inputs = vec![shown("table", &before), shown("calls", calls), answers];
+            let lengths = [counted("records", sides.expected.records.len()), counted("answers", answers.len())];
+            let inputs = [vec![shown("table", &before), shown("calls", calls)], lengths.to_vec()].concat();
             Difference { call: "gt_replay", what, inputs }
         })?;
         self.counts.replay(ran);
@@ -180,17 +187,9 @@ fn other_answer<T: Debug + PartialEq>(tested: &T, expected: &T) -> Option<String
     (tested != expected).then(|| format!("answered {tested:?}, the model {expected:?}"))
 }
 
-/// The records of the place's direct references that hold something. The whole buffer would be too long to show.
-fn records_read(table: &Table, place: usize, records: &[u16]) -> Vec<(String, String)> {
+/// A slot's records of the place's direct references. The whole buffer would be too long to show.
+fn records_read(table: &Table, place: usize, slot: usize, records: &[u16]) -> Vec<(String, String)> {
     let references = table.rows.get(place).map_or(0, |row| row.references);
-    let mut shown = Vec::new();
-    for reference in places(references) {
-        for slot in 0..SLOTS {
-            let record = record_at(records, reference, slot);
-            if record.iter().any(|&number| number != 0) {
-                shown.push((format!("record of place {reference}, slot {slot}"), hex(&record)));
-            }
-        }
-    }
-    shown
+    let record = |place: usize| (format!("record of place {place}"), hex(&record_at(records, place, slot)));
+    places(references).map(record).collect()
 }

@@ -33,17 +33,6 @@ impl Site<'_> {
         record_at(&self.lent.records, place, slot)[act.so_far()]
     }
 
-    /// The set of a place's ancestors, itself left out.
-    pub fn ancestors(&self, place: usize) -> u64 {
-        let mut set = self.table.rows[place].references;
-        for lower in (0..place).rev() {
-            if set >> lower & 1 == 1 {
-                set |= self.table.rows[lower].references;
-            }
-        }
-        set
-    }
-
     /// All numbers, not 0, that an interpreted block has sent or delivered so far in a slot.
     pub fn numbers(&self, slot: usize, act: Act) -> Vec<u16> {
         let all = self.interpreted().map(|place| self.so_far(place, slot, act));

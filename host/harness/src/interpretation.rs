@@ -40,8 +40,11 @@ pub struct Interpretation {
     /// Makes a list of messages, lower places first, a set in its order.
     pub order: fn(&mut Vec<Message>),
     pub process: Process,
+    /// Lets a process hear messages in turn.
     pub hear: fn(&Process, &mut Record, &Slot, &[Message]),
+    /// Writes the records of a place.
     pub write: fn(&mut [u16], usize, &Part),
+    /// Marks a place as interpreted.
     pub mark: fn(&mut Table, usize),
 }
 

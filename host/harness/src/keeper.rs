@@ -1,5 +1,5 @@
-//! A keeper of a table: it gets the blocks of a campaign in an order of its own and interprets them by and by. Calls that
-//! are refused come in between. The list of its calls is kept, to be replayed.
+//! A keeper of a table: it gets the blocks of a campaign in an order of its own and interprets them by and by. Calls
+//! that are refused come in between. The list of its calls is kept, to be replayed.
 
 use crate::answer::Answer;
 use crate::arrivals::any;
@@ -36,6 +36,9 @@ struct Stage {
     left: Lent,
 }
 
+/// No keeper needs so many; one that found no end would otherwise go on for ever.
+const ENOUGH_CALLS: usize = 1000;
+
 struct Habits {
     /// The order in which blocks come that could be admitted.
     order: Order,
@@ -44,7 +47,7 @@ struct Habits {
     /// Of so many calls one is mostly refused.
     refused_one_in: usize,
     most_calls: usize,
-    /// After so many calls is a stage.
+    /// A stage comes after so many calls.
     stage_at: usize,
 }
 
@@ -62,7 +65,7 @@ impl Habits {
             order: random.pick(&[Order::AsBuilt, Order::LatestFirst, Order::Any, Order::Any]),
             interprets_one_in: random.pick(&[1, 2, 4, 1000]),
             refused_one_in: random.pick(&[3, 6, 12, 1000]),
-            most_calls: if random.one_in(4) { random.between(0, calls) } else { usize::MAX },
+            most_calls: if random.one_in(4) { random.between(0, calls) } else { ENOUGH_CALLS },
             stage_at: random.between(0, 2 * calls),
         }
     }
@@ -119,8 +122,7 @@ impl<'a> Keeper<'a> {
 
     /// Replays the list from stage to stage.
     pub fn replay(&self, random: &Random, compare: &mut Compare) -> Result<(), Difference> {
-        for ends in self.stages.windows(2) {
-            let [from, to] = ends else { unreachable!("windows of two") };
+        for (from, to) in self.stages.iter().zip(self.stages.iter().skip(1)) {
             let answers = &self.answers[from.calls..to.calls];
             let calls = &self.calls[from.bytes..to.bytes];
             let made = Made { before: &from.left, calls, answers, after: &to.left };
@@ -179,10 +181,10 @@ impl<'a> Keeper<'a> {
 
     // ---- Which call comes next
 
-    /// An admission or an interpretation that isn't refused, but for a full table or a buffer of a wrong length. Whether
-    /// there was one.
+    /// An interpretation, or an admission that is refused only if the table is full. Whether there was one.
     fn next_call(&mut self, random: &Random, compare: &mut Compare, habits: &Habits) -> Result<bool, Difference> {
         let ready = self.ready();
+        // With a buffer of another length no place is ever interpreted.
         let open = if self.left().records.len() == BUFFER_NUMBERS { self.open() } else { Vec::new() };
         if !open.is_empty() && (ready.is_empty() || random.one_in(habits.interprets_one_in)) {
             self.interpret(compare, random.pick(&open))?;

@@ -54,7 +54,7 @@ fn two_numbers(ends: &Ends) -> Option<String> {
 /// "the owner requested it if an ancestor of that block, built by the owner, has it as the slot's counted request"
 fn not_requested(site: &Site) -> Option<String> {
     for place in site.interpreted() {
-        let ancestors = site.ancestors(place);
+        let ancestors = site.table.ancestors(place);
         for slot in 0..SLOTS {
             let number = site.so_far(place, slot, Act::Deliver);
             let asks = |ancestor: usize| {

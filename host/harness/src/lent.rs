@@ -31,9 +31,22 @@ impl Lent {
 
     fn first_other_record(&self, expected: &[u16]) -> Option<String> {
         let what = first_other("records", &self.records, expected)?;
-        let at = other_at(&self.records, expected)?;
-        let (place, slot, entry) = (at / PART_NUMBERS, at % PART_NUMBERS / RECORD_NUMBERS, at % RECORD_NUMBERS);
+        let At { place, slot, entry } = At::of(other_at(&self.records, expected)?);
         Some(format!("{what}: place {place}, slot {slot}, entry {entry}"))
+    }
+}
+
+/// Where a number of the record buffer stands.
+struct At {
+    place: usize,
+    slot: usize,
+    entry: usize,
+}
+
+impl At {
+    fn of(number: usize) -> At {
+        let (place, in_part) = (number / PART_NUMBERS, number % PART_NUMBERS);
+        At { place, slot: in_part / RECORD_NUMBERS, entry: in_part % RECORD_NUMBERS }
     }
 }
 
@@ -51,6 +64,11 @@ impl Sides {
     pub fn each(&mut self, change: impl Fn(&mut Lent)) {
         change(&mut self.tested);
         change(&mut self.expected);
+    }
+
+    /// The slot in which the sides' records first differ, if they do.
+    pub fn other_slot(&self) -> Option<usize> {
+        other_at(&self.tested.records, &self.expected.records).map(|number| At::of(number).slot)
     }
 }
 

@@ -1,7 +1,7 @@
 //! Compares the library with an implementation of document 01 of its own, on seeded random and damaged input.
 //!
 //!     harness [--seed S] [--cases N] [--only K] [--kind NAME]   compares the library with the model
-//!     harness --self-test [--seed S] [--cases N]                shows that the comparison finds each of a list of mistakes
+//!     harness --self-test [--seed S] [--cases N]                shows that the comparison finds each of many mistakes
 //!
 //! With a kind, all cases are of that kind: as in `--kind campaigns --cases 100000`.
 //! Status 0: no difference. 1: a difference, or a mistake that wasn't found. 2: bad arguments.

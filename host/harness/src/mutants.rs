@@ -7,6 +7,7 @@ mod admission;
 mod form;
 mod fresh;
 mod interpretation;
+mod meaning;
 mod process;
 mod reading;
 mod replay;
@@ -56,19 +57,19 @@ pub fn all() -> Vec<Mutant> {
 /// Mutants that break a law when they stand on both sides, where no call differs, each with the law.
 pub fn lawless() -> Vec<(Mutant, &'static str)> {
     let names: [(&[&str], &str); 6] = [
-        (&[interpretation::ARRIVAL_ORDER], EQUAL_PARTS),
-        (&[interpretation::STATE_OF_HIGHEST], EQUAL_PARTS),
-        (&[interpretation::STATE_OF_OTHER_BRANCH], EQUAL_PARTS),
+        (&[meaning::ARRIVAL_ORDER], EQUAL_PARTS),
+        (&[meaning::STATE_OF_HIGHEST], EQUAL_PARTS),
+        (&[meaning::STATE_OF_OTHER_BRANCH], EQUAL_PARTS),
         (&[process::DELIVERING_AT_SEND], ONE_NUMBER),
         (&[process::ECHO_QUORUM_F_PLUS_1, process::DELIVERY_AT_F_PLUS_1], ONE_NUMBER),
-        (&[process::SEND_FROM_ANYONE, interpretation::REQUEST_OF_ANYONE], REQUESTED),
+        (&[process::SEND_FROM_ANYONE, meaning::REQUEST_OF_ANYONE], REQUESTED),
     ];
     names.into_iter().map(|(names, law)| (Mutant::of(names), law)).collect()
 }
 
 fn mistakes() -> Vec<Mistake> {
     let tables = [form::MISTAKES, admission::MISTAKES, fresh::MISTAKES, reading::MISTAKES];
-    let records = [process::MISTAKES, interpretation::MISTAKES, replay::MISTAKES];
+    let records = [process::MISTAKES, meaning::MISTAKES, interpretation::MISTAKES, replay::MISTAKES];
     [tables.concat(), records.concat()].concat()
 }
 

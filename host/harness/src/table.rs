@@ -75,6 +75,19 @@ impl Table {
         sequence == 0 || self.parents(site, sequence, references) == 1
     }
 
+    /// The set of the places that a place refers to, and of those that they refer to; itself left out. None for a place
+    /// that no table has.
+    pub fn ancestors(&self, place: usize) -> u64 {
+        let mut set = self.rows.get(place).map_or(0, |row| row.references);
+        // References are to lower places, so one pass from the highest down finds all.
+        for lower in (0..place.min(PLACES)).rev() {
+            if set >> lower & 1 == 1 {
+                set |= self.rows[lower].references;
+            }
+        }
+        set
+    }
+
     pub fn from_bytes(bytes: &[u8]) -> Table {
         let mut whole = [0; TABLE_BYTES];
         let length = bytes.len().min(TABLE_BYTES);

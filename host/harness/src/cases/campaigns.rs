@@ -1,5 +1,5 @@
-//! Campaigns of two keepers, who get the same blocks in different orders. Each call is compared, and then the whole lists
-//! by replays. What the two come to must keep the laws.
+//! Campaigns of two keepers, who get the same blocks in different orders. Each call is compared, and then the whole
+//! lists by replays. What the two come to must keep the laws.
 
 use crate::campaign::Campaign;
 use crate::compare::{Compare, Difference};

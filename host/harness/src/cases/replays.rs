@@ -73,7 +73,7 @@ fn some_calls(random: &Random, table: &Table) -> Vec<Vec<u8>> {
     calls
 }
 
-/// A list with one thing wrong, or with a call after the end.
+/// A list with one thing wrong.
 fn damaged_list(random: &Random, calls: &[Vec<u8>]) -> Vec<u8> {
     let mut calls = calls.to_vec();
     let at = random.below(calls.len());
@@ -93,13 +93,13 @@ fn damaged_list(random: &Random, calls: &[Vec<u8>]) -> Vec<u8> {
         }
         // Not a call.
         2 => calls[at][0] = random.pick(&[2, 3, 128, 255, random.byte()]),
-        // The one in the place of the other.
+        // The one call taken for the other.
         3 => calls[at][0] ^= 1,
         4 => other_length(random, &mut calls[at], after),
+        // Other bytes before a call.
         _ => {
             let length = random.between(1, 12);
-            let junk = random.bytes(length);
-            calls.insert(at, junk);
+            calls.insert(at, random.bytes(length));
         }
     }
     calls.concat()
