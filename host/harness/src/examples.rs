@@ -1,8 +1,8 @@
 //! Document 01's own examples, as far as these calls go, and published vectors of the digest. The self-test asks them
 //! of the model, which nothing else there would contradict.
 
+mod interpreted;
 mod lists;
-mod skies;
 
 use crate::block::Request;
 use crate::calls::Calls;
@@ -31,7 +31,7 @@ pub fn failed(calls: &dyn Calls) -> Vec<&'static str> {
         ),
         ("65th that repeats a held one 8", admitted(calls, &full_and_again(5)).last() == Some(&(8, 5))),
     ];
-    examples.extend(skies::all(calls));
+    examples.extend(interpreted::all(calls));
     examples.extend(lists::all(calls));
     examples.into_iter().filter(|(_, holds)| !holds).map(|(name, _)| name).collect()
 }

@@ -8,7 +8,7 @@ use crate::sha256::{sha256, Digest};
 use crate::sizes::{BUFFER_NUMBERS, SLOTS, TABLE_BYTES};
 
 pub fn all(calls: &dyn Calls) -> Vec<(&'static str, bool)> {
-    let new = |sites| Sky::new(calls, sites);
+    let new = |sites| Holder::new(calls, sites);
     vec![
         ("empty table, interpret place 0: 13", new(1).interpret(0) == (13, 0)),
         ("four-block chain: SEND, ECHO, READY, delivery", chain(new(1))),
@@ -22,7 +22,7 @@ pub fn all(calls: &dyn Calls) -> Vec<(&'static str, bool)> {
 }
 
 /// A table and its records. Blocks go by their places. Site 0 owns all slots.
-struct Sky<'a> {
+struct Holder<'a> {
     calls: &'a dyn Calls,
     table: Vec<u8>,
     records: Vec<u16>,
@@ -33,11 +33,11 @@ struct Sky<'a> {
 type Made = [u16; ACTS.len()];
 const NOTHING: Made = [0; ACTS.len()];
 
-impl<'a> Sky<'a> {
-    fn new(calls: &'a dyn Calls, sites: u8) -> Sky<'a> {
+impl<'a> Holder<'a> {
+    fn new(calls: &'a dyn Calls, sites: u8) -> Holder<'a> {
         let mut table = vec![0; TABLE_BYTES];
         calls.fresh(sites, &mut [0; SLOTS], &mut table);
-        Sky { calls, table, records: vec![0; BUFFER_NUMBERS], digests: Vec::new() }
+        Holder { calls, table, records: vec![0; BUFFER_NUMBERS], digests: Vec::new() }
     }
 
     fn interpret(&mut self, place: usize) -> (u8, usize) {
@@ -69,25 +69,25 @@ impl<'a> Sky<'a> {
     }
 }
 
-fn chain(mut sky: Sky) -> bool {
-    sky.block(0, 0, &[], Some(7));
+fn chain(mut holder: Holder) -> bool {
+    holder.block(0, 0, &[], Some(7));
     for sequence in 1..4 {
-        sky.block(0, sequence, &[usize::from(sequence) - 1], None);
+        holder.block(0, sequence, &[usize::from(sequence) - 1], None);
     }
-    [0, 1, 2, 3].map(|place| sky.made(place)) == [[7, 0, 0, 0], [0, 7, 0, 0], [0, 0, 7, 0], [0, 0, 0, 7]]
+    [0, 1, 2, 3].map(|place| holder.made(place)) == [[7, 0, 0, 0], [0, 7, 0, 0], [0, 0, 7, 0], [0, 0, 0, 7]]
 }
 
 /// "owner 0 requests 42; four blocks refer to it, four to all of those, four to all of these"
-fn thirteen_blocks(sky: &mut Sky) -> bool {
-    let first = sky.block(0, 0, &[], Some(42));
+fn thirteen_blocks(holder: &mut Holder) -> bool {
+    let first = holder.block(0, 0, &[], Some(42));
     let mut round = |references: &[usize], round: u16| -> Vec<usize> {
         // Site 0 has a block more than the others.
-        (0..4).map(|site| sky.block(site, round + u16::from(site == 0), references, None)).collect()
+        (0..4).map(|site| holder.block(site, round + u16::from(site == 0), references, None)).collect()
     };
     let echoes = round(&[first], 0);
     let readies = round(&echoes, 1);
     let deliveries = round(&readies, 2);
-    let all = |places: &[usize], made: Made| places.iter().all(|&place| sky.made(place) == made);
+    let all = |places: &[usize], made: Made| places.iter().all(|&place| holder.made(place) == made);
     all(&[first], [42, 0, 0, 0])
         && all(&echoes, [0, 42, 0, 0])
         && all(&readies, [0, 0, 42, 0])
@@ -95,35 +95,35 @@ fn thirteen_blocks(sky: &mut Sky) -> bool {
         && deliveries.last() == Some(&12)
 }
 
-fn two_and_three_echoes(mut sky: Sky) -> bool {
-    let send = sky.block(0, 0, &[], Some(42));
-    let echoes = [(0, 1), (1, 0), (2, 0)].map(|(site, sequence)| sky.block(site, sequence, &[send], None));
-    let two = sky.block(3, 0, &echoes[..2], None);
-    sky.made(two) == NOTHING && sky.made_by(3, 1, &[two, echoes[2]]) == [0, 0, 42, 0]
+fn two_and_three_echoes(mut holder: Holder) -> bool {
+    let send = holder.block(0, 0, &[], Some(42));
+    let echoes = [(0, 1), (1, 0), (2, 0)].map(|(site, sequence)| holder.block(site, sequence, &[send], None));
+    let two = holder.block(3, 0, &echoes[..2], None);
+    holder.made(two) == NOTHING && holder.made_by(3, 1, &[two, echoes[2]]) == [0, 0, 42, 0]
 }
 
 /// New blocks of site 3, without its old ones: so it has heard no ECHO.
-fn two_and_three_readies(mut sky: Sky) -> bool {
-    thirteen_blocks(&mut sky);
+fn two_and_three_readies(mut holder: Holder) -> bool {
+    thirteen_blocks(&mut holder);
     let readies = [5, 6, 7];
-    let two = sky.block(3, 0, &readies[..2], None);
-    sky.made(two) == [0, 0, 42, 0]
-        && sky.made_by(3, 1, &[two, readies[2]]) == [0, 0, 0, 42]
-        && sky.made_by(3, 0, &readies) == [0, 0, 42, 42]
+    let two = holder.block(3, 0, &readies[..2], None);
+    holder.made(two) == [0, 0, 42, 0]
+        && holder.made_by(3, 1, &[two, readies[2]]) == [0, 0, 0, 42]
+        && holder.made_by(3, 0, &readies) == [0, 0, 42, 42]
 }
 
-fn fork(mut sky: Sky) -> bool {
-    let forks = [42, 43].map(|number| sky.block(0, 0, &[], Some(number)));
-    sky.made_by(1, 0, &forks) == [0, 42, 0, 0] && sky.made_by(2, 0, &forks[1..]) == [0, 43, 0, 0]
+fn fork(mut holder: Holder) -> bool {
+    let forks = [42, 43].map(|number| holder.block(0, 0, &[], Some(number)));
+    holder.made_by(1, 0, &forks) == [0, 42, 0, 0] && holder.made_by(2, 0, &forks[1..]) == [0, 43, 0, 0]
 }
 
-fn other_than_owner(mut sky: Sky) -> bool {
-    let place = sky.block(1, 0, &[], Some(42));
-    sky.made(place) == NOTHING && sky.made_by(2, 0, &[place]) == NOTHING
+fn other_than_owner(mut holder: Holder) -> bool {
+    let place = holder.block(1, 0, &[], Some(42));
+    holder.made(place) == NOTHING && holder.made_by(2, 0, &[place]) == NOTHING
 }
 
-fn second_request(mut sky: Sky) -> bool {
-    let first = sky.block(0, 0, &[], Some(42));
-    let second = sky.block(0, 1, &[first], Some(43));
-    sky.made(first) == [42, 0, 0, 0] && sky.made(second) == [0, 42, 0, 0]
+fn second_request(mut holder: Holder) -> bool {
+    let first = holder.block(0, 0, &[], Some(42));
+    let second = holder.block(0, 1, &[first], Some(43));
+    holder.made(first) == [42, 0, 0, 0] && holder.made(second) == [0, 42, 0, 0]
 }
