@@ -53,6 +53,7 @@ pub fn empty() -> SlotRecord
 
 // ---- what the supporters of a number bring about
 
+// READY is sent where the number has its ECHO quorum and READY was not sent.
 fn ready_on_echoes(state: SlotRecord, n: u8, number: u16) -> SlotRecord
     requires { ⌜ n ≤ maxSites ⌝ }
     ensures { λ r. ⌜ r ≡ readyOnEchoes n number state ⌝ }
@@ -67,6 +68,7 @@ fn ready_on_echoes(state: SlotRecord, n: u8, number: u16) -> SlotRecord
     record::send_ready(state, number)
 }
 
+// READY is sent where enough sites sent it for the number and it was not sent here.
 fn ready_on_readies(state: SlotRecord, n: u8, number: u16) -> SlotRecord
     requires { ⌜ n ≤ maxSites ⌝ }
     ensures { λ r. ⌜ r ≡ readyOnReadies n number state ⌝ }
@@ -81,6 +83,7 @@ fn ready_on_readies(state: SlotRecord, n: u8, number: u16) -> SlotRecord
     record::send_ready(state, number)
 }
 
+// The number is delivered where it has its READY quorum and nothing was delivered.
 fn deliver_on_readies(state: SlotRecord, n: u8, number: u16) -> SlotRecord
     requires { ⌜ n ≤ maxSites ⌝ }
     ensures { λ r. ⌜ r ≡ deliverOnReadies n number state ⌝ }
@@ -97,6 +100,7 @@ fn deliver_on_readies(state: SlotRecord, n: u8, number: u16) -> SlotRecord
 
 // ---- one message of each kind
 
+// A SEND from the owner is echoed once; one from another site does nothing.
 fn take_send(state: SlotRecord, owner: u8, sender: u8, number: u16) -> SlotRecord
     ensures { λ r. ⌜ r ≡ takeSend owner sender number state ⌝ }
 {
@@ -109,6 +113,7 @@ fn take_send(state: SlotRecord, owner: u8, sender: u8, number: u16) -> SlotRecor
     record::send_echo(state, number)
 }
 
+// An ECHO counts where none was heard from its sender.
 fn take_echo(state: SlotRecord, n: u8, sender: u8, number: u16) -> SlotRecord
     requires { ⌜ (n ≤ maxSites) × (sender < n) ⌝ }
     ensures { λ r. ⌜ r ≡ takeEcho n sender number state ⌝ }
@@ -120,6 +125,7 @@ fn take_echo(state: SlotRecord, n: u8, sender: u8, number: u16) -> SlotRecord
     ready_on_echoes(record::note_echo(state, sender, number), n, number)
 }
 
+// A READY counts where none was heard from its sender.
 fn take_ready(state: SlotRecord, n: u8, sender: u8, number: u16) -> SlotRecord
     requires { ⌜ (n ≤ maxSites) × (sender < n) ⌝ }
     ensures { λ r. ⌜ r ≡ takeReady n sender number state ⌝ }
