@@ -1,5 +1,5 @@
 /* The table and the records of a campaign, for C and C++ programs that keep them: an empty table, its form, admission,
- * interpretation, and a whole list of calls at once.
+ * interpretation, the watch for forks, a site's next block, and a whole list of calls at once.
  *
  * Link with libcore_interface.a, beside libc_interface.a where the calls of giangotum.h are used too (`make host` builds
  * both). Every function here is proved to meet its contract for all bytes, all lengths and all numbers: none crashes, none
@@ -33,6 +33,23 @@ extern "C" {
 #define GT_PART_NUMBERS 320
 #define GT_RECORDS_NUMBERS 20480
 
+/* The sites that forked: bit p of the mask is 1 if site p did; count is how many they are; at_most_f is whether they are at
+ * most f, the number of forking sites that n sites bear. Beside a refusal mask and count are 0 and at_most_f is false. */
+typedef struct {
+    uint8_t refusal;
+    uint16_t sites;
+    uint32_t count;
+    bool at_most_f;
+} gt_forked_sites;
+
+/* The ancestors of a block: bit i of the mask is 1 if the block at place i is one; count is how many they are. Beside a
+ * refusal both are 0. */
+typedef struct {
+    uint8_t refusal;
+    uint64_t places;
+    uint32_t count;
+} gt_ancestor_places;
+
 /* Writes the empty table of a setup, the number of sites n and an owner for each slot, over whatever the buffer has.
  *   1: the setup is not lawful: n is not 1, 4, 7, 10, 13 or 16, the owners are not eight, or an owner is not below n;
  *   2: the table is not of GT_TABLE_BYTES. */
@@ -64,6 +81,29 @@ gt_answer gt_admit(uint8_t *table, size_t table_length, const uint8_t *block, si
  *   14: it is interpreted already;
  *   15, value the lowest such place: it refers to a block that is not interpreted. */
 gt_answer gt_interpret(uint8_t *table, size_t table_length, size_t place, uint16_t *records, size_t records_length);
+
+/* The sites with two held blocks of one sequence number. The table is only read.
+ *   2: the table is not in form. */
+gt_forked_sites gt_forks(const uint8_t *table, size_t table_length);
+
+/* All blocks that the block at a place rests on: those that it refers to, and theirs; itself left out. The table is only
+ * read.
+ *   2: the table is not in form;
+ *   13: the place is not below the table's count. */
+gt_ancestor_places gt_ancestors(const uint8_t *table, size_t table_length, size_t place);
+
+/* Writes a site's next block to the front of the output; the value is its length, at most GT_MAX_BLOCK_BYTES. Its sequence
+ * number is one more than the site's greatest, 0 if the site has no held block. It refers to the site's greatest block
+ * first, then in place order to every block of another site that no held block of the site refers to directly, up to 16 in
+ * all. The requests, 3 bytes each, are copied as given. Bytes after the block stay, and the table is only read.
+ *   2: the table is not in form;
+ *   4: the site is not below n;
+ *   3: the request list is over 24 bytes or no multiple of 3;
+ *   6, value the index of the first such request: a slot over 7, or number 0;
+ *   16: two held blocks of the site share a sequence number;
+ *   17, value the length needed: the output is shorter than the block. */
+gt_answer gt_build(const uint8_t *table, size_t table_length, uint8_t site, const uint8_t *requests, size_t requests_length,
+                   uint8_t *output, size_t output_length);
 
 /* Runs an encoded list of calls, one after the other, as if gt_admit and gt_interpret had been called, and gives how many
  * ran. A call is

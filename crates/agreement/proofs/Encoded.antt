@@ -10,9 +10,10 @@ use lib.Dec.{eqb}
 use lib.ListN.{length, getD, drop, length-drop}
 use borrow.Author.Tests.{eq-eqb, ne-eqb, eqb-true, eqb-false, le-leb, lt-leb, leb-true}
 use Rattle.base.specs.Bytes.{Bytes}
+use Rattle.base.specs.Word.{wordAt}
 use Rattle.base.proofs.Tests.{by-test, and-left, and-right}
 use Rattle.agreement.specs.Ledger.{Call}
-use Rattle.agreement.specs.Encoding.{admissionByte, interpretationByte, admissionHeader, interpretationSize, wordAt, admissionFirst, interpretationFirst, firstSize, firstCall, firstCalls, callsIn}
+use Rattle.agreement.specs.Encoding.{admissionByte, interpretationByte, admissionHeader, interpretationSize, admissionFirst, interpretationFirst, firstSize, firstCall, firstCalls, callsIn}
 use Rattle.agreement.specs.Steps.{Whole}
 
 module _ (b : Bytes) where

@@ -7,6 +7,7 @@ use native.Mathlib.Numerals.{add-one}
 use lib.ListN.{length, getD, set, take, drop}
 use borrow.Author.Tests.{eq-eqb, ne-eqb, le-leb, lt-leb}
 use Rattle.base.specs.Bytes.{Bytes}
+use Rattle.base.specs.Word.{wordAt}
 use Rattle.base.proofs.Parts.{part-size}
 use Rattle.base.proofs.Splice.{splice-of-stores}
 use Rattle.block.specs.declared.Answer.{Answer}
@@ -15,7 +16,7 @@ use Rattle.admission.specs.Admission.{admission, admitted}
 use Rattle.interpret.specs.Interpretation.{interpretation, marked, recorded}
 use Rattle.agreement.specs.Ledger.{Call, admit, interpret}
 use Rattle.agreement.specs.Run.{Site, siteAnswer, siteStep}
-use Rattle.agreement.specs.Encoding.{admissionByte, admissionHeader, wordAt, firstCall, putAnswer}
+use Rattle.agreement.specs.Encoding.{admissionByte, admissionHeader, firstCall, putAnswer}
 
 module _ (t : Bytes) (records : List ℕ) (b : Bytes) where
   abbrev site : Site

@@ -15,6 +15,7 @@ pub mod Passed
 pub mod Shown
 pub mod Runs
 pub mod Theorem
+pub mod Watched
 mod Encoded
 mod First
 mod Replayed

@@ -21,6 +21,15 @@ use Rattle.admission.specs.Admission.{lists, missing, rowFor, admissionChecks}
 use Rattle.interpret.specs.Buffer.{bufferSize}
 use Rattle.interpret.specs.Interpretation.{interpretationChecks}
 
+-- where a check fails, those after it are not made
+cut : (c : Check) (cs ds : List Check) (value : ℕ) → c .holds ≡ false → answerTo (c ∷ cs) value ≡ answerTo (c ∷ ds) value
+unfolding answerTo
+cut c cs ds value z = rw z
+
+rest-same : (c : Check) (cs ds : List Check) (value : ℕ) → (c .holds ≡ true → answerTo cs value ≡ answerTo ds value) → answerTo (c ∷ cs) value ≡ answerTo (c ∷ ds) value
+unfolding answerTo
+rest-same c cs ds value h = by-test (c .holds) (λ y. rw (y, h y)) (λ z. cut c cs ds value z)
+
 module _ (v w : View) (n : v .held ≡ w .held) (e : SameBelow v w (v .held)) (f g : Bool) (formed : f ≡ g) where
   module _ (digest : Bytes → Bytes) (b : Bytes) where
     digest-same : (d : Bytes) → anyBelow (hasDigest v d) (v .held) ≡ anyBelow (hasDigest w d) (w .held)
@@ -52,15 +61,6 @@ module _ (v w : View) (n : v .held ≡ w .held) (e : SameBelow v w (v .held)) (f
         ∷ check 10 (rule-is k) 0
         ∷ check 11 (ltb (n k) maxPlaces) 0
         ∷ []) (n k)
-
-  -- where a check fails, those after it are not made
-  cut : (c : Check) (cs ds : List Check) (value : ℕ) → c .holds ≡ false → answerTo (c ∷ cs) value ≡ answerTo (c ∷ ds) value
-  unfolding answerTo
-  cut c cs ds value z = rw z
-
-  rest-same : (c : Check) (cs ds : List Check) (value : ℕ) → (c .holds ≡ true → answerTo cs value ≡ answerTo ds value) → answerTo (c ∷ cs) value ≡ answerTo (c ∷ ds) value
-  unfolding answerTo
-  rest-same c cs ds value h = by-test (c .holds) (λ y. rw (y, h y)) (λ z. cut c cs ds value z)
 
   module _ (few : v .held ≤ maxPlaces) (size i : ℕ) where
     unready-same : i < v .held → (j : ℕ) → j < i → refersUninterpreted v (v .row i) j ≡ refersUninterpreted w (w .row i) j

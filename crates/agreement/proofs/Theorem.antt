@@ -63,6 +63,9 @@ module _ (digest : Bytes → Bytes) (sized : (b : Bytes) → length (digest b) �
         shown = λ i h. absurd (omega arith);
       }
 
+  pub run : (buffer : List ℕ) (calls : List Call) → Together digest sized s (length buffer) (ledgerOf digest s buffer calls) (siteWith digest s buffer calls)
+  run buffer calls = run-together digest sized s (length buffer) empty (started s buffer) (start buffer) calls
+
   module _ (size : ℕ) (l : Ledger) (x : Site) (t : Together digest sized s size l x) where
     among : (i : ℕ) → i < l .held → List·Memᴰ (l .block i) (l .blocks)
     among i h = subst (λ (bs : List Bytes). List·Memᴰ (l .block i) bs) (sym (t .tied .stand)) (newest-has (l .block) (l .held) i h)
@@ -100,10 +103,10 @@ module _ (digest : Bytes → Bytes) (sized : (b : Bytes) → length (digest b) �
     l₂ = ledgerOf digest s buffer₂ calls₂
 
     run₁ : Together digest sized s (length buffer₁) l₁ (siteWith digest s buffer₁ calls₁)
-    run₁ = run-together digest sized s (length buffer₁) empty (started s buffer₁) (start buffer₁) calls₁
+    run₁ = run buffer₁ calls₁
 
     run₂ : Together digest sized s (length buffer₂) l₂ (siteWith digest s buffer₂ calls₂)
-    run₂ = run-together digest sized s (length buffer₂) empty (started s buffer₂) (start buffer₂) calls₂
+    run₂ = run buffer₂ calls₂
 
     among₁ : (i : ℕ) → i < l₁ .held → List·Memᴰ (l₁ .block i) (l₁ .blocks)
     among₁ = among (length buffer₁) l₁ _ run₁

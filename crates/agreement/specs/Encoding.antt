@@ -10,7 +10,7 @@ use Prim.Native.Nat.{ℕ, zero, suc, _+_, _*_}
 use lib.Dec.{eqb, leb}
 use lib.ListN.{length, getD, take, drop}
 use Rattle.base.specs.Bytes.{Bytes, splice}
-use Rattle.base.specs.Word.{wordSize, word}
+use Rattle.base.specs.Word.{wordSize, wordAt}
 use Rattle.block.specs.declared.Answer.{Answer}
 use Rattle.agreement.specs.Ledger.{Call, admit, interpret}
 
@@ -29,9 +29,6 @@ admissionHeader = 2 + wordSize
 
 abbrev pub interpretationSize : ℕ
 interpretationSize = 1 + wordSize
-
-abbrev pub wordAt : Bytes → ℕ → ℕ
-wordAt b at = word (take wordSize (drop at b))
 
 -- a whole admission stands at the front, or a whole interpretation
 abbrev pub admissionFirst : Bytes → Bool

@@ -3,7 +3,8 @@ use mathlib.Core.Path.{_≡_}
 use Prim.Native.Nat.{_+_, _≤_}
 use lib.ListN.{length, getD}
 use Rattle.base.specs.Bytes.{Bytes}
-use Rattle.agreement.specs.Encoding.{admissionByte, admissionHeader, interpretationSize, wordAt}
+use Rattle.base.specs.Word.{wordAt}
+use Rattle.agreement.specs.Encoding.{admissionByte, admissionHeader, interpretationSize}
 
 -- a whole call stands at the front
 pub record Whole (b : Bytes) : Type 0 where

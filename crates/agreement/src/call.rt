@@ -3,10 +3,10 @@ use block::Answer;
 ghost use mathlib.Core.Path.{_≡_};
 ghost use Prim.Native.Nat.{_+_, _*_, _^_, _≤_, _<_};
 ghost use lib.ListN.{length};
-ghost use Rattle.base.specs.Word.{wordSize};
+ghost use Rattle.base.specs.Word.{wordSize, wordAt};
 ghost use Rattle.sha256.specs.Sha256.{sha256};
 ghost use Rattle.agreement.specs.Run.{siteAnswer, siteStep};
-ghost use Rattle.agreement.specs.Encoding.{firstSize, firstCall, wordAt, putAnswer};
+ghost use Rattle.agreement.specs.Encoding.{firstSize, firstCall, putAnswer};
 ghost use Rattle.agreement.specs.Steps.{Whole};
 
 const ADMISSION: u8 = 0;

@@ -1,5 +1,5 @@
 -- Laws of counts: the turns of the loop that counts, bounds, sets that are large enough to meet, and that as many numbers as are sent to
--- different numbers below p are at most p; and that no two pass where one is counted. Assumes nothing.
+-- different numbers below p are at most p; and that one is counted where exactly one passes. Assumes nothing.
 use mathlib.Core.Path.{_≡_, refl, sym, ap, _∙_}
 use mathlib.Core.Bool.{Bool, true, false, not, _&&_, cond}
 use mathlib.Core.Logic.{_⊎_, _≢_, inl, inr}
@@ -134,6 +134,12 @@ count-member f (suc k) i h y = elim (eq-or-lt-of-le (le-of-suc-le-suc h)) [
   | inl q ↦ let z : f k ≡ true = ap f (sym q) ∙ y in rw z (omega arith)
   | inr l ↦ let z : 1 ≤ countBelow f k = count-member f k i l y in omega arith
 ]
+
+-- where one passes and no other does, one is counted
+pub count-single : (f : ℕ → Bool) (k i : ℕ) → i < k → f i ≡ true → ((j : ℕ) → j < k → f j ≡ true → j ≡ i) → countBelow f k ≡ 1
+count-single f k i h y only =
+    let most : countBelow f k ≤ 1 = count-injective f (λ j. 0) k 1 (λ j l z. omega arith) (λ a b l m z w e. omega (arith, only a (omega arith) z, only b m w)) in
+    omega (arith, count-member f k i h y)
 
 -- where one is counted, no two pass
 pub count-one : (f : ℕ → Bool) (k : ℕ) → countBelow f k ≡ 1 → (i j : ℕ) → i < k → j < k → f i ≡ true → f j ≡ true → i ≡ j

@@ -6,6 +6,7 @@ pub mod Mask
 pub mod Sets
 pub mod List
 pub mod Members
+pub mod Passing
 pub mod Bytes
 pub mod Parts
 pub mod Splice

@@ -1,8 +1,8 @@
--- Laws of the values at the numbers below a bound, of a test over a list, and of what is read after a store. Assumes nothing.
+-- Laws of the values at the numbers below a bound, of a list's map, of a test over a list, and of what is read after a store. Assumes nothing.
 use mathlib.Core.Path.{_≡_, refl, ap, _∙_}
 use mathlib.Core.Bool.{Bool, true, false, _||_}
 use mathlib.Core.Logic.{_⊎_, _≢_, inl, inr}
-use mathlib.Core.List.{List, [], _∷_, _++_, List·Memᴰ, List·Memᴰ·head, List·Memᴰ·tail, List·Memᴰ·not-nil, List·Memᴰ·cases-cons}
+use mathlib.Core.List.{List, [], _∷_, _++_, map, List·Memᴰ, List·Memᴰ·head, List·Memᴰ·tail, List·Memᴰ·not-nil, List·Memᴰ·cases-cons}
 use Prim.Native.Nat.{ℕ, zero, suc, _+_, _<_, suc-le-suc}
 use native.Mathlib.Nat.{le-of-suc-le-suc}
 use native.Mathlib.Numerals.{add-one}
@@ -62,6 +62,12 @@ module _ {A : Type 0} where
 
   pub some-none : (test : A → Bool) (l : List A) → ((x : A) → List·Memᴰ x l → test x ≡ false) → someIn test l ≡ false
   some-none test l n = by-test (someIn test l) (λ e. let w = some-found test l e in true-not-false (w .2) (n (w .0) (w .1))) (λ e. e)
+
+-- a function over a list, at an index of it, whatever stands for an entry past the end
+pub map-at : {A B : Type 0} (f : A → B) (l : List A) (i : ℕ) (a : A) (b : B) → i < length l → getD (map f l) i b ≡ f (getD l i a)
+map-at f [] i a b h = absurd (omega arith)
+map-at f (x ∷ l) zero a b h = refl
+map-at f (x ∷ l) (suc i) a b h = map-at f l i a b (le-of-suc-le-suc h)
 
 -- ---- lists of numbers, 0 past the end
 

@@ -1,13 +1,27 @@
--- The elements of a list of values below a bound, with the highest first or last. Assumes nothing.
-use mathlib.Core.Path.{_≡_, refl, ap, ap₂}
+-- An element of a list and its index; and the elements of a list of values below a bound, with the highest first or last. Assumes nothing.
+use mathlib.Core.Path.{_≡_, refl, sym, ap, ap₂}
 use mathlib.Core.Logic.{inl, inr}
 use mathlib.Core.List.{List, [], _∷_, List·Memᴰ, List·Memᴰ·head, List·Memᴰ·tail, List·Memᴰ·not-nil, List·Memᴰ·cases-cons}
 use Prim.Native.Nat.{ℕ, zero, suc, _<_, suc-le-suc}
 use native.Mathlib.Nat.{eq-or-lt-of-le, le-of-suc-le-suc}
 use native.Mathlib.Omega.{arith}
+use lib.ListN.{length, getD}
 use Rattle.base.specs.List.{listBelow}
 
 module _ {A : Type 0} where
+  -- each index has an element, and each element an index
+  pub at-member : (l : List A) (i : ℕ) (d : A) → i < length l → List·Memᴰ (getD l i d) l
+  at-member [] i d h = absurd (omega arith)
+  at-member (x ∷ l) zero d h = List·Memᴰ·head refl
+  at-member (x ∷ l) (suc i) d h = List·Memᴰ·tail (at-member l i d (le-of-suc-le-suc h))
+
+  pub member-at : (l : List A) (x d : A) → List·Memᴰ x l → (i : ℕ) × (i < length l) × (getD l i d ≡ x)
+  member-at [] x d m = absurd (List·Memᴰ·not-nil m)
+  member-at (y ∷ l) x d m = elim (List·Memᴰ·cases-cons m) [
+    | inl q ↦ (0, omega arith, sym q)
+    | inr j ↦ let w = member-at l x d j in (suc (w .0), suc-le-suc (w .1), w .2)
+  ]
+
   pub list-has : (f : ℕ → A) (k i : ℕ) → i < k → List·Memᴰ (f i) (listBelow f k)
   unfolding listBelow
   list-has f zero i h = absurd (omega arith)

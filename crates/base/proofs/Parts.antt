@@ -79,11 +79,13 @@ module _ (size : ℕ) where
       length-joined (listBelow f k) (λ i h. ap length (list-at f k i [] (omega (arith, length-list f k))) ∙ e i)
       ∙ ap (λ (n : ℕ). size * n) (length-list f k)
 
--- one more joined at the end
-joined-last : (xs : List Bytes) (x : Bytes) → joined (xs ++ (x ∷ [])) ≡ joined xs ++ x
+-- two lists joined one after the other
+pub joined-append : (xs ys : List Bytes) → joined (xs ++ ys) ≡ joined xs ++ joined ys
 unfolding joined
-joined-last [] x = append-nil x
-joined-last (y ∷ xs) x = ap (λ (z : Bytes). y ++ z) (joined-last xs x) ∙ sym (append-assoc y (joined xs) x)
+joined-append [] ys = refl
+joined-append (x ∷ xs) ys = ap (λ (z : Bytes). x ++ z) (joined-append xs ys) ∙ sym (append-assoc x (joined xs) (joined ys))
 
+-- one more joined at the end
 pub joined-list-more : (f : ℕ → Bytes) (k : ℕ) → joined (listBelow f (k + 1)) ≡ joined (listBelow f k) ++ f k
-joined-list-more f k = ap joined (list-more f k) ∙ joined-last (listBelow f k) (f k)
+unfolding joined
+joined-list-more f k = ap joined (list-more f k) ∙ joined-append (listBelow f k) (f k ∷ []) ∙ ap (λ (z : Bytes). joined (listBelow f k) ++ z) (append-nil (f k))

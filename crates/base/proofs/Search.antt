@@ -1,6 +1,6 @@
 -- Laws of the first number below a bound that passes a test: the turns of the loop that looks for it, and what it is. Assumes nothing.
 use mathlib.Core.Path.{_≡_, refl, sym, ap}
-use mathlib.Core.Bool.{Bool, true, false, not, cond}
+use mathlib.Core.Bool.{Bool, true, false, not, cond, _||_}
 use mathlib.Core.Logic.{inl, inr}
 use Prim.Native.Nat.{ℕ, zero, suc, _+_, _≤_, _<_}
 use native.Mathlib.Nat.{eq-or-lt-of-le, le-of-suc-le-suc}
@@ -82,6 +82,16 @@ module _ (f : ℕ → Bool) where
 
   pub any-true-at : (k : ℕ) → anyBelow f k ≡ true → (j : ℕ) × (j < k) × (f j ≡ true)
   any-true-at k e = (firstBelow f k, any-first k e, first-passes k (any-first k e))
+
+-- one turn more
+pub any-more : (f : ℕ → Bool) (k : ℕ) → anyBelow f (k + 1) ≡ (anyBelow f k || f k)
+unfolding anyBelow firstBelow
+any-more f k = rw (add-one k) (go (ltb (firstBelow f k) k) refl (f k))
+  where
+    go : (t : Bool) → ltb (firstBelow f k) k ≡ t → (u : Bool) → ltb (cond t (firstBelow f k) (cond u k (suc k))) (suc k) ≡ (t || u)
+    go true e u = lt-ltb (firstBelow f k) (suc k) (omega (arith, ltb-true (firstBelow f k) k e))
+    go false e true = lt-ltb k (suc k) (omega arith)
+    go false e false = le-ltb (suc k) (suc k) (omega arith)
 
 -- all pass where each does, and the other way round
 pub all-true : (f : ℕ → Bool) (k : ℕ) → ((j : ℕ) → j < k → f j ≡ true) → allBelow f k ≡ true

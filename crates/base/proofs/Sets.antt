@@ -1,21 +1,22 @@
--- Laws of a mask read as a set of places: what is in it, how many, and that none stands from a place on. They hold at every width.
--- Assumes nothing.
+-- Laws of a mask read as a set of places: what is in it, how many, and that none stands from a place on; the full mask, and
+-- what is in one of two masks. They hold at every width. Assumes nothing.
 use mathlib.Core.Path.{_≡_, refl, sym, ap, _∙_}
-use mathlib.Core.Bool.{Bool, true, false, not, cond, _&&_}
-use Prim.Native.Nat.{ℕ, zero, suc, _+_, _*_, _/_, _%_, _^_, _≤_, _<_}
-use native.Mathlib.Nat.{div-eq-of-lt, mod-lt}
+use mathlib.Core.Bool.{Bool, true, false, not, cond, _&&_, _||_}
+use Prim.Native.Nat.{ℕ, zero, suc, _+_, _-_, _*_, _/_, _%_, _^_, _≤_, _<_, max}
+use native.Mathlib.Nat.{div-eq-of-lt, mod-lt, zero-div}
 use native.Mathlib.Decide.{decLt}
 use native.Mathlib.Omega.{arith}
-use lib.Dec.{eqb, leb}
+use lib.Dec.{eqb, leb, ltb}
 use lib.Pow.{pow-pos, pow-mono, split}
+use lib.Bits.{bitOr, or-lt}
 use lib.Count.{ones}
-use borrow.Author.Tests.{eq-eqb, eqb-true, le-leb, leb-true}
+use borrow.Author.Tests.{eq-eqb, eqb-true, le-leb, leb-true, ltb-true, ltb-false}
 use Rattle.base.specs.Search.{anyBelow}
 use Rattle.base.specs.Count.{countBelow}
 use Rattle.base.specs.Mask.{maskBelow, bitAt, inMask}
 use Rattle.base.proofs.Tests.{by-test, true-not-false, not-true-false, and-left, and-right}
 use Rattle.base.proofs.Search.{any-false, any-false-at}
-use Rattle.base.proofs.Mask.{mask-below, mask-bit, mask-bit-past, ones-mask, bit-lt, bits-ext}
+use Rattle.base.proofs.Mask.{mask-below, mask-bit, mask-bit-past, ones-mask, bit-lt, bit-or, bit-not, bits-ext}
 
 bit-test : (b : Bool) → eqb (cond b 1 0) 1 ≡ b
 bit-test true = refl
@@ -86,3 +87,35 @@ none-from w m i h l = by-test (anyBelow (λ p. leb i p && inMask m p) w) some no
 
         below : m < 2 ^ i
         below = rw (lower-mask w m i h l out) at (mask-below (inMask m) i)
+
+-- the mask of w bits that are all 1: every place below w is in it
+pub full-mask : (w p : ℕ) → inMask (2 ^ w - 1) p ≡ ltb p w
+full-mask w p = by-test (ltb p w) (λ y. rw y (eq-eqb (bitAt (2 ^ w - 1) p) 1 (one (ltb-true p w y)))) (λ n. rw (n, past (ltb-false p w n)))
+  where
+    one : p < w → bitAt (2 ^ w - 1) p ≡ 1
+    one h =
+        let e : 2 ^ w - 1 ≡ (2 ^ w - 1) - 0 = omega arith in
+        ap (λ (x : ℕ). bitAt x p) e ∙ bit-not w 0 p (pow-pos w) h ∙ ap (λ (x : ℕ). 1 - x % 2) (zero-div (2 ^ p))
+
+    past : w ≤ p → bitAt (2 ^ w - 1) p ≡ 0
+    past h = ap (λ (x : ℕ). x % 2) (div-eq-of-lt (omega (arith, pow-pos w, pow-mono h)))
+
+-- what is in one of two masks
+pub mask-or : (a b p : ℕ) → inMask (bitOr a b) p ≡ (inMask a p || inMask b p)
+mask-or a b p = ap (λ (x : ℕ). eqb x 1) (bit-or a b p) ∙ either (bitAt a p) (bitAt b p) (bit-lt a p) (bit-lt b p)
+  where
+    either : (x y : ℕ) → x < 2 → y < 2 → eqb (max x y) 1 ≡ (eqb x 1 || eqb y 1)
+    either zero zero h k = refl
+    either zero (suc zero) h k = refl
+    either zero (suc (suc y)) h k = absurd (omega arith)
+    either (suc zero) zero h k = refl
+    either (suc zero) (suc zero) h k = refl
+    either (suc zero) (suc (suc y)) h k = absurd (omega arith)
+    either (suc (suc x)) y h k = absurd (omega arith)
+
+-- a mask and a number of its width, joined
+pub mask-join : (w : ℕ) (f : ℕ → Bool) (m : ℕ) → m < 2 ^ w → bitOr (maskBelow f w) m ≡ maskBelow (λ p. f p || inMask m p) w
+mask-join w f m h =
+    sym (mask-members w (bitOr (maskBelow f w) m) (or-lt w (maskBelow f w) m (mask-below f w) h))
+    ∙ mask-same (inMask (bitOr (maskBelow f w) m)) (λ p. f p || inMask m p) w
+    (λ p l. mask-or (maskBelow f w) m p ∙ ap (λ (t : Bool). t || inMask m p) (mask-has f w p l))

@@ -55,3 +55,9 @@ leb-not a b = by-test (leb a b) (λ e. rw (e, le-ltb b a (leb-true a b e))) (λ 
 -- what holds below i and at i holds below i + 1: one turn of a loop that tests
 pub one-more : (P : ℕ → Type 0) (i : ℕ) → P i → ((j : ℕ) → j < i → P j) → (j : ℕ) → j < i + 1 → P j
 one-more P i e h j l = elim (eq-or-lt-of-le (le-of-suc-le-suc (rw add-one at l))) [ inl q ↦ rw q e | inr k ↦ h j k ]
+
+-- tests that pass together are one
+pub same-tests : (a b : Bool) → (a ≡ true → b ≡ true) → (b ≡ true → a ≡ true) → a ≡ b
+same-tests true b f g = sym (f refl)
+same-tests false true f g = true-not-false (g refl) refl
+same-tests false false f g = refl

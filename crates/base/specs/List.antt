@@ -1,6 +1,7 @@
--- The values of a function at the numbers below a bound, in a list, and a test over the elements of a list. Assumes nothing.
-use mathlib.Core.Bool.{Bool, false, _||_}
-use mathlib.Core.List.{List, [], _∷_}
+-- The values of a function at the numbers below a bound, in a list; those of the numbers that pass a test; and a test over the elements of a
+-- list. Assumes nothing.
+use mathlib.Core.Bool.{Bool, cond, false, _||_}
+use mathlib.Core.List.{List, [], _∷_, _++_}
 use Prim.Native.Nat.{ℕ, zero, suc}
 
 module _ {A : Type 0} where
@@ -13,3 +14,8 @@ module _ {A : Type 0} where
   unfoldable pub someIn : (A → Bool) → List A → Bool
   someIn test [] = false
   someIn test (x ∷ xs) = test x || someIn test xs
+
+-- the numbers below k that pass the test, in rising order
+unfoldable pub passing : (ℕ → Bool) → ℕ → List ℕ
+passing test zero = []
+passing test (suc k) = passing test k ++ cond (test k) (k ∷ []) []

@@ -1,6 +1,7 @@
 -- Numbers of any count of bytes, the low byte first. Assumes nothing.
 use mathlib.Core.List.{[], _∷_}
 use Prim.Native.Nat.{ℕ, zero, suc, _+_, _*_, _/_, _%_}
+use lib.ListN.{take, drop}
 use Rattle.base.specs.Bytes.{Bytes}
 
 -- the bytes of a 64-bit number
@@ -11,6 +12,10 @@ wordSize = 8
 unfoldable pub word : Bytes → ℕ
 word [] = 0
 word (x ∷ b) = x + 256 * word b
+
+-- the 64-bit number at an index of a byte string
+abbrev pub wordAt : Bytes → ℕ → ℕ
+wordAt b at = word (take wordSize (drop at b))
 
 -- the k bytes of a number
 unfoldable pub wordBytes : ℕ → ℕ → Bytes

@@ -1,5 +1,6 @@
 -- The laws of blocks. RoundTrip is the promise of specs/Codec.antt; the files before it lead up to it.
 pub mod Lists
+pub mod Admissible
 pub mod Shape
 pub mod Encoding
 pub mod Accepted

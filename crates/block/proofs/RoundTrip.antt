@@ -6,17 +6,14 @@ use mathlib.Core.Logic.{_≢_}
 use mathlib.Core.List.{List, [], _∷_, _++_, map}
 use Prim.Native.Nat.{ℕ, zero, suc, _+_, _*_, _/_, _≤_, _<_, suc-le-suc}
 use native.Mathlib.Omega.{arith}
-use lib.Dec.{eqb, ltb}
 use lib.ListN.{length, getD, drop, length-drop}
 use lib.Seq.{length-take-le}
-use borrow.Author.Tests.{le-ltb, ne-eqb, ltb-false, eqb-false}
-use Rattle.base.specs.Bytes.{Bytes, AllBytes, sameBytes, partAt, joined}
-use Rattle.base.proofs.Tests.{or-left, or-right}
+use Rattle.base.specs.Bytes.{Bytes, AllBytes, sameBytes, joined}
 use Rattle.base.proofs.Search.{any-false, any-false-at}
 use Rattle.base.proofs.Bytes.{other-same, same-other, bytes-take, bytes-drop, bytes-append, bytes-joined}
 use Rattle.base.proofs.Parts.{part-and-rest}
 use Rattle.base.proofs.Number.{number-pair, number-below, number-high, number-low, high-below}
-use Rattle.block.specs.Limits.{headerSize, referenceSize, requestSize, maxSlot}
+use Rattle.block.specs.Limits.{headerSize, referenceSize, requestSize}
 use Rattle.block.specs.Layout.{Content, siteOf, sequenceOf, referenceCount, requestCount, referenceList, requestList, referenceAt, requestAt, requestBytes, referencesIn, requestsIn, content, contentOf, encode}
 use Rattle.block.specs.Reading.{badRequest, badRequestAt, repeatedAt, fieldsOf, reading}
 use Rattle.block.specs.Codec.{Digest, Admissible, noRequest, Fitting, Gives, RoundTrip}
@@ -25,14 +22,12 @@ use Rattle.block.specs.declared.Request.{Request}
 use Rattle.block.specs.declared.Fields.{Fields}
 use Rattle.block.specs.declared.Reading.the-variants.{Block}
 use Rattle.block.proofs.Lists.{references-length, references-at, requests-length, requests-at}
+use Rattle.block.proofs.Admissible.{good-request, request-good}
 use Rattle.block.proofs.Shape.{reference-list-length, request-list-length, references-counted, requests-counted}
 use Rattle.block.proofs.Encoding.{encode-content, encode-length, encode-references, encode-requests, references-held, requests-held}
 use Rattle.block.proofs.Accepted.{Accepted, accepted-reading, reading-accepted}
 
 -- ---- from a fitting content to bytes
-
-good-request : (q : Request) → Admissible q → badRequest q ≡ false
-good-request q a = rw (le-ltb maxSlot (q .slot) (a .slot), ne-eqb (q .number) 0 (λ e. omega (arith, a .some)))
 
 request-bytes : (qs : List Request) → ((i : ℕ) → i < length qs → Admissible (getD qs i noRequest)) → AllBytes (joined (map requestBytes qs))
 unfolding joined
@@ -128,20 +123,7 @@ module _ (b : Bytes) (a : AllBytes b) (r : Accepted b) where
       (any-false-at (repeatedAt (referenceList b)) (referenceCount b) (r .references) i h) j l)
 
   admissible-there : (i : ℕ) → i < requestCount b → Admissible (requestAt (requestList b) i)
-  admissible-there i h =
-      let e : badRequest (requestAt (requestList b) i) ≡ false = any-false-at (badRequestAt (requestList b)) (requestCount b) (r .requests) i h in
-      let q : Request = requestAt (requestList b) i in
-      let p : AllBytes (partAt requestSize (requestList b) i) = bytes-take requestSize (drop (requestSize * i) (requestList b)) (bytes-drop (requestSize * i) (requestList b) requests-bytes) in
-      let n : q .number ≢ 0 = eqb-false (q .number) 0 (or-right (ltb maxSlot (q .slot)) (eqb (q .number) 0) e) in
-      record {
-        slot = ltb-false maxSlot (q .slot) (or-left (ltb maxSlot (q .slot)) (eqb (q .number) 0) e);
-        some = positive (q .number) n;
-        number = number-below _ _ (p 1) (p 2);
-      }
-    where
-      positive : (x : ℕ) → x ≢ 0 → 1 ≤ x
-      positive zero n = absurd (n refl)
-      positive (suc x) n = omega arith
+  admissible-there i h = request-good (requestList b) requests-bytes i (any-false-at (badRequestAt (requestList b)) (requestCount b) (r .requests) i h)
 
   fitting : Fitting (contentOf b)
   unfolding contentOf content

@@ -1,6 +1,8 @@
 // What C programs that drive the core call: the harness, the benchmarks, and a controller that keeps a campaign. Promises: each call is
 // the one that it names, for all bytes and numbers. Assumes: the C program lends what host/giangotum_core.h asks for.
 use block::Answer;
+use watch::AncestorPlaces;
+use watch::ForkedSites;
 ghost use mathlib.Core.Path.{_≡_};
 ghost use lib.ListN.{length};
 ghost use Rattle.sha256.specs.Sha256.{sha256};
@@ -8,6 +10,9 @@ ghost use Rattle.table.specs.Form.{inForm};
 ghost use Rattle.table.specs.Fresh.{freshAnswer, freshIn};
 ghost use Rattle.admission.specs.Admission.{admission, admitted};
 ghost use Rattle.interpret.specs.Interpretation.{interpretation, marked, recorded};
+ghost use Rattle.watch.specs.Forks.{forks};
+ghost use Rattle.watch.specs.Ancestors.{ancestors};
+ghost use Rattle.build.specs.Building.{building, built};
 ghost use Rattle.agreement.specs.Run.{siteAfter, siteAnswers};
 ghost use Rattle.agreement.specs.Encoding.{callsIn, putAnswers};
 
@@ -45,6 +50,31 @@ pub extern "C" fn gt_interpret(table: &mut [u8], place: usize, records: &mut [u1
     ensures { λ _. ⌜ now (records .exit) ≡ recorded (now (table .entry)) (now (records .entry)) place ⌝ }
 {
     interpret::interpret(table, place, records)
+}
+
+// The sites that forked.
+#[no_mangle]
+pub extern "C" fn gt_forks(table: &[u8]) -> ForkedSites
+    ensures { λ r. ⌜ r ≡ forks (now (table .entry)) ⌝ }
+{
+    watch::forks(table)
+}
+
+// All ancestors of a place.
+#[no_mangle]
+pub extern "C" fn gt_ancestors(table: &[u8], place: usize) -> AncestorPlaces
+    ensures { λ r. ⌜ r ≡ ancestors (now (table .entry)) place ⌝ }
+{
+    watch::ancestors(table, place)
+}
+
+// A site's next block.
+#[no_mangle]
+pub extern "C" fn gt_build(table: &[u8], site: u8, requests: &[u8], output: &mut [u8]) -> Answer
+    ensures { λ r. ⌜ r ≡ building (now (table .entry)) site (now (requests .entry)) (now (output .entry)) ⌝ }
+    ensures { λ _. ⌜ now (output .exit) ≡ built (now (table .entry)) site (now (requests .entry)) (now (output .entry)) ⌝ }
+{
+    build::build(table, site, requests, output)
 }
 
 // A whole list of calls.

@@ -18,7 +18,7 @@ use Rattle.base.specs.Mask.{maskBelow, inMask}
 use Rattle.base.specs.List.{listBelow}
 use Rattle.base.specs.Bytes.{Bytes, joined, splice}
 use Rattle.base.specs.Number.{numberAt, pair}
-use Rattle.base.specs.Word.{wordSize, word, wordBytes}
+use Rattle.base.specs.Word.{wordSize, wordAt, wordBytes}
 use Rattle.block.specs.Limits.{referenceSize, slotCount}
 use Rattle.setup.specs.Setup.{Setup}
 use Rattle.table.specs.View.{maxPlaces, Row, View}
@@ -80,7 +80,7 @@ abbrev pub sequenceAt : Bytes → ℕ → ℕ
 sequenceAt t i = numberAt t (rowStart i + sequenceOffset)
 
 abbrev pub referencesAt : Bytes → ℕ → ℕ
-referencesAt t i = word (take wordSize (drop (rowStart i + referencesOffset) t))
+referencesAt t i = wordAt t (rowStart i + referencesOffset)
 
 abbrev pub requestAt : Bytes → ℕ → ℕ → ℕ
 requestAt t i slot = numberAt t (rowStart i + requestsOffset + 2 * slot)

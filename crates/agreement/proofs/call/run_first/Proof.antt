@@ -3,7 +3,8 @@ use Prim.Native.Nat.{_+_, _≤_}
 use native.Mathlib.Omega.{arith}
 use lib.ListN.{length}
 use borrow.Author.Needs.{needs}
-use Rattle.agreement.specs.Encoding.{admissionHeader, wordAt}
+use Rattle.base.specs.Word.{wordAt}
+use Rattle.agreement.specs.Encoding.{admissionHeader}
 use Rattle.agreement.proofs.First.{ran-admission, ran-interpretation}
 use Rattle.agreement.proofs.call.run_first.Statement.{statement}
 use Rattle.agreement.proofs.call.run_first.Tie as tie

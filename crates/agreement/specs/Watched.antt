@@ -1,0 +1,30 @@
+-- What the watch says of a table that calls reached, told by the ledger of those calls.
+use mathlib.Core.Path.{_≡_}
+use mathlib.Core.Bool.{true}
+use mathlib.Core.Logic.{_↔_}
+use Prim.Native.Nat.{ℕ, _<_}
+use Rattle.base.specs.Mask.{inMask}
+use Rattle.base.specs.Bytes.{Bytes}
+use Rattle.watch.specs.Forks.{forks}
+use Rattle.watch.specs.Ancestors.{ancestors}
+use Rattle.agreement.specs.Ancestry.{AncestorIn}
+use Rattle.agreement.specs.Ledger.{Ledger}
+use Rattle.agreement.specs.Run.{Site}
+use Rattle.agreement.specs.Promises.{forked}
+
+module _ (digest : Bytes → Bytes) where
+  -- a place that the watch names as an ancestor of place i holds this block
+  pub record NamedAncestor (l : Ledger) (x : Site) (i : ℕ) (b : Bytes) : Type 0 where
+    pub place : ℕ
+    pub held : place < l .held
+    pub named : inMask (ancestors (x .table) i .places) place ≡ true
+    pub holds : l .block place ≡ b
+
+  pub record WatchKeeps (l : Ledger) (x : Site) : Type 0 where
+    -- it refuses no place that is held
+    pub formed : forks (x .table) .refusal ≡ 0
+    pub answered : (i : ℕ) → i < l .held → ancestors (x .table) i .refusal ≡ 0
+    -- the sites that it names are those with two different blocks of one sequence number in the ledger
+    pub forkedSites : (p : ℕ) → inMask (forks (x .table) .sites) p ≡ forked (l .blocks) p
+    -- a place's ancestors are the ledger's ancestors of its block
+    pub ancestorPlaces : (i : ℕ) → i < l .held → (b : Bytes) → NamedAncestor l x i b ↔ AncestorIn digest (l .blocks) b (l .block i)

@@ -1,0 +1,32 @@
+-- Check 6 lets a request pass where it is admissible, and where it lets one of bytes pass, that one is admissible. Assumes nothing.
+use mathlib.Core.Path.{_≡_}
+use mathlib.Core.Bool.{false}
+use mathlib.Core.Logic.{_≢_}
+use Prim.Native.Nat.{ℕ, _*_}
+use native.Mathlib.Omega.{arith}
+use lib.Dec.{eqb, ltb}
+use lib.ListN.{drop}
+use borrow.Author.Tests.{le-ltb, ne-eqb, ltb-false, eqb-false}
+use Rattle.base.specs.Bytes.{Bytes, AllBytes, partAt}
+use Rattle.base.proofs.Tests.{or-left, or-right}
+use Rattle.base.proofs.Bytes.{bytes-take, bytes-drop}
+use Rattle.base.proofs.Number.{number-below}
+use Rattle.block.specs.Limits.{requestSize, maxSlot}
+use Rattle.block.specs.Layout.{requestAt}
+use Rattle.block.specs.Reading.{badRequest, badRequestAt}
+use Rattle.block.specs.Codec.{Admissible}
+use Rattle.block.specs.declared.Request.{Request}
+
+pub good-request : (q : Request) → Admissible q → badRequest q ≡ false
+good-request q a = rw (le-ltb maxSlot (q .slot) (a .slot), ne-eqb (q .number) 0 (λ e. omega (arith, a .some)))
+
+pub request-good : (list : Bytes) → AllBytes list → (i : ℕ) → badRequestAt list i ≡ false → Admissible (requestAt list i)
+request-good list all i e =
+    let q : Request = requestAt list i in
+    let part : AllBytes (partAt requestSize list i) = bytes-take requestSize (drop (requestSize * i) list) (bytes-drop (requestSize * i) list all) in
+    let n : q .number ≢ 0 = eqb-false (q .number) 0 (or-right (ltb maxSlot (q .slot)) (eqb (q .number) 0) e) in
+    record {
+      slot = ltb-false maxSlot (q .slot) (or-left (ltb maxSlot (q .slot)) (eqb (q .number) 0) e);
+      some = omega arith;
+      number = number-below _ _ (part 1) (part 2);
+    }

@@ -1,0 +1,46 @@
+-- Building keeps its promises, whichever places are looked at. Assumes nothing.
+use mathlib.Core.Path.{_≡_, sym, ap, _∙_, subst}
+use mathlib.Core.Bool.{Bool}
+use Prim.Native.Nat.{ℕ, _+_}
+use native.Mathlib.Omega.{arith}
+use lib.ListN.{length, take, drop}
+use Rattle.base.specs.Bytes.{Bytes, splice}
+use Rattle.base.proofs.Splice.{splice-part-in, drop-splice}
+use Rattle.table.specs.Layout.{viewOf}
+use Rattle.build.specs.Building.{nextBlock, builtFrom}
+use Rattle.build.specs.Promises.{answer, after, Promised}
+use Rattle.build.proofs.Fits.{next-reads}
+use Rattle.build.proofs.Causes.{sixteen, seventeen, none, value}
+use Rattle.build.proofs.Admissible.{Admits, next-admissible}
+
+module _ (seen : ℕ → Bool) (t : Bytes) (p : ℕ) (requests output : Bytes) (done : answer seen t p requests output .refusal ≡ 0) where
+  abbrev block : Bytes
+  block = nextBlock seen (viewOf t) p requests
+
+  -- what a success leaves
+  written : after seen t p requests output ≡ splice output 0 block
+  unfolding builtFrom
+  written = rw done
+
+  front : take (length block) (after seen t p requests output) ≡ block
+  front = ap (take (length block)) written ∙ splice-part-in output 0 block (omega arith)
+
+  rest : drop (length block) (after seen t p requests output) ≡ drop (length block) output
+  rest =
+      let e : length block ≡ 0 + length block + 0 = omega arith in
+      ap (drop (length block)) written ∙ ap (λ (n : ℕ). drop n (splice output 0 block)) e ∙ drop-splice output 0 block (omega arith) 0 ∙ ap (λ (n : ℕ). drop n output) (sym e)
+
+pub promised : (seen : ℕ → Bool) (t : Bytes) (p : ℕ) (requests output : Bytes) → Promised seen t p requests output
+promised seen t p requests output =
+    record {
+      sixteen = sixteen seen t p requests output;
+      seventeen = seventeen seen t p requests output;
+      none = none seen t p requests output;
+      value = value seen t p requests output;
+      read = λ all allRequests e.
+          rw (front seen t p requests output e) (next-reads seen t p requests all allRequests (none seen t p requests output .0 e .0 .asked));
+      rest = rest seen t p requests output;
+      admissible = λ all allRequests e digest.
+          let able = none seen t p requests output .0 e .0 in
+          subst (Admits digest t) (sym (front seen t p requests output e)) (next-admissible seen t p requests all allRequests (able .asked) (able .unforked) digest);
+    }

@@ -1,0 +1,30 @@
+-- `is_news` meets its contract: one test after the other. Assumes nothing.
+use mathlib.Core.Path.{_≡_, sym, ap, _∙_}
+use mathlib.Core.Bool.{true, not}
+use Prim.Native.Nat.{ℕ}
+use borrow.Author.Needs.{needs}
+use borrow.Author.Tests.{eq-eqb, ne-eqb, not-true, not-false}
+use Rattle.base.specs.Mask.{inMask}
+use Rattle.base.proofs.Sets.{mask-has}
+use Rattle.table.specs.View.{maxPlaces}
+use Rattle.build.proofs.picking.is_news.Statement.{statement}
+use Rattle.build.proofs.picking.is_news.Tie as tie
+
+looked-at : (c : tie.Else1) → let a = c .before .before .before .args in inMask (a .seen) (a .i) ≡ true
+looked-at c = sym (c .before .in-mask .ensures) ∙ not-false _ (c .if1 .left)
+
+returns : tie.Need-returns
+returns c = rw (sym (c .before .in-mask .ensures) ∙ not-true _ (c .if1 .taken))
+
+returns-2 : tie.Need-returns-2
+returns-2 c = rw (looked-at (c .before .before), ← c .before .site-at .ensures, eq-eqb _ _ (c .if2 .taken))
+
+returns-3 : tie.Need-returns-3
+returns-3 c =
+    let start = c .before .before .before .before .before .before in
+    let i = start .args .i in
+    rw (looked-at (c .before .before .before), ← c .before .before .site-at .ensures, ne-eqb _ _ (c .before .if2 .left))
+    (ap not (c .in-mask2 .ensures ∙ ap (λ (m : ℕ). inMask m i) (start .pre .1) ∙ mask-has _ maxPlaces i (start .pre .0 .place)))
+
+pub is-news-spec : {M : Type 1} → statement M
+is-news-spec = tie.close (tie.spec (λ c κs. search needs) returns (λ c κs. search needs) returns-2 (λ c κs. search needs) returns-3)

@@ -1,0 +1,65 @@
+-- What building promises beyond its two equations, whichever places are looked at; proofs/Promises.antt shows it.
+use mathlib.Core.Path.{_≡_}
+use mathlib.Core.Bool.{Bool, true, false}
+use mathlib.Core.Logic.{_↔_, _⊎_}
+use Prim.Native.Nat.{ℕ, _/_, _%_, _≤_, _<_}
+use lib.ListN.{length, take, drop}
+use Rattle.base.specs.Bytes.{Bytes, AllBytes}
+use Rattle.block.specs.Limits.{requestSize, maxRequestListSize}
+use Rattle.block.specs.Reading.{badRequestAt}
+use Rattle.block.specs.Codec.{Reads}
+use Rattle.block.specs.declared.Answer.{Answer}
+use Rattle.table.specs.View.{maxPlaces}
+use Rattle.table.specs.Layout.{setupOf, countOf, viewOf}
+use Rattle.table.specs.Form.{inForm}
+use Rattle.admission.specs.Admission.{admission}
+use Rattle.admission.specs.Promises.{DigestHeld}
+use Rattle.watch.specs.Promises.{Shares}
+use Rattle.build.specs.Building.{nextContent, nextBlock, buildingFrom, builtFrom}
+
+-- checks 2, 4, 3 and 6 hold
+pub record Asked (t : Bytes) (p : ℕ) (requests : Bytes) : Type 0 where
+  pub formed : inForm t ≡ true
+  pub site : p < setupOf t .sites
+  pub fits : length requests ≤ maxRequestListSize
+  pub whole : length requests % requestSize ≡ 0
+  pub admissible : (i : ℕ) → i < length requests / requestSize → badRequestAt requests i ≡ false
+
+module _ (seen : ℕ → Bool) (t : Bytes) (p : ℕ) (requests output : Bytes) where
+  abbrev pub answer : Answer
+  answer = buildingFrom seen t p requests output
+
+  -- the output afterwards
+  abbrev pub after : Bytes
+  after = builtFrom seen t p requests output
+
+  -- the length of the next block
+  abbrev pub needed : ℕ
+  needed = length (nextBlock seen (viewOf t) p requests)
+
+  -- check 16 holds too
+  pub record Able : Type 0 where
+    pub asked : Asked t p requests
+    pub unforked : Shares (viewOf t) seen p → ⊥
+
+  -- what admission of the bytes that a success wrote, to that table with verdict 1, answers: "refused only by 11, or by 8 on a shared digest"
+  module _ (digest : Bytes → Bytes) where
+    abbrev pub admitted : ℕ
+    admitted = admission digest t (take needed after) 1 .refusal
+
+    abbrev pub Admissible : Type 0
+    Admissible = (admitted ≡ 0) ⊎ (((admitted ≡ 11) × (countOf t ≡ maxPlaces)) ⊎ ((admitted ≡ 8) × DigestHeld t (digest (take needed after))))
+
+  pub record Promised : Type 0 where
+    -- each refusal comes under its cause and under no other
+    pub sixteen : (answer .refusal ≡ 16) ↔ (Asked t p requests × Shares (viewOf t) seen p)
+    pub seventeen : (answer .refusal ≡ 17) ↔ (Able × (length output < needed))
+    pub none : (answer .refusal ≡ 0) ↔ (Able × (needed ≤ length output))
+    -- the length, and the length needed
+    pub value : (answer .refusal ≡ 0) ⊎ (answer .refusal ≡ 17) → answer .value ≡ needed
+    -- what is built reads back to exactly the picked content
+    pub read : AllBytes t → AllBytes requests → answer .refusal ≡ 0 → Reads (take needed after) (nextContent seen (viewOf t) p requests)
+    -- bytes after the block stay
+    pub rest : answer .refusal ≡ 0 → drop needed after ≡ drop needed output
+    -- the table admits it
+    pub admissible : AllBytes t → AllBytes requests → answer .refusal ≡ 0 → (digest : Bytes → Bytes) → Admissible digest

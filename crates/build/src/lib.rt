@@ -1,0 +1,101 @@
+// Building a site's next block from its table. Promises: `build` answers and leaves what specs/Building.antt says, for any table, site, request
+// list and output; what is built reads back to the content picked, the table it was built from admits it unless it is full or holds the same
+// digest, and each of 16 and 17 comes under its cause and under no other (specs/Promises.antt). Assumes nothing; the table is read only.
+mod next;
+mod picking;
+
+use block::Answer;
+use block::HEADER_SIZE;
+use block::MAX_REFERENCES;
+use block::REFERENCE_SIZE;
+ghost use mathlib.Core.Path.{_≡_};
+ghost use Rattle.base.specs.Mask.{inMask};
+ghost use Rattle.build.specs.Building.{wellListed, buildingFrom, builtFrom, building, built};
+ghost use Rattle.build.specs.Steps.{Ready, Listed, nextAnswer, nextOutput};
+
+// Check 3 of a request list.
+fn well_listed(requests: &[u8]) -> bool
+    ensures { λ r. ⌜ r ≡ wellListed (now (requests .entry)) ⌝ }
+{
+    if block::MAX_REQUEST_LIST_SIZE < requests.len() {
+        return false;
+    }
+    requests.len() % block::REQUEST_SIZE == 0
+}
+
+// Writes the site's next block, from the places in the mask, to the front of the output and answers with its length.
+pub fn build_from(table: &[u8], seen: u64, site: u8, requests: &[u8], output: &mut [u8]) -> Answer
+    ensures { λ r. ⌜ r ≡ buildingFrom (inMask seen) (now (table .entry)) site (now (requests .entry)) (now (output .entry)) ⌝ }
+    ensures { λ _. ⌜ now (output .exit) ≡ builtFrom (inMask seen) (now (table .entry)) site (now (requests .entry)) (now (output .entry)) ⌝ }
+{
+    if !table::in_form(table) {
+        return Answer {
+            refusal: 2,
+            value: 0,
+        };
+    }
+    if table::rows::sites_of(table) <= site {
+        return Answer {
+            refusal: 4,
+            value: 0,
+        };
+    }
+    if !well_listed(requests) {
+        return Answer {
+            refusal: 3,
+            value: 0,
+        };
+    }
+    let bad = block::requests::first_bad(requests);
+    if bad < requests.len() / block::REQUEST_SIZE {
+        return Answer {
+            refusal: 6,
+            value: bad,
+        };
+    }
+    if watch::sites::forked(table, seen, site) {
+        return Answer {
+            refusal: 16,
+            value: 0,
+        };
+    }
+    write_next(table, seen, site, requests, output)
+}
+
+// Check 17, and the block where there is room for it.
+fn write_next(table: &[u8], seen: u64, site: u8, requests: &[u8], output: &mut [u8]) -> Answer
+    requires { ⌜ Ready (now table) seen site × Listed (now requests) ⌝ }
+    ensures { λ r. ⌜ r ≡ nextAnswer (inMask seen) (now (table .entry)) site (now (requests .entry)) (now (output .entry)) ⌝ }
+    ensures { λ _. ⌜ now (output .exit) ≡ nextOutput (inMask seen) (now (table .entry)) site (now (requests .entry)) (now (output .entry)) ⌝ }
+{
+    let mut list = [0u8; REFERENCE_SIZE * MAX_REFERENCES];
+    let sequence = next::next_sequence(table, seen, site);
+    let count = picking::pick(table, seen, site, sequence, &mut list);
+    let needed = HEADER_SIZE + REFERENCE_SIZE * count + requests.len();
+    if output.len() < needed {
+        return Answer {
+            refusal: 17,
+            value: needed,
+        };
+    }
+    block::writing::write_block(
+        site,
+        sequence,
+        &list[0..REFERENCE_SIZE * count],
+        requests,
+        output,
+    );
+    Answer {
+        refusal: 0,
+        value: needed,
+    }
+}
+
+// Writes the site's next block to the front of the output and answers with its length. Refuses in the order of document 01; a refusal
+// changes nothing.
+pub fn build(table: &[u8], site: u8, requests: &[u8], output: &mut [u8]) -> Answer
+    ensures { λ r. ⌜ r ≡ building (now (table .entry)) site (now (requests .entry)) (now (output .entry)) ⌝ }
+    ensures { λ _. ⌜ now (output .exit) ≡ built (now (table .entry)) site (now (requests .entry)) (now (output .entry)) ⌝ }
+{
+    build_from(table, watch::sites::EVERYWHERE, site, requests, output)
+}

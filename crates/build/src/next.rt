@@ -1,0 +1,37 @@
+// The sequence number of a site's next block.
+use table::rows;
+ghost use mathlib.Core.Path.{_≡_};
+ghost use Prim.Native.Nat.{_<_};
+ghost use Rattle.base.specs.Mask.{inMask};
+ghost use Rattle.table.specs.Layout.{countOf, viewOf};
+ghost use Rattle.build.specs.Building.{sequenceAfter, nextSequence};
+ghost use Rattle.build.specs.Steps.{Ready};
+
+// One more than the sequence number of the site's block at a place; 0 if there is none.
+fn sequence_after(table: &[u8], seen: u64, site: u8, i: usize) -> u16
+    requires { ⌜ Ready (now table) seen site × (i < countOf (now table)) ⌝ }
+    ensures { λ r. ⌜ r ≡ sequenceAfter (inMask seen) (viewOf (now (table .entry))) site i ⌝ }
+{
+    if !watch::sites::of_site(table, seen, i, site) {
+        return 0;
+    }
+    rows::sequence_at(table, i) + 1
+}
+
+// One more than the site's greatest sequence number; 0 if it has no block.
+pub fn next_sequence(table: &[u8], seen: u64, site: u8) -> u16
+    requires { ⌜ Ready (now table) seen site ⌝ }
+    ensures { λ r. ⌜ r ≡ nextSequence (inMask seen) (viewOf (now (table .entry))) site ⌝ }
+{
+    let k = rows::count_of(table);
+    let mut next: u16 = 0;
+    let mut i = 0;
+    while i < k {
+        let after = sequence_after(table, seen, site, i);
+        if next < after {
+            next = after;
+        }
+        i += 1;
+    }
+    next
+}

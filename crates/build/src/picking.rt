@@ -1,0 +1,120 @@
+// The references of a site's next block.
+use block::MAX_REFERENCES;
+use block::REFERENCE_SIZE;
+use table::rows;
+ghost use mathlib.Core.Path.{_≡_};
+ghost use mathlib.Core.List.{[], _∷_};
+ghost use Prim.Native.Nat.{_+_, _*_};
+ghost use lib.ListN.{length};
+ghost use Rattle.base.specs.Search.{firstBelow};
+ghost use Rattle.base.specs.Mask.{inMask};
+ghost use Rattle.base.specs.Bytes.{splice};
+ghost use Rattle.block.specs.Limits.{referenceSize, maxReferences};
+ghost use Rattle.table.specs.Layout.{countOf, viewOf};
+ghost use Rattle.table.specs.Steps.{Place, Places};
+ghost use Rattle.build.specs.Building.{nextSequence, isGreatest, isNews, picked};
+ghost use Rattle.build.specs.Steps.{Ready, Room, referredMask, newsIn, fitting, digestsOf, putDigests};
+
+// Whether the place holds the site's greatest block.
+fn is_greatest(table: &[u8], seen: u64, site: u8, next: u16, i: usize) -> bool
+    requires { ⌜ Place (now table) i × (next ≡ nextSequence (inMask seen) (viewOf (now table)) site) ⌝ }
+    ensures { λ r. ⌜ r ≡ isGreatest (inMask seen) (viewOf (now (table .entry))) site i ⌝ }
+{
+    if !watch::sites::of_site(table, seen, i, site) {
+        return false;
+    }
+    (rows::sequence_at(table, i) as u32) + 1 == (next as u32)
+}
+
+// The place of the site's greatest block, or the count if it has none.
+fn greatest_place(table: &[u8], seen: u64, site: u8, next: u16) -> usize
+    requires { ⌜ Places (now table) (countOf (now table)) × (next ≡ nextSequence (inMask seen) (viewOf (now table)) site) ⌝ }
+    ensures { λ r. ⌜ r ≡ firstBelow (isGreatest (inMask seen) (viewOf (now (table .entry))) site) (countOf (now (table .entry))) ⌝ }
+{
+    let k = rows::count_of(table);
+    let mut i = 0;
+    while i < k {
+        if is_greatest(table, seen, site, next, i) {
+            return i;
+        }
+        i += 1;
+    }
+    k
+}
+
+// The places that the site's blocks refer to directly, as a mask.
+fn referred_mask(table: &[u8], seen: u64, site: u8) -> u64
+    requires { ⌜ Places (now table) (countOf (now table)) ⌝ }
+    ensures { λ r. ⌜ r ≡ referredMask (now (table .entry)) seen site ⌝ }
+{
+    let k = rows::count_of(table);
+    let mut mask: u64 = 0;
+    let mut i = 0;
+    while i < k {
+        if watch::sites::of_site(table, seen, i, site) {
+            mask = mask | rows::references_at(table, i);
+        }
+        i += 1;
+    }
+    mask
+}
+
+// Whether the place is looked at and holds a block of another site that is not among those referred to.
+fn is_news(table: &[u8], seen: u64, site: u8, referred: u64, i: usize) -> bool
+    requires { ⌜ Place (now table) i × (referred ≡ referredMask (now table) seen site) ⌝ }
+    ensures { λ r. ⌜ r ≡ isNews (inMask seen) (viewOf (now (table .entry))) site i ⌝ }
+{
+    if !base::in_mask(seen, i) {
+        return false;
+    }
+    if rows::site_at(table, i) == site {
+        return false;
+    }
+    !base::in_mask(referred, i)
+}
+
+// Puts the digest of a place after the list's first references, if there is room; how many there are then.
+fn put_place(table: &[u8], i: usize, count: usize, list: &mut [u8]) -> usize
+    requires { ⌜ Place (now table) i × Room (now list) count ⌝ }
+    ensures { λ r. ⌜ r ≡ count + length (fitting (i ∷ []) count) ⌝ }
+    ensures { λ _. ⌜ now (list .exit) ≡ putDigests (now (table .entry)) (i ∷ []) count (now (list .entry)) ⌝ }
+{
+    if MAX_REFERENCES <= count {
+        return count;
+    }
+    base::put(list, REFERENCE_SIZE * count, rows::digest_at(table, i));
+    count + 1
+}
+
+// Puts those of the places that are news, in place order.
+fn put_news(table: &[u8], seen: u64, site: u8, count: usize, list: &mut [u8]) -> usize
+    requires { ⌜ Places (now table) (countOf (now table)) × Room (now list) count ⌝ }
+    ensures { λ r. ⌜ r ≡ count + length (fitting (newsIn (now (table .entry)) seen site) count) ⌝ }
+    ensures { λ _. ⌜ now (list .exit) ≡ putDigests (now (table .entry)) (newsIn (now (table .entry)) seen site) count (now (list .entry)) ⌝ }
+{
+    let k = rows::count_of(table);
+    let referred = referred_mask(table, seen, site);
+    let mut end = count;
+    let mut i = 0;
+    while i < k {
+        if is_news(table, seen, site, referred, i) {
+            end = put_place(table, i, end, list);
+        }
+        i += 1;
+    }
+    end
+}
+
+// Puts the references to the front of the list; how many they are.
+pub fn pick(table: &[u8], seen: u64, site: u8, next: u16, list: &mut [u8]) -> usize
+    requires { ⌜ Ready (now table) seen site × (next ≡ nextSequence (inMask seen) (viewOf (now table)) site) × (length (now list) ≡ referenceSize * maxReferences) ⌝ }
+    ensures { λ r. ⌜ r ≡ length (picked (inMask seen) (viewOf (now (table .entry))) site) ⌝ }
+    ensures { λ _. ⌜ now (list .exit) ≡ splice (now (list .entry)) 0 (digestsOf (now (table .entry)) (picked (inMask seen) (viewOf (now (table .entry))) site)) ⌝ }
+{
+    let place = greatest_place(table, seen, site, next);
+    if rows::count_of(table) <= place {
+        return put_news(table, seen, site, 0, list);
+    }
+    let own = put_place(table, place, 0, list);
+    put_news(table, seen, site, own, list)
+}

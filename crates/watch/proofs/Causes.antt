@@ -1,0 +1,72 @@
+-- Each refusal of the watch comes under its cause and under no other, and what is answered beside a refusal and without one. Assumes nothing.
+use mathlib.Core.Path.{_≡_, refl, sym, ap, _∙_}
+use mathlib.Core.Bool.{true, false}
+use mathlib.Core.Logic.{_↔_, Iff·trans}
+use Prim.Native.Nat.{ℕ, _≤_, _<_}
+use native.Mathlib.Omega.{arith}
+use lib.Count.{ones}
+use lib.Dec.{eqb}
+use borrow.Author.Tests.{eqb-true, ltb-true, lt-ltb, ltb-false, le-ltb}
+use Rattle.base.specs.Bytes.{Bytes}
+use Rattle.base.proofs.Tests.{by-test, not-true-false}
+use Rattle.table.specs.Layout.{setupOf, countOf, viewOf}
+use Rattle.table.specs.Form.{inForm}
+use Rattle.table.proofs.Checks.{none-refused, past-check, at-check, elsewhere, never-answered, and-then}
+use Rattle.watch.specs.declared.ForkedSites.{ForkedSites}
+use Rattle.watch.specs.declared.AncestorPlaces.{AncestorPlaces}
+use Rattle.watch.specs.Forks.{forkedMask, reported, forks}
+use Rattle.watch.specs.Ancestors.{ancestorMask, ancestorAnswer, ancestors}
+
+module _ (t : Bytes) where
+  -- ---- forks
+
+  pub forks-reported : inForm t ≡ true → forks t ≡ reported (setupOf t) (forkedMask (setupOf t) (viewOf t))
+  unfolding forks
+  forks-reported y = rw y
+
+  pub forks-refused : inForm t ≡ false → forks t ≡ record { refusal = 2; sites = 0; count = 0; «at_most_f» = false }
+  unfolding forks
+  forks-refused n = rw n
+
+  pub forks-two : (forks t .refusal ≡ 2) ↔ (inForm t ≡ false)
+  forks-two = (
+    λ e. not-true-false (inForm t) (λ y. absurd (omega (arith, e, ap (λ (r : ForkedSites). r .refusal) (forks-reported y)))),
+    λ n. ap (λ (r : ForkedSites). r .refusal) (forks-refused n),
+  )
+
+  -- ---- ancestors
+
+  module _ (i : ℕ) where
+    pub ancestors-found : eqb (ancestorAnswer t i .refusal) 0 ≡ true
+        → ancestors t i ≡ record { refusal = 0; places = ancestorMask (viewOf t) i; count = ones (ancestorMask (viewOf t) i) }
+    unfolding ancestors
+    ancestors-found y = rw y
+
+    pub ancestors-refused : eqb (ancestorAnswer t i .refusal) 0 ≡ false → ancestors t i ≡ record { refusal = ancestorAnswer t i .refusal; places = 0; count = 0 }
+    unfolding ancestors
+    ancestors-refused n = rw n
+
+    -- the number is that of the checks
+    ancestors-number : ancestors t i .refusal ≡ ancestorAnswer t i .refusal
+    ancestors-number = by-test (eqb (ancestorAnswer t i .refusal) 0)
+        (λ y. ap (λ (r : AncestorPlaces). r .refusal) (ancestors-found y) ∙ sym (eqb-true _ 0 y))
+        (λ n. ap (λ (r : AncestorPlaces). r .refusal) (ancestors-refused n))
+
+    same-number : (n : ℕ) → (ancestors t i .refusal ≡ n) ↔ (ancestorAnswer t i .refusal ≡ n)
+    same-number n = (λ e. sym ancestors-number ∙ e, λ e. ancestors-number ∙ e)
+
+    pub ancestors-two : (ancestors t i .refusal ≡ 2) ↔ (inForm t ≡ false)
+    unfolding elsewhere
+    ancestors-two = Iff·trans (same-number 2) (at-check _ _ _ (never-answered 2 _ _ refl))
+
+    pub ancestors-thirteen : (ancestors t i .refusal ≡ 13) ↔ ((inForm t ≡ true) × (countOf t ≤ i))
+    unfolding elsewhere
+    ancestors-thirteen = and-then (Iff·trans (same-number 13) (past-check _ _ _ 13 (λ _ e. omega arith)))
+        (Iff·trans (at-check _ _ _ (never-answered 13 _ _ refl)) (λ e. ltb-false _ _ e, λ h. le-ltb _ _ h))
+
+    pub answer-none : (ancestorAnswer t i .refusal ≡ 0) ↔ ((inForm t ≡ true) × (i < countOf t))
+    answer-none = and-then (past-check _ _ _ 0 (λ _ e. omega arith))
+        (Iff·trans (past-check _ _ _ 0 (λ _ e. omega arith)) (λ p. ltb-true _ _ (p .0), λ h. (lt-ltb _ _ h, none-refused 0)))
+
+    pub ancestors-none : (ancestors t i .refusal ≡ 0) ↔ ((inForm t ≡ true) × (i < countOf t))
+    ancestors-none = Iff·trans (same-number 0) answer-none

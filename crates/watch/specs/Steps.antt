@@ -1,0 +1,19 @@
+-- What the contracts of inner functions cite: what an entry point has tested. Nothing here need be believed.
+use mathlib.Core.Bool.{cond}
+use Prim.Native.Nat.{ℕ, zero, suc, _≤_}
+use lib.Bits.{bitOr}
+use Rattle.base.specs.Mask.{inMask}
+use Rattle.base.specs.Bytes.{Bytes}
+use Rattle.setup.specs.Setup.{maxSites}
+use Rattle.table.specs.Layout.{setupOf, countOf, referencesAt}
+use Rattle.table.specs.Steps.{Places}
+
+-- a table with its places, and sites that a mask of sixteen bits has room for
+pub record Ready (t : Bytes) : Type 0 where
+  pub sized : Places t (countOf t)
+  pub few : setupOf t .sites ≤ maxSites
+
+-- a mask of places after each place below k that is in it, from the highest on, has added the places that it refers to
+unfoldable pub gathered : Bytes → ℕ → ℕ → ℕ
+gathered t zero mask = mask
+gathered t (suc k) mask = gathered t k (cond (inMask mask k) (bitOr mask (referencesAt t k)) mask)

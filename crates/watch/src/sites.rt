@@ -1,0 +1,93 @@
+// Which sites have two blocks of one sequence number. The mask `seen` says which places are looked at.
+use table::rows;
+ghost use mathlib.Core.Path.{_≡_};
+ghost use Rattle.base.specs.Search.{anyBelow};
+ghost use Rattle.base.specs.Mask.{inMask};
+ghost use Rattle.table.specs.Layout.{setupOf, countOf, viewOf};
+ghost use Rattle.table.specs.Steps.{Place, Places};
+ghost use Rattle.watch.specs.Forks.{ofSite, ofSequence, repeatedAt, forkedIn, forkedMask};
+ghost use Rattle.watch.specs.Steps.{Ready};
+
+// Every place is looked at.
+pub const EVERYWHERE: u64 = 0xffff_ffff_ffff_ffff;
+
+// Whether the place is looked at and holds a block of the site.
+pub fn of_site(table: &[u8], seen: u64, i: usize, site: u8) -> bool
+    requires { ⌜ Place (now table) i ⌝ }
+    ensures { λ r. ⌜ r ≡ ofSite (viewOf (now (table .entry))) (inMask seen) site i ⌝ }
+{
+    if !base::in_mask(seen, i) {
+        return false;
+    }
+    rows::site_at(table, i) == site
+}
+
+// Whether it has this sequence number too.
+fn of_sequence(table: &[u8], seen: u64, i: usize, site: u8, sequence: u16) -> bool
+    requires { ⌜ Place (now table) i ⌝ }
+    ensures { λ r. ⌜ r ≡ ofSequence (viewOf (now (table .entry))) (inMask seen) site sequence i ⌝ }
+{
+    if !of_site(table, seen, i, site) {
+        return false;
+    }
+    rows::sequence_at(table, i) == sequence
+}
+
+// Whether a place below k does.
+fn any_of_sequence(table: &[u8], seen: u64, k: usize, site: u8, sequence: u16) -> bool
+    requires { ⌜ Places (now table) k ⌝ }
+    ensures { λ r. ⌜ r ≡ anyBelow (ofSequence (viewOf (now (table .entry))) (inMask seen) site sequence) k ⌝ }
+{
+    let mut i = 0;
+    while i < k {
+        if of_sequence(table, seen, i, site, sequence) {
+            return true;
+        }
+        i += 1;
+    }
+    false
+}
+
+// Whether the place is looked at and holds a block of the site, and a lower one holds another of its sequence number.
+fn repeats(table: &[u8], seen: u64, i: usize, site: u8) -> bool
+    requires { ⌜ Place (now table) i ⌝ }
+    ensures { λ r. ⌜ r ≡ repeatedAt (viewOf (now (table .entry))) (inMask seen) site i ⌝ }
+{
+    if !of_site(table, seen, i, site) {
+        return false;
+    }
+    any_of_sequence(table, seen, i, site, rows::sequence_at(table, i))
+}
+
+// Whether two blocks of the site at places looked at share a sequence number.
+pub fn forked(table: &[u8], seen: u64, site: u8) -> bool
+    requires { ⌜ Places (now table) (countOf (now table)) ⌝ }
+    ensures { λ r. ⌜ r ≡ forkedIn (viewOf (now (table .entry))) (inMask seen) site ⌝ }
+{
+    let k = rows::count_of(table);
+    let mut i = 0;
+    while i < k {
+        if repeats(table, seen, i, site) {
+            return true;
+        }
+        i += 1;
+    }
+    false
+}
+
+// The mask of the sites that forked.
+pub fn forked_mask(table: &[u8]) -> u16
+    requires { ⌜ Ready (now table) ⌝ }
+    ensures { λ r. ⌜ r ≡ forkedMask (setupOf (now (table .entry))) (viewOf (now (table .entry))) ⌝ }
+{
+    let n = rows::sites_of(table);
+    let mut mask: u16 = 0;
+    let mut p: u8 = 0;
+    while p < n {
+        if forked(table, EVERYWHERE, p) {
+            mask = mask | (1u16 << p);
+        }
+        p += 1;
+    }
+    mask
+}
