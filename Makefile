@@ -53,7 +53,7 @@ fuzz: harness
 host: prerequisites $(LIBRARIES) $(HOST)/dome
 
 # What the host tests run.
-test-programs: host $(HOST)/digests $(HOST)/calls $(HOST)/core_calls $(HOST)/record_calls harness
+test-programs: host $(HOST)/digests $(HOST)/calls $(HOST)/core_calls $(HOST)/record_calls $(HOST)/watch_calls harness
 
 # Cargo itself sees whether the harness's sources or the libraries changed.
 harness: prerequisites $(LIBRARIES)
@@ -80,7 +80,7 @@ $(HOST)/dome: host/dome.c host/giangotum.h $(C_LIBRARY) | $(HOST)
 $(HOST)/digests $(HOST)/calls: $(HOST)/%: host/tests/%.c host/tests/checks.h host/giangotum.h $(C_LIBRARY) | $(HOST)
 	$(CC) $(CFLAGS) -Ihost -o $@ $< $(C_LIBRARY)
 
-$(HOST)/core_calls $(HOST)/record_calls: $(HOST)/%: host/tests/%.c host/tests/campaigns.h host/tests/checks.h $(HEADERS) $(LIBRARIES) | $(HOST)
+$(HOST)/core_calls $(HOST)/record_calls $(HOST)/watch_calls: $(HOST)/%: host/tests/%.c host/tests/campaigns.h host/tests/checks.h $(HEADERS) $(LIBRARIES) | $(HOST)
 	$(CC) $(CFLAGS) -Ihost -o $@ $< $(LIBRARIES)
 
 $(HOST)/bench_sha256: bench/sha256.c bench/sha256_baseline.c bench/timing.h host/giangotum.h $(C_LIBRARY) | $(HOST)

@@ -22,6 +22,7 @@ static uint16_t records[GT_RECORDS_NUMBERS];
 static uint8_t block[GT_MAX_BLOCK_BYTES];
 static uint8_t digests[SITES][GT_DIGEST_BYTES];
 static uint8_t digest[GT_DIGEST_BYTES];
+static uint8_t output[GT_MAX_BLOCK_BYTES];
 static uint8_t list[9] = {1, SITES};
 static uint64_t answers[2];
 
@@ -76,6 +77,19 @@ static bool call_interpret(void)
     return gt_interpret(table, sizeof table, SITES, records, GT_RECORDS_NUMBERS).refusal == 0;
 }
 
+static bool call_forks(void) { return gt_forks(table, sizeof table).refusal == 0; }
+
+static bool call_ancestors(void) { return gt_ancestors(table, sizeof table, SITES).count == SITES; }
+
+/* The requests are those of the block of 541 bytes, and so is the length: site 1 refers to its own block and to 15 others. */
+static bool call_build(void)
+{
+    const uint8_t *requests = block + sizeof block - 3 * GT_SLOTS;
+    gt_answer answer = gt_build(table, sizeof table, 1, requests, 3 * GT_SLOTS, output, sizeof output);
+
+    return answer.refusal == 0 && answer.value == sizeof output;
+}
+
 /* A list of one call, the same interpretation: its mark is taken back. */
 static bool call_replay(void)
 {
@@ -126,6 +140,9 @@ int main(void)
                  {"gt_in_form", call_in_form},
                  {"gt_admit, 16 references", call_admit},
                  {"gt_interpret, 16 references", call_interpret},
+                 {"gt_forks", call_forks},
+                 {"gt_ancestors", call_ancestors},
+                 {"gt_build, 541 bytes", call_build},
                  {"gt_replay", call_replay}};
 
     prepare();

@@ -1,6 +1,6 @@
-/* What the form check of a full table costs, an admission at its last place and the interpretation of that place, as
- * ratios to the digest of the longest block and to the admission. Every call on a table begins with the form check, and
- * every admission has such a digest in it.
+/* What the form check of a full table costs, an admission at its last place, the interpretation of that place, the watch
+ * and a block built from it, as ratios to the digest of the longest block and to the admission. Every call on a table
+ * begins with the form check, and every admission has such a digest in it.
  * It prints what it measures and judges no speed. An answer other than the expected one ends it with status 1. */
 #include <stdbool.h>
 #include <stdint.h>
@@ -127,6 +127,50 @@ static double time_interpretation(void)
     return taken;
 }
 
+static double time_forks(void)
+{
+    bool all = true;
+    double start = cpu_seconds();
+
+    for (int i = 0; i < CALLS; i++) {
+        gt_forked_sites forks = gt_forks(full, GT_TABLE_BYTES);
+        all = forks.refusal == 0 && forks.count == 0 && all;
+    }
+    double taken = cpu_seconds() - start;
+    expect(all, "the watch named a site");
+    return taken;
+}
+
+/* The last place rests on the three rounds before its own. */
+static double time_ancestors(void)
+{
+    bool all = true;
+    double start = cpu_seconds();
+
+    for (int i = 0; i < CALLS; i++)
+        all = gt_ancestors(full, GT_TABLE_BYTES, LAST_PLACE).count == GT_MAX_PLACES - SITES && all;
+    double taken = cpu_seconds() - start;
+    expect(all, "the last place has other ancestors");
+    return taken;
+}
+
+/* Site 0 refers to its own block of the last round and to the 15 others. */
+static double time_building(void)
+{
+    uint8_t output[GT_MAX_BLOCK_BYTES];
+    const uint8_t *requests = block + GT_MAX_BLOCK_BYTES - 3 * GT_SLOTS;
+    bool all = true;
+    double start = cpu_seconds();
+
+    for (int i = 0; i < CALLS; i++) {
+        gt_answer answer = gt_build(full, GT_TABLE_BYTES, 0, requests, 3 * GT_SLOTS, output, sizeof output);
+        all = answer.refusal == 0 && answer.value == GT_MAX_BLOCK_BYTES && all;
+    }
+    double taken = cpu_seconds() - start;
+    expect(all, "the block built is not of 541 bytes");
+    return taken;
+}
+
 static void divide(double quotient[REPETITIONS], const double seconds[REPETITIONS], const double by[REPETITIONS])
 {
     for (int i = 0; i < REPETITIONS; i++)
@@ -147,6 +191,7 @@ static void print_call(const char *call, double seconds[REPETITIONS], const doub
 int main(void)
 {
     double digest[REPETITIONS], form[REPETITIONS], admission[REPETITIONS], interpretation[REPETITIONS];
+    double forks[REPETITIONS], ancestors[REPETITIONS], building[REPETITIONS];
 
     fill_table();
     interpret_all_but_one();
@@ -154,15 +199,21 @@ int main(void)
     time_form();
     time_admission();
     time_interpretation();
+    time_forks();
+    time_ancestors();
+    time_building();
     for (int i = 0; i < REPETITIONS; i++) {
         digest[i] = time_digest();
         form[i] = time_form();
         admission[i] = time_admission();
         interpretation[i] = time_interpretation();
+        forks[i] = time_forks();
+        ancestors[i] = time_ancestors();
+        building[i] = time_building();
     }
 
-    puts("A full table: its form check, the admission that fills it and the interpretation of its last place, against the");
-    puts("digest of a block of 541 bytes and against that admission.");
+    puts("A full table: its form check, the admission that fills it, the interpretation of its last place, the watch and a");
+    puts("block of 541 bytes built from it, against the digest of a block of 541 bytes and against that admission.");
     puts("The table has 16 sites and 64 blocks: four rounds, each block with references to all 16 of the round before; the");
     puts("last block hears 16 sites in all eight slots.");
     printf("Measured in CPU time: medians of %d repetitions, each a batch of %d calls of each kind in turn, after a batch\n",
@@ -175,5 +226,8 @@ int main(void)
     print_call("gt_in_form, 64 places", form, digest, admission);
     print_call("gt_admit, at place 63", admission, digest, admission);
     print_call("gt_interpret, of place 63", interpretation, digest, admission);
+    print_call("gt_forks, 64 places", forks, digest, admission);
+    print_call("gt_ancestors, of place 63", ancestors, digest, admission);
+    print_call("gt_build, 541 bytes", building, digest, admission);
     return 0;
 }

@@ -8,15 +8,6 @@
 
 #define UNTOUCHED 0xa5
 
-/* A check that is made for several numbers. */
-static void check_with(const char *name, int number, bool ok)
-{
-    char whole[80];
-
-    snprintf(whole, sizeof whole, "%s %d", name, number);
-    check(whole, ok);
-}
-
 /* ---- Two more calls on exact copies. What a call left in its copy of the table is put back. */
 
 static gt_answer fresh(uint8_t sites, const uint8_t *owners, size_t owners_length, table *t, size_t table_length)

@@ -5,8 +5,8 @@ from pathlib import Path
 
 ROOT = Path(__file__).resolve().parents[2]
 BUILT = ROOT / "target" / "host"
-DOME, DIGESTS, CALLS, CORE_CALLS, RECORD_CALLS = (
-    str(BUILT / name) for name in ("dome", "digests", "calls", "core_calls", "record_calls"))
+DOME, DIGESTS, CALLS, CORE_CALLS, RECORD_CALLS, WATCH_CALLS = (
+    str(BUILT / name) for name in ("dome", "digests", "calls", "core_calls", "record_calls", "watch_calls"))
 HARNESS = str(ROOT / "target" / "harness" / "release" / "harness")
 VALGRIND_ERROR = 99
 VALGRIND = ["valgrind", "--quiet", f"--error-exitcode={VALGRIND_ERROR}", "--leak-check=full"]

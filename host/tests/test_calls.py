@@ -1,6 +1,6 @@
-"""The libraries' calls at the edges of what they take: calls.c, core_calls.c and record_calls.c here."""
+"""The libraries' calls at the edges of what they take: calls.c, core_calls.c, record_calls.c and watch_calls.c here."""
 
-from programs import CALLS, CORE_CALLS, RECORD_CALLS, expect_all_ok
+from programs import CALLS, CORE_CALLS, RECORD_CALLS, WATCH_CALLS, expect_all_ok
 
 
 def test_digest_and_reading():
@@ -13,3 +13,7 @@ def test_table_and_admission():
 
 def test_interpretation_and_replay():
     expect_all_ok(RECORD_CALLS)
+
+
+def test_watch_and_building():
+    expect_all_ok(WATCH_CALLS)

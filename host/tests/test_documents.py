@@ -5,10 +5,11 @@ import re
 from programs import ROOT, expect
 
 
-def test_the_theorem_is_quoted_word_for_word():
+def test_the_theorems_are_quoted_word_for_word():
     page = (ROOT / "docs" / "AGREEMENT.md").read_text(encoding="utf-8")
-    source = (ROOT / "crates" / "agreement" / "specs" / "Promises.antt").read_text(encoding="utf-8")
+    specs = ROOT / "crates" / "agreement" / "specs"
+    sources = [(specs / name).read_text(encoding="utf-8") for name in ("Promises.antt", "Watched.antt")]
     quoted = re.findall(r"```antt\n(.*?)```", page, re.DOTALL)
-    expect(len(quoted) == 2, f"{len(quoted)} quotations")
+    expect(len(quoted) == 3, f"{len(quoted)} quotations")
     for text in quoted:
-        expect(text in source, text)
+        expect(any(text in source for source in sources), text)

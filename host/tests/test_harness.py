@@ -5,9 +5,20 @@ import re
 from programs import HARNESS, expect, output_of, run
 
 CASES = 10_000
-FEWEST_MUTANTS = 300
+FEWEST_MUTANTS = 500
 # 1 is no answer of admission: it is for a setup.
-ANSWERS = {"gt_admit": {0, *range(2, 12)}, "gt_interpret": {0, 2, 12, 13, 14, 15}}
+ANSWERS = {"gt_admit": {0, *range(2, 12)}, "gt_interpret": {0, 2, 12, 13, 14, 15}, "gt_forks": {0, 2},
+           "gt_ancestors": {0, 2, 13}, "gt_build": {0, 2, 3, 4, 6, 16, 17}}
+# What else must have been met: else the comparison shows little.
+MET = ["campaigns with a slot delivered at both sites", "up to f forked: two numbers sent, one delivered",
+       "blocks interpreted at both sites", "tables watched with f forked sites", "tables watched with f + 1 forked sites",
+       "tables watched with forks of sequence 0 alone", "tables watched with forks below the greatest alone",
+       "places with 63 ancestors", "blocks built for a site without a held block", "blocks built with nothing of others left",
+       "blocks built with one fewer left than fit", "blocks built with as many left as fit",
+       "blocks built with one more left than fit", "blocks built of 541 bytes", "blocks built on a full table",
+       "blocks built into an output of their length", "blocks built into a longer output", "outputs too short by one byte",
+       "sites forked below their greatest number alone", "built blocks admitted", "built blocks refused with 8",
+       "built blocks refused with 11"]
 
 
 def last_line(text):
@@ -17,14 +28,12 @@ def last_line(text):
 def test_no_difference():
     text = output_of([HARNESS, "--seed", "1", "--cases", str(CASES)])
     expect(last_line(text) == f"{CASES} cases, 0 differences", text)
-    # Each answer was met, and numbers were delivered at both sites though a site forked: else the comparison shows little.
     for call, wanted in ANSWERS.items():
         times = re.findall(rf"^{call} answered +(\d+) +(\d+) times$", text, re.MULTILINE)
         met = {int(answer) for answer, count in times if int(count) > 0}
         expect(met == wanted, f"answers of {call} that were met: {sorted(met)}\n{text}")
     counts = dict(re.findall(r"^ *(\S.*?) +(\d+)$", text, re.MULTILINE))
-    for name in ["campaigns with a slot delivered at both sites", "up to f forked: two numbers sent, one delivered",
-                 "blocks interpreted at both sites"]:
+    for name in MET:
         expect(int(counts.get(name, "0")) > 0, f"{name}\n{text}")
 
 

@@ -4,7 +4,8 @@ import random
 
 import bad_inputs
 import generate
-from programs import CALLS, CORE_CALLS, DOME, RECORD_CALLS, VALGRIND, digests, dome, expect, expect_same_lines, output_of, run
+from programs import (CALLS, CORE_CALLS, DOME, RECORD_CALLS, VALGRIND, WATCH_CALLS, digests, dome, expect, expect_same_lines,
+                      output_of, run)
 from reference import text_of
 from test_examples import ARRIVALS
 
@@ -39,6 +40,10 @@ def test_core_calls():
 
 def test_record_calls():
     output_of([*VALGRIND, RECORD_CALLS])
+
+
+def test_watch_calls():
+    output_of([*VALGRIND, WATCH_CALLS])
 
 
 def test_digests():

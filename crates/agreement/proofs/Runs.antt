@@ -17,7 +17,7 @@ use Rattle.block.specs.Reading.{reading, answerOf}
 use Rattle.block.specs.declared.Answer.{Answer}
 use Rattle.block.specs.declared.Reading.{Reading}
 use Rattle.block.specs.declared.Reading.the-variants.{Block, Misshapen, BadRequest, RepeatedReference}
-use Rattle.setup.specs.Setup.{Setup, lawful}
+use Rattle.setup.specs.Setup.{Setup}
 use Rattle.table.specs.View.{View}
 use Rattle.table.specs.Layout.{setupOf, viewOf, withMark}
 use Rattle.table.specs.Checks.{Check, answerTo}
@@ -30,7 +30,7 @@ use Rattle.interpret.proofs.Parts.{numbers-length, part-written, part-other}
 use Rattle.interpret.proofs.Kept.{whole, low, marked-passed, recorded-passed}
 use Rattle.agreement.specs.History.{History, slotRecord, meaning}
 use Rattle.agreement.specs.Ancestry.{historyOf}
-use Rattle.agreement.specs.Ledger.{Call, admit, interpret, Ledger, empty, taken, viewIn, ledgerAnswer, ledgerStep, ledgerAfter, ledgerAnswers}
+use Rattle.agreement.specs.Ledger.{Call, admit, interpret, Ledger, taken, viewIn, ledgerAnswer, ledgerStep, ledgerAfter, ledgerAnswers}
 use Rattle.agreement.specs.Run.{Site, siteAnswer, siteStep, siteAfter, siteAnswers}
 use Rattle.agreement.proofs.Meanings.{record-sized}
 use Rattle.agreement.proofs.Ancestry.{Grown, history-stays}

@@ -23,7 +23,7 @@ use Rattle.table.specs.Checks.{answerTo}
 use Rattle.table.specs.Promises.{Grown as TableGrown}
 use Rattle.table.proofs.Views.{row-trans, row-sym, held-same, held-in}
 use Rattle.table.proofs.Formed.{formed-of}
-use Rattle.admission.specs.Admission.{lists, rowFor, admissionChecks, admission, admitted}
+use Rattle.admission.specs.Admission.{lists, rowFor, admissionChecks, admission}
 use Rattle.admission.specs.Promises.{Parented}
 use Rattle.interpret.specs.Interpretation.{interpretationChecks, interpretation}
 use Rattle.agreement.specs.Ledger.{Call, admit, interpret, Ledger, taken, viewIn, ledgerAnswer}

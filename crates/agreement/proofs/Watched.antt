@@ -7,22 +7,22 @@ use Prim.Native.Nat.{ℕ, _≤_, _<_}
 use native.Mathlib.Nat.{eq-or-lt-of-le}
 use native.Mathlib.Omega.{arith}
 use native.Mathlib.Decide.{decLt}
-use lib.Dec.{eqb, ltb}
+use lib.Dec.{eqb}
 use lib.ListN.{length}
-use borrow.Author.Tests.{eq-eqb, eqb-true, lt-ltb, ltb-true, not-true}
+use borrow.Author.Tests.{eq-eqb, eqb-true, lt-ltb, not-true}
 use Rattle.base.specs.Bytes.{Bytes, sameBytes}
 use Rattle.base.specs.List.{someIn}
 use Rattle.base.proofs.Tests.{and-left, and-right, same-tests}
 use Rattle.base.proofs.List.{some-found, some-at}
 use Rattle.base.proofs.Bytes.{other-same, same-other}
-use Rattle.base.proofs.Members.{newest, newest-has, newest-from}
+use Rattle.base.proofs.Members.{newest-has, newest-from}
 use Rattle.block.specs.Layout.{siteOf, sequenceOf, referencesOf}
 use Rattle.block.specs.Steps.{Shaped}
 use Rattle.setup.specs.Setup.{Setup, lawful}
 use Rattle.sha256.specs.Sha256.{sha256}
 use Rattle.sha256.proofs.Laws.{sha256-length}
 use Rattle.table.specs.View.{maxPlaces}
-use Rattle.table.specs.Layout.{setupOf, countOf, digestAt, siteAt, sequenceAt, rowAt, viewOf}
+use Rattle.table.specs.Layout.{setupOf, countOf, siteAt, rowAt, viewOf}
 use Rattle.table.proofs.Views.{RowForm, row-form}
 use Rattle.table.proofs.Formed.{formed-of}
 use Rattle.admission.specs.Admission.{lists}

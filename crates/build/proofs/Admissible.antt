@@ -2,7 +2,7 @@
 -- sequence number is not 0, the greatest block of the site is its one parent. Assumes nothing.
 use mathlib.Core.Path.{_≡_, refl, sym, ap, _∙_}
 use mathlib.Core.Bool.{Bool, true, _&&_}
-use mathlib.Core.Logic.{_≢_, _⊎_, inl, inr}
+use mathlib.Core.Logic.{_≢_, inl, inr}
 use Prim.Native.Nat.{ℕ, _+_, _<_}
 use native.Mathlib.Decide.{decLt}
 use native.Mathlib.Omega.{arith}
@@ -19,21 +19,15 @@ use Rattle.table.specs.Layout.{countOf, digestAt, viewOf}
 use Rattle.table.specs.Rules.{parentRow, parents, parentRule}
 use Rattle.table.proofs.Formed.{Formed, formed-of}
 use Rattle.admission.specs.Admission.{lists, rowFor, admission}
-use Rattle.admission.specs.Promises.{Readable, DigestHeld, ReferenceMissing, ParentRule, New, Parented, Causes}
+use Rattle.admission.specs.Promises.{Readable, ReferenceMissing, ParentRule, New, Parented, Causes}
 use Rattle.admission.proofs.Causes.{causes}
 use Rattle.watch.specs.Promises.{Shares}
 use Rattle.build.specs.Building.{nextSequence, isGreatest, picked, nextContent, nextBlock}
-use Rattle.build.specs.Promises.{Asked}
+use Rattle.build.specs.Promises.{Asked, Admissible}
 use Rattle.build.proofs.Sequence.{greatest-site, greatest-before, greatest-only}
 use Rattle.build.proofs.Picked.{pickedAt, picked-held, picked-own, greatest-first}
 use Rattle.build.proofs.Fits.{one-place, as-many-references, reference-at, next-reads}
 use Rattle.build.proofs.Shown.{shown-site, shown-sequence, shown-count, shown-reference, listed-reference, reference-listed}
-
--- the table admits the bytes b, unless it is full or holds their digest
-abbrev pub Admits : (Bytes → Bytes) → Bytes → Bytes → Type 0
-Admits digest t b =
-    (admission digest t b 1 .refusal ≡ 0)
-    ⊎ (((admission digest t b 1 .refusal ≡ 11) × (countOf t ≡ maxPlaces)) ⊎ ((admission digest t b 1 .refusal ≡ 8) × DigestHeld t (digest b)))
 
 module _ (seen : ℕ → Bool) (t : Bytes) (p : ℕ) (requests : Bytes) (all : AllBytes t) (allRequests : AllBytes requests) (asked : Asked t p requests) where
   abbrev v : View
@@ -133,7 +127,7 @@ module _ (seen : ℕ → Bool) (t : Bytes) (p : ℕ) (requests : Bytes) (all : A
         (λ z. rw z)
         (λ z. rw (z, one-parent (λ e. eqb-false (sequenceOf block) 0 z (of-sequence ∙ e))))
 
-    pub next-admissible : Admits digest t block
+    pub next-admissible : Admissible digest t block
     next-admissible = by-test (eqb number 8) (λ y. let e = eqb-true number 8 y in inr (inr (e, cause .eight .0 e .1))) (λ n. new (eqb-false number 8 n))
       where
         number : ℕ
@@ -142,7 +136,7 @@ module _ (seen : ℕ → Bool) (t : Bytes) (p : ℕ) (requests : Bytes) (all : A
         cause : Causes digest t block 1
         cause = causes digest t block 1
 
-        new : number ≢ 8 → Admits digest t block
+        new : number ≢ 8 → Admissible digest t block
         new n =
             let isNew : New digest t block 1 = record { readable = readable; new = λ d. n (cause .eight .1 (readable, d)) } in
             let passes : Parented digest t block 1 = record { linked = record { isNew = isNew; found = found }; parent = parented } in

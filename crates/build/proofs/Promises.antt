@@ -8,10 +8,10 @@ use Rattle.base.specs.Bytes.{Bytes, splice}
 use Rattle.base.proofs.Splice.{splice-part-in, drop-splice}
 use Rattle.table.specs.Layout.{viewOf}
 use Rattle.build.specs.Building.{nextBlock, builtFrom}
-use Rattle.build.specs.Promises.{answer, after, Promised}
+use Rattle.build.specs.Promises.{Admissible, answer, after, Promised}
 use Rattle.build.proofs.Fits.{next-reads}
 use Rattle.build.proofs.Causes.{sixteen, seventeen, none, value}
-use Rattle.build.proofs.Admissible.{Admits, next-admissible}
+use Rattle.build.proofs.Admissible.{next-admissible}
 
 module _ (seen : ℕ → Bool) (t : Bytes) (p : ℕ) (requests output : Bytes) (done : answer seen t p requests output .refusal ≡ 0) where
   abbrev block : Bytes
@@ -42,5 +42,5 @@ promised seen t p requests output =
       rest = rest seen t p requests output;
       admissible = λ all allRequests e digest.
           let able = none seen t p requests output .0 e .0 in
-          subst (Admits digest t) (sym (front seen t p requests output e)) (next-admissible seen t p requests all allRequests (able .asked) (able .unforked) digest);
+          subst (Admissible digest t) (sym (front seen t p requests output e)) (next-admissible seen t p requests all allRequests (able .asked) (able .unforked) digest);
     }

@@ -25,6 +25,14 @@ pub record Asked (t : Bytes) (p : ℕ) (requests : Bytes) : Type 0 where
   pub whole : length requests % requestSize ≡ 0
   pub admissible : (i : ℕ) → i < length requests / requestSize → badRequestAt requests i ≡ false
 
+-- what admission of the bytes to the table answers with verdict 1: "refused only by 11, or by 8 on a shared digest"
+module _ (digest : Bytes → Bytes) (t b : Bytes) where
+  abbrev pub admitted : ℕ
+  admitted = admission digest t b 1 .refusal
+
+  abbrev pub Admissible : Type 0
+  Admissible = (admitted ≡ 0) ⊎ (((admitted ≡ 11) × (countOf t ≡ maxPlaces)) ⊎ ((admitted ≡ 8) × DigestHeld t (digest b)))
+
 module _ (seen : ℕ → Bool) (t : Bytes) (p : ℕ) (requests output : Bytes) where
   abbrev pub answer : Answer
   answer = buildingFrom seen t p requests output
@@ -42,14 +50,6 @@ module _ (seen : ℕ → Bool) (t : Bytes) (p : ℕ) (requests output : Bytes) w
     pub asked : Asked t p requests
     pub unforked : Shares (viewOf t) seen p → ⊥
 
-  -- what admission of the bytes that a success wrote, to that table with verdict 1, answers: "refused only by 11, or by 8 on a shared digest"
-  module _ (digest : Bytes → Bytes) where
-    abbrev pub admitted : ℕ
-    admitted = admission digest t (take needed after) 1 .refusal
-
-    abbrev pub Admissible : Type 0
-    Admissible = (admitted ≡ 0) ⊎ (((admitted ≡ 11) × (countOf t ≡ maxPlaces)) ⊎ ((admitted ≡ 8) × DigestHeld t (digest (take needed after))))
-
   pub record Promised : Type 0 where
     -- each refusal comes under its cause and under no other
     pub sixteen : (answer .refusal ≡ 16) ↔ (Asked t p requests × Shares (viewOf t) seen p)
@@ -62,4 +62,4 @@ module _ (seen : ℕ → Bool) (t : Bytes) (p : ℕ) (requests output : Bytes) w
     -- bytes after the block stay
     pub rest : answer .refusal ≡ 0 → drop needed after ≡ drop needed output
     -- the table admits it
-    pub admissible : AllBytes t → AllBytes requests → answer .refusal ≡ 0 → (digest : Bytes → Bytes) → Admissible digest
+    pub admissible : AllBytes t → AllBytes requests → answer .refusal ≡ 0 → (digest : Bytes → Bytes) → Admissible digest t (take needed after)

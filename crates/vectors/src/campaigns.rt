@@ -1,5 +1,6 @@
 // Campaigns through admission and interpretation, with SHA-256: what each call is answered, and what each block makes in slot 0.
 use crate::line::Line;
+use crate::watching;
 use block::Answer;
 use block::HEADER_SIZE;
 use block::MAX_BLOCK_SIZE;
@@ -30,8 +31,16 @@ const ADMITTED: u8 = b'd';
 // It is named and not brought, so that another can refer to it.
 const NAMED: u8 = b'n';
 
-// The place that stands for the site is interpreted.
+// The place that stands for the site is interpreted, or asked for its ancestors.
 const INTERPRETED: u8 = b'i';
+
+const ASKED: u8 = b'p';
+
+// The watch is asked for forks.
+const WATCHED: u8 = b'f';
+
+// The site builds its next block with these requests; it arrives where it was built.
+const BUILT: u8 = b'b';
 
 fn digit(character: u8) -> u8 {
     if character < b'0' {
@@ -150,7 +159,7 @@ fn wide(x: u16) -> usize {
     x as usize
 }
 
-fn show_answer(call: &[u8], answer: Answer) {
+pub fn show_answer(call: &[u8], answer: Answer) {
     Line::new()
         .text(call)
         .text(b": refusal ")
@@ -259,6 +268,68 @@ fn entry_size(entry: &[u8]) -> usize
     ENTRY_SIZE + count + 1
 }
 
+// The site of the entry at the front builds its next block.
+fn build(table: &mut [u8], records: &mut [u16], entry: &[u8]) {
+    if entry.len() < ENTRY_SIZE {
+        return;
+    }
+    let mut requests = [0u8; MAX_BLOCK_SIZE];
+    let first = put_request(&mut requests, 0, 0, number(entry[3]));
+    let end = put_request(&mut requests, first, 1, number(entry[4]));
+    build_front(table, records, digit(entry[1]), &requests, end);
+}
+
+fn build_front(table: &mut [u8], records: &mut [u16], site: u8, requests: &[u8], end: usize) {
+    if requests.len() < end {
+        return;
+    }
+    let mut room = [0u8; MAX_BLOCK_SIZE];
+    let answer = build::build(table, site, &requests[0..end], &mut room);
+    show_answer(b"build", answer);
+    if answer.refusal != 0 {
+        return;
+    }
+    settle_front(table, records, &room, answer.value);
+}
+
+// The block at the front arrives where it was built.
+fn settle_front(table: &mut [u8], records: &mut [u16], room: &[u8], length: usize) {
+    if room.len() < length {
+        return;
+    }
+    let block = &room[0..length];
+    show_block(block);
+    settle(table, records, ARRIVES, block);
+}
+
+fn show_block(block: &[u8]) {
+    if block.len() < HEADER_SIZE {
+        return;
+    }
+    let site = base::wide(block[0]);
+    let sequence = wide(base::number_of(block[1], block[2]));
+    let references = base::wide(block[3]);
+    let requests = base::wide(block[4]);
+    Line::new()
+        .text(b"site ")
+        .number(site)
+        .text(b" sequence ")
+        .number(sequence)
+        .text(b" references ")
+        .number(references)
+        .text(b" requests ")
+        .number(requests)
+        .show();
+    show_digest(block);
+}
+
+fn show_digest(block: &[u8]) {
+    Line::new()
+        .text(b"digest ")
+        .hexadecimal(&sha256::digest(block))
+        .show();
+}
+
 // What the entry at the front does; how many blocks were named then.
 fn take_step(
     table: &mut [u8],
@@ -277,6 +348,18 @@ fn take_step(
         show_interpreted(table, records, base::wide(digit(entry[1])));
         return named;
     }
+    if entry[0] == ASKED {
+        watching::show_ancestors(table, base::wide(digit(entry[1])));
+        return named;
+    }
+    if entry[0] == WATCHED {
+        watching::show_forks(table);
+        return named;
+    }
+    if entry[0] == BUILT {
+        build(table, records, entry);
+        return named;
+    }
     bring(table, records, digests, named, entry[0], entry);
     named + 1
 }
@@ -291,7 +374,7 @@ fn run(table: &mut [u8], records: &mut [u16], digests: &mut [u8], campaign: &[u8
 }
 
 // Runs a campaign of n sites in which site 0 owns every slot.
-fn show(name: &[u8], sites: u8, campaign: &[u8]) {
+pub fn show(name: &[u8], sites: u8, campaign: &[u8]) {
     Line::new().text(name).show();
     let fresh = table::fresh(sites, [0; SLOTS]);
     let mut table = fresh.table;

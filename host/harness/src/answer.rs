@@ -30,3 +30,24 @@ pub struct Reading {
     pub answer: Answer,
     pub fields: Fields,
 }
+
+/// The sites that the watch names. Beside a refusal mask and count are 0, and they aren't said to be few.
+#[repr(C)]
+#[derive(Clone, Copy, Debug, Default, PartialEq, Eq)]
+pub struct ForkedSites {
+    pub refusal: u8,
+    /// A mask: bit i is site i.
+    pub sites: u16,
+    pub count: u32,
+    pub at_most_f: bool,
+}
+
+/// The ancestors of a place. Beside a refusal mask and count are 0.
+#[repr(C)]
+#[derive(Clone, Copy, Debug, Default, PartialEq, Eq)]
+pub struct AncestorPlaces {
+    pub refusal: u8,
+    /// A mask: bit i is place i.
+    pub places: u64,
+    pub count: u32,
+}

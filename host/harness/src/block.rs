@@ -13,6 +13,23 @@ pub struct Request {
     pub number: u16,
 }
 
+impl Request {
+    /// "slot, number (high byte first)"
+    fn from_bytes(bytes: &[u8]) -> Request {
+        Request { slot: bytes[0], number: u16::from_be_bytes([bytes[1], bytes[2]]) }
+    }
+
+    /// "slot over 7, or number 0"
+    pub fn bad(&self) -> bool {
+        usize::from(self.slot) >= SLOTS || self.number == 0
+    }
+}
+
+/// The requests of a list that stands alone.
+pub fn list_of(requests: &[u8]) -> Vec<Request> {
+    requests.chunks_exact(REQUEST_BYTES).map(Request::from_bytes).collect()
+}
+
 fn byte(block: &[u8], at: usize) -> u8 {
     block.get(at).copied().unwrap_or(0)
 }
@@ -53,9 +70,7 @@ pub fn references(block: &[u8]) -> Vec<Digest> {
 }
 
 pub fn requests(block: &[u8]) -> Vec<Request> {
-    items(block, requests_at(block), REQUEST_BYTES, request_count(block))
-        .map(|item| Request { slot: item[0], number: u16::from_be_bytes([item[1], item[2]]) })
-        .collect()
+    items(block, requests_at(block), REQUEST_BYTES, request_count(block)).map(Request::from_bytes).collect()
 }
 
 /// "If a slot is requested twice in a block, the first counts." 0 if none.
@@ -86,7 +101,7 @@ pub fn misshapen(block: &[u8]) -> Option<usize> {
 
 /// 6: "slot over 7, or number 0", with the index of the first such request.
 pub fn bad_request(block: &[u8]) -> Option<usize> {
-    requests(block).iter().position(|request| usize::from(request.slot) >= SLOTS || request.number == 0)
+    requests(block).iter().position(Request::bad)
 }
 
 /// 7: "a reference equal to an earlier one", with the index of the first such.

@@ -2,13 +2,17 @@
 //!
 //! Every buffer is lent writable, also where a call should only read: so a call that writes there is seen.
 
-use crate::answer::{Answer, Reading};
+use crate::answer::{AncestorPlaces, Answer, ForkedSites, Reading};
 
 pub trait Calls {
     fn fresh(&self, sites: u8, owners: &mut [u8], table: &mut [u8]) -> Answer;
     fn in_form(&self, table: &mut [u8]) -> bool;
     fn admit(&self, table: &mut [u8], block: &mut [u8], verdict: u8) -> Answer;
     fn interpret(&self, table: &mut [u8], place: usize, records: &mut [u16]) -> Answer;
+    fn forks(&self, table: &mut [u8]) -> ForkedSites;
+    fn ancestors(&self, table: &mut [u8], place: usize) -> AncestorPlaces;
+    /// The site's next block, with these requests, is written to the front of the output.
+    fn build(&self, table: &mut [u8], site: u8, requests: &mut [u8], output: &mut [u8]) -> Answer;
     /// How many calls of the list ran.
     fn replay(&self, table: &mut [u8], records: &mut [u16], calls: &mut [u8], answers: &mut [u64]) -> usize;
     fn read_block(&self, block: &mut [u8]) -> Reading;

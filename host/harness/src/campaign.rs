@@ -3,6 +3,7 @@
 use crate::block::Request;
 use crate::draft::Draft;
 use crate::random::Random;
+use crate::setup::faults;
 use crate::sha256::{sha256, Digest};
 use crate::sizes::{MAX_REFERENCES, MAX_REQUESTS, PLACES, SLOTS};
 
@@ -112,7 +113,7 @@ impl Habits {
 
 /// None, at most f, or more. The owner is often among them: from its forks come two numbers.
 fn forking(random: &Random, sites: u8, owner: u8) -> u16 {
-    let faults = usize::from(sites - 1) / 3;
+    let faults = faults(sites) as usize;
     let count = random.pick(&[0, faults.min(1), faults, faults, faults + 1]);
     let mut order: Vec<u8> = (0..sites).collect();
     random.shuffle(&mut order);

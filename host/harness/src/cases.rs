@@ -1,10 +1,12 @@
 //! The cases: what is called in each, drawn from the case's own generator.
 
 mod admissions;
+mod builds;
 mod campaigns;
 mod interpretations;
 mod replays;
 mod setups;
+mod watches;
 
 use std::ops::Range;
 
@@ -21,7 +23,7 @@ pub struct Kind {
     run: fn(&Random, &mut Compare) -> Result<(), Difference>,
 }
 
-pub static KINDS: [Kind; 7] = [
+pub static KINDS: [Kind; 9] = [
     Kind { name: "setups", shares: 1, run: setups::run },
     Kind { name: "arrivals", shares: 2, run: admissions::arrivals },
     Kind { name: "tables", shares: 2, run: admissions::tables_in_form },
@@ -29,6 +31,8 @@ pub static KINDS: [Kind; 7] = [
     Kind { name: "interpretations", shares: 3, run: interpretations::run },
     Kind { name: "campaigns", shares: 2, run: campaigns::run },
     Kind { name: "replays", shares: 2, run: replays::run },
+    Kind { name: "watches", shares: 2, run: watches::run },
+    Kind { name: "builds", shares: 2, run: builds::run },
 ];
 
 /// Which cases are run.

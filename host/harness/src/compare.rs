@@ -2,13 +2,14 @@
 
 use std::fmt::{self, Debug, Display, Formatter};
 
-use crate::answer::Answer;
+use crate::answer::{AncestorPlaces, Answer, ForkedSites};
 use crate::calls::Calls;
 use crate::counts::Counts;
 use crate::lent::{first_other, hex, Lent, Sides};
 use crate::model::Model;
 use crate::record::record_at;
 use crate::replay;
+use crate::sizes::MAX_BLOCK_BYTES;
 use crate::table::{places, Table};
 
 /// Something that the two sides have different, with what they were given.
@@ -37,6 +38,17 @@ pub fn shown(name: &str, bytes: &[u8]) -> (String, String) {
 fn counted(name: &str, number: usize) -> (String, String) {
     (name.to_string(), number.to_string())
 }
+
+/// What a site's next block is built from.
+#[derive(Clone, Copy)]
+pub struct Next<'a> {
+    pub table: &'a [u8],
+    pub site: u8,
+    pub requests: &'a [u8],
+}
+
+/// Bytes behind an output that aren't lent with it: a call that writes past the output's end is seen.
+const BEHIND_OUTPUT: usize = MAX_BLOCK_BYTES;
 
 /// The library, or what stands in its place, beside the model.
 pub struct Compare<'a> {
@@ -131,6 +143,40 @@ impl Compare<'_> {
         })?;
         self.counts.interpretation(answer);
         Ok(answer)
+    }
+
+    pub fn forks(&mut self, table: &[u8]) -> Result<ForkedSites, Difference> {
+        let (answer, _) = self.on_copies("gt_forks", [("table", table)], |calls, [table]| calls.forks(table))?;
+        self.counts.forks(answer);
+        Ok(answer)
+    }
+
+    pub fn ancestors(&mut self, table: &[u8], place: usize) -> Result<AncestorPlaces, Difference> {
+        let asked = self.on_copies("gt_ancestors", [("table", table)], |calls, [table]| calls.ancestors(table, place));
+        let (answer, _) = asked.map_err(|mut difference| {
+            difference.inputs.push(counted("place", place));
+            difference
+        })?;
+        self.counts.ancestors(answer);
+        Ok(answer)
+    }
+
+    /// The answer, and the output afterwards.
+    pub fn build(&mut self, next: &Next, output: &[u8]) -> Result<(Answer, Vec<u8>), Difference> {
+        let room = output.len();
+        let guarded = [output, &[0; BEHIND_OUTPUT]].concat();
+        let site = [next.site];
+        let inputs = [("table", next.table), ("site", &site), ("requests", next.requests), ("output", &guarded)];
+        let built = self.on_copies("gt_build", inputs, |calls, [table, site, requests, output]| {
+            calls.build(table, site[0], requests, &mut output[..room])
+        });
+        let (answer, [_, _, _, mut after]) = built.map_err(|mut difference| {
+            difference.inputs.push(counted("bytes of the output that are lent", room));
+            difference
+        })?;
+        after.truncate(room);
+        self.counts.building(answer);
+        Ok((answer, after))
     }
 
     /// Replays a list. How many calls ran.

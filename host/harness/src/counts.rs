@@ -1,16 +1,36 @@
 //! What a run has met, so that its summary shows whether the cases reach what they should.
 
+mod built;
 mod campaigns;
+mod watched;
 
 use std::fmt::{self, Display, Formatter};
 
-use crate::answer::Answer;
+use crate::answer::{AncestorPlaces, Answer, ForkedSites};
+use built::BuiltBlocks;
 use campaigns::Campaigns;
+use watched::Watched;
 
-/// Admission's refusal numbers end at 11.
-const ADMISSION_ANSWERS: usize = 12;
-/// What interpretation answers.
-const INTERPRETATION_ANSWERS: [u8; 6] = [0, 2, 12, 13, 14, 15];
+/// How often a call gave each answer, by its refusal number: these end at 17.
+#[derive(Default)]
+struct Answered([u64; 18]);
+
+/// What each call answers.
+const ADMISSION_ANSWERS: &[u8] = &[0, 2, 3, 4, 5, 6, 7, 8, 9, 10, 11];
+const INTERPRETATION_ANSWERS: &[u8] = &[0, 2, 12, 13, 14, 15];
+const FORKS_ANSWERS: &[u8] = &[0, 2];
+const ANCESTORS_ANSWERS: &[u8] = &[0, 2, 13];
+const BUILDING_ANSWERS: &[u8] = &[0, 2, 3, 4, 6, 16, 17];
+
+impl Answered {
+    fn note(&mut self, refusal: u8) {
+        self.0[usize::from(refusal)] += 1;
+    }
+
+    fn all(&self) -> u64 {
+        self.0.iter().sum()
+    }
+}
 
 #[derive(Default)]
 pub struct Counts {
@@ -19,8 +39,13 @@ pub struct Counts {
     pub reading: u64,
     pub digest: u64,
     pub campaigns: Campaigns,
-    admissions: [u64; ADMISSION_ANSWERS],
-    interpretations: [u64; INTERPRETATION_ANSWERS.len()],
+    pub watched: Watched,
+    pub built: BuiltBlocks,
+    admissions: Answered,
+    interpretations: Answered,
+    forks: Answered,
+    ancestors: Answered,
+    buildings: Answered,
     replays: u64,
     /// The calls that ran in replays.
     replayed: u64,
@@ -38,12 +63,23 @@ impl Counts {
     }
 
     pub fn admission(&mut self, answer: Answer) {
-        self.admissions[usize::from(answer.refusal)] += 1;
+        self.admissions.note(answer.refusal);
     }
 
     pub fn interpretation(&mut self, answer: Answer) {
-        let index = INTERPRETATION_ANSWERS.iter().position(|&number| number == answer.refusal);
-        self.interpretations[index.expect("an answer of interpretation")] += 1;
+        self.interpretations.note(answer.refusal);
+    }
+
+    pub fn forks(&mut self, answer: ForkedSites) {
+        self.forks.note(answer.refusal);
+    }
+
+    pub fn ancestors(&mut self, answer: AncestorPlaces) {
+        self.ancestors.note(answer.refusal);
+    }
+
+    pub fn building(&mut self, answer: Answer) {
+        self.buildings.note(answer.refusal);
     }
 
     pub fn replay(&mut self, calls: usize) {
@@ -54,21 +90,28 @@ impl Counts {
 
 impl Display for Counts {
     fn fmt(&self, to: &mut Formatter) -> fmt::Result {
+        let answered = [
+            ("gt_admit", &self.admissions, ADMISSION_ANSWERS),
+            ("gt_interpret", &self.interpretations, INTERPRETATION_ANSWERS),
+            ("gt_forks", &self.forks, FORKS_ANSWERS),
+            ("gt_ancestors", &self.ancestors, ANCESTORS_ANSWERS),
+            ("gt_build", &self.buildings, BUILDING_ANSWERS),
+        ];
         writeln!(to, "gt_fresh      {:>8} calls", self.fresh)?;
         writeln!(to, "gt_in_form    {:>8} calls", self.in_form + self.not_in_form)?;
-        writeln!(to, "gt_admit      {:>8} calls", self.admissions.iter().sum::<u64>())?;
-        writeln!(to, "gt_interpret  {:>8} calls", self.interpretations.iter().sum::<u64>())?;
+        for (name, answers, _) in &answered {
+            writeln!(to, "{name:<13} {:>8} calls", answers.all())?;
+        }
         writeln!(to, "gt_replay     {:>8} calls of {} in all", self.replays, self.replayed)?;
         writeln!(to, "gt_read_block {:>8} calls", self.reading)?;
         writeln!(to, "gt_digest     {:>8} calls", self.digest)?;
-        for (refusal, times) in self.admissions.iter().enumerate() {
-            writeln!(to, "gt_admit answered {refusal:>2} {times:>8} times")?;
-        }
-        for (refusal, times) in INTERPRETATION_ANSWERS.iter().zip(self.interpretations) {
-            writeln!(to, "gt_interpret answered {refusal:>2} {times:>8} times")?;
+        for (name, answers, numbers) in &answered {
+            for &number in *numbers {
+                writeln!(to, "{name} answered {number:>2} {:>8} times", answers.0[usize::from(number)])?;
+            }
         }
         writeln!(to, "tables in form     {:>8}", self.in_form)?;
         writeln!(to, "tables not in form {:>8}", self.not_in_form)?;
-        write!(to, "{}", self.campaigns)
+        write!(to, "{}{}{}", self.campaigns, self.watched, self.built)
     }
 }

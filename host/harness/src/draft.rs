@@ -22,12 +22,14 @@ impl Draft {
         bytes.push(self.references.len() as u8);
         bytes.push(self.requests.len() as u8);
         bytes.extend(self.references.iter().flatten());
-        for request in &self.requests {
-            bytes.push(request.slot);
-            bytes.extend(request.number.to_be_bytes());
-        }
+        bytes.extend(list_bytes(&self.requests));
         bytes
     }
+}
+
+/// A list of requests as bytes.
+pub fn list_bytes(requests: &[Request]) -> Vec<u8> {
+    requests.iter().flat_map(|request| [&[request.slot][..], &request.number.to_be_bytes()].concat()).collect()
 }
 
 /// 0, 1 and the most often, since mistakes lie there.
@@ -45,14 +47,22 @@ fn some_number(random: &Random) -> u16 {
 // ---- Lawful
 
 /// A site, a sequence number and a set of places that keep the parent rule on top of the table's places.
-pub fn lineage(random: &Random, table: &Table) -> (u8, u16, u64) {
+pub type Lineage = (u8, u16, u64);
+
+/// That of any site, which often forks.
+pub fn lineage(random: &Random, table: &Table) -> Lineage {
     let site = random.below(table.sites.into()) as u8;
-    let own: Vec<usize> = (0..table.count).filter(|&place| table.rows[place].site == site).collect();
+    let own: Vec<usize> = table.own(site).collect();
     // The last own block often, so that chains grow long; any other one makes a fork.
     let parent = match own.last() {
         Some(&last) if !random.one_in(4) => Some(if random.one_in(3) { random.pick(&own) } else { last }),
         _ => None,
     };
+    lineage_of(random, table, site, parent)
+}
+
+/// That of a site on top of a block of its own; without one, of sequence number 0.
+pub fn lineage_of(random: &Random, table: &Table, site: u8, parent: Option<usize>) -> Lineage {
     let sequence = parent.map_or(0, |place| table.rows[place].sequence + 1);
     let second_parent = |place: usize| {
         let row = &table.rows[place];
@@ -71,13 +81,17 @@ pub fn lawful(random: &Random, table: &Table) -> Draft {
     let (site, sequence, set) = lineage(random, table);
     let mut references: Vec<Digest> = places(set).map(|place| table.rows[place].digest).collect();
     random.shuffle(&mut references);
+    Draft { site, sequence, references, requests: some_requests(random), verdict: 1 }
+}
+
+/// As many as a block may have.
+pub fn some_requests(random: &Random) -> Vec<Request> {
     let count = some_count(random, MAX_REQUESTS);
     // Few slots make it likely that one is requested twice.
     let slots = random.pick(&[1, 2, SLOTS, SLOTS]);
     let first = random.between(0, SLOTS - slots);
     let request = |random: &Random| Request { slot: (first + random.below(slots)) as u8, number: some_number(random) };
-    let requests = (0..count).map(|_| request(random)).collect();
-    Draft { site, sequence, references, requests, verdict: 1 }
+    (0..count).map(|_| request(random)).collect()
 }
 
 // ---- Faults. Each breaks one rule, where the draft and the table have what it takes.
@@ -88,8 +102,8 @@ type Fault = fn(&Random, &Table, &mut Draft);
 const FAULTS: [Fault; 14] = [
     bad_site,
     bad_verdict,
-    bad_request,
-    bad_request,
+    |random, _, draft| bad_request(random, &mut draft.requests),
+    |random, _, draft| bad_request(random, &mut draft.requests),
     repeated_reference,
     repeated_reference,
     missing_reference,
@@ -122,20 +136,24 @@ fn put_in<T>(random: &Random, list: &mut Vec<T>, most: usize, item: T) {
 }
 
 fn bad_site(random: &Random, table: &Table, draft: &mut Draft) {
+    draft.site = site_from_n_on(random, table);
+}
+
+pub fn site_from_n_on(random: &Random, table: &Table) -> u8 {
     let n = table.sites;
-    draft.site = random.pick(&[n, n, n + 1, 255, random.byte().max(n)]);
+    random.pick(&[n, n, n + 1, 255, random.byte().max(n)])
 }
 
 pub fn bad_verdict(random: &Random, _: &Table, draft: &mut Draft) {
     draft.verdict = random.pick(&[0, 2, 3, 129, 255, random.byte()]);
 }
 
-fn bad_request(random: &Random, _: &Table, draft: &mut Draft) {
+pub fn bad_request(random: &Random, requests: &mut Vec<Request>) {
     let slot = random.below(SLOTS) as u8;
     let beyond = random.pick(&[SLOTS as u8, SLOTS as u8, 255, random.byte().max(SLOTS as u8)]);
     let number = some_number(random);
     let (slot, number) = random.pick(&[(slot, 0), (beyond, number), (beyond, 0)]);
-    put_in(random, &mut draft.requests, MAX_REQUESTS, Request { slot, number });
+    put_in(random, requests, MAX_REQUESTS, Request { slot, number });
 }
 
 fn repeated_reference(random: &Random, _: &Table, draft: &mut Draft) {

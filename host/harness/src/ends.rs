@@ -1,7 +1,9 @@
 //! What the calls of two sites left, seen together.
 
+use crate::answer::ForkedSites;
 use crate::lent::Lent;
 use crate::record::{part_of, record_at, Act};
+use crate::setup::faults;
 use crate::sha256::Digest;
 use crate::table::Table;
 
@@ -9,6 +11,8 @@ use crate::table::Table;
 pub struct Site<'a> {
     pub lent: &'a Lent,
     pub table: Table,
+    /// What the watch says of the table.
+    pub watched: ForkedSites,
 }
 
 pub struct Ends<'a> {
@@ -41,8 +45,8 @@ impl Site<'_> {
 }
 
 impl<'a> Ends<'a> {
-    pub fn of(one: &'a Lent, other: &'a Lent) -> Ends<'a> {
-        let sites = [one, other].map(|lent| Site { lent, table: Table::from_bytes(&lent.table) });
+    pub fn of(sites: [(&'a Lent, ForkedSites); 2]) -> Ends<'a> {
+        let sites = sites.map(|(lent, watched)| Site { lent, table: Table::from_bytes(&lent.table), watched });
         let forked = forked(&sites);
         Ends { sites, forked }
     }
@@ -52,13 +56,13 @@ impl<'a> Ends<'a> {
         self.sites[0].table.sites
     }
 
-    pub fn any_forked(&self) -> bool {
-        self.forked != 0
+    pub fn forked(&self) -> u16 {
+        self.forked
     }
 
     /// Whether at most f sites forked.
     pub fn few_forked(&self) -> bool {
-        self.forked.count_ones() <= u32::from(self.site_count() - 1) / 3
+        self.forked.count_ones() <= faults(self.site_count())
     }
 
     /// The blocks that are interpreted at both sites, by their places.

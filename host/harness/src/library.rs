@@ -1,6 +1,6 @@
 //! The library's C functions as `Calls`. The only unsafe code of the harness.
 
-use crate::answer::{Answer, Reading};
+use crate::answer::{AncestorPlaces, Answer, ForkedSites, Reading};
 use crate::calls::Calls;
 
 // libcore_interface.a
@@ -14,6 +14,17 @@ extern "C" {
         place: usize,
         records: *mut u16,
         records_length: usize,
+    ) -> Answer;
+    fn gt_forks(table: *const u8, table_length: usize) -> ForkedSites;
+    fn gt_ancestors(table: *const u8, table_length: usize, place: usize) -> AncestorPlaces;
+    fn gt_build(
+        table: *const u8,
+        table_length: usize,
+        site: u8,
+        requests: *const u8,
+        requests_length: usize,
+        output: *mut u8,
+        output_length: usize,
     ) -> Answer;
     fn gt_replay(
         table: *mut u8,
@@ -53,6 +64,28 @@ impl Calls for Library {
 
     fn interpret(&self, table: &mut [u8], place: usize, records: &mut [u16]) -> Answer {
         unsafe { gt_interpret(table.as_mut_ptr(), table.len(), place, records.as_mut_ptr(), records.len()) }
+    }
+
+    fn forks(&self, table: &mut [u8]) -> ForkedSites {
+        unsafe { gt_forks(table.as_mut_ptr(), table.len()) }
+    }
+
+    fn ancestors(&self, table: &mut [u8], place: usize) -> AncestorPlaces {
+        unsafe { gt_ancestors(table.as_mut_ptr(), table.len(), place) }
+    }
+
+    fn build(&self, table: &mut [u8], site: u8, requests: &mut [u8], output: &mut [u8]) -> Answer {
+        unsafe {
+            gt_build(
+                table.as_mut_ptr(),
+                table.len(),
+                site,
+                requests.as_mut_ptr(),
+                requests.len(),
+                output.as_mut_ptr(),
+                output.len(),
+            )
+        }
     }
 
     fn replay(&self, table: &mut [u8], records: &mut [u16], calls: &mut [u8], answers: &mut [u64]) -> usize {

@@ -1,8 +1,9 @@
 //! The model: the calls answered by the document's rules. Nothing of the library is used.
 
 use crate::admission::{self, Arrival};
-use crate::answer::{Answer, Fields, Reading};
+use crate::answer::{AncestorPlaces, Answer, Fields, ForkedSites, Reading};
 use crate::block;
+use crate::building::{Building, Task};
 use crate::calls::Calls;
 use crate::checks::{first_refusal, Check};
 use crate::form::{self, Condition};
@@ -12,6 +13,7 @@ use crate::setup;
 use crate::sha256::{sha256, Digest};
 use crate::sizes::{DIGEST_BYTES, PLACES, SLOTS, TABLE_BYTES};
 use crate::table::{Row, Table};
+use crate::watch::{Question, Watch};
 
 /// What a fresh table is asked for with.
 pub struct Wanted {
@@ -28,6 +30,8 @@ pub struct Model {
     pub row: fn(&Arrival) -> Row,
     pub put: fn(&mut Table, Row),
     pub interpretation: Interpretation,
+    pub watch: Watch,
+    pub building: Building,
     pub replay: Replay,
     pub reading: Vec<Check<[u8]>>,
     pub fields: fn(&[u8]) -> Fields,
@@ -46,6 +50,8 @@ impl Model {
             row: admission::row,
             put: admission::put,
             interpretation: Interpretation::document(),
+            watch: Watch::document(),
+            building: Building::document(),
             replay: Replay::document(),
             // "Reading checks 3, 6 and 7".
             reading: vec![
@@ -56,6 +62,13 @@ impl Model {
             fields: block::fields,
             digest: sha256,
         }
+    }
+
+    /// A table's bytes as fields, and whether it is in form.
+    fn held(&self, table: &[u8]) -> (Table, bool) {
+        let held = Table::from_bytes(table);
+        let in_form = form::in_form(&self.form, &held);
+        (held, in_form)
     }
 }
 
@@ -71,12 +84,11 @@ impl Calls for Model {
     }
 
     fn in_form(&self, table: &mut [u8]) -> bool {
-        form::in_form(&self.form, &Table::from_bytes(table))
+        self.held(table).1
     }
 
     fn admit(&self, table: &mut [u8], block: &mut [u8], verdict: u8) -> Answer {
-        let held = Table::from_bytes(table);
-        let in_form = form::in_form(&self.form, &held);
+        let (held, in_form) = self.held(table);
         let arrival = Arrival { table: held, in_form, block: block.to_vec(), digest: sha256(block), verdict };
         if let Some(refusal) = first_refusal(&self.admission, &arrival) {
             return refusal;
@@ -90,8 +102,7 @@ impl Calls for Model {
     }
 
     fn interpret(&self, table: &mut [u8], place: usize, records: &mut [u16]) -> Answer {
-        let held = Table::from_bytes(table);
-        let in_form = form::in_form(&self.form, &held);
+        let (held, in_form) = self.held(table);
         let asked = Asked { table: held, in_form, place, numbers: records.len() };
         if let Some(refusal) = first_refusal(&self.interpretation.checks, &asked) {
             return refusal;
@@ -105,6 +116,30 @@ impl Calls for Model {
             held.write(table);
         }
         Answer::success(0)
+    }
+
+    fn forks(&self, table: &mut [u8]) -> ForkedSites {
+        let (table, in_form) = self.held(table);
+        self.watch.forks(&Question { table, in_form, place: 0 })
+    }
+
+    fn ancestors(&self, table: &mut [u8], place: usize) -> AncestorPlaces {
+        let (table, in_form) = self.held(table);
+        self.watch.ancestors(&Question { table, in_form, place })
+    }
+
+    fn build(&self, table: &mut [u8], site: u8, requests: &mut [u8], output: &mut [u8]) -> Answer {
+        let (table, in_form) = self.held(table);
+        let block = self.building.block(&table, site, requests);
+        let task = Task { table, in_form, site, requests: requests.to_vec(), block, room: output.len() };
+        if let Some(refusal) = first_refusal(&self.building.checks, &task) {
+            return refusal;
+        }
+        // Only a model without check 17 comes here with an output that is too short.
+        if task.block.len() <= output.len() {
+            (self.building.write)(output, &task.block);
+        }
+        Answer::success(task.block.len())
     }
 
     /// As if the calls of the list had been made one after the other.

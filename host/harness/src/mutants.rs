@@ -4,6 +4,7 @@
 //! buffers that it was lent.
 
 mod admission;
+mod building;
 mod form;
 mod fresh;
 mod interpretation;
@@ -11,16 +12,19 @@ mod meaning;
 mod process;
 mod reading;
 mod replay;
+mod watch;
 
 use crate::admission::Arrival;
-use crate::answer::{Answer, Reading};
+use crate::answer::{AncestorPlaces, Answer, ForkedSites, Reading};
+use crate::building::Task;
 use crate::calls::Calls;
 use crate::checks::Check;
 use crate::interpretation::Asked;
-use crate::laws::{EQUAL_PARTS, ONE_NUMBER, REQUESTED};
+use crate::laws::*;
 use crate::model::{Model, Wanted};
 use crate::process::Process;
 use crate::table::Table;
+use crate::watch::Question;
 
 pub struct Mutant {
     pub name: String,
@@ -29,6 +33,9 @@ pub struct Mutant {
     after_form: AfterForm,
     after_admission: AfterCall,
     after_interpretation: AfterInterpretation,
+    after_forks: AfterForks,
+    after_ancestors: AfterAncestors,
+    after_building: AfterBuilding,
     after_replay: AfterReplay,
     after_reading: AfterReading,
     after_digest: AfterCall,
@@ -38,8 +45,19 @@ pub struct Mutant {
 type AfterForm = Box<dyn Fn(bool, &mut [u8]) -> bool>;
 type AfterReading = Box<dyn Fn(Reading, &mut [u8]) -> Reading>;
 type AfterInterpretation = Box<dyn Fn(Answer, &mut [u8], usize, &mut [u16]) -> Answer>;
+type AfterForks = Box<dyn Fn(ForkedSites, &mut [u8]) -> ForkedSites>;
+type AfterAncestors = Box<dyn Fn(AncestorPlaces, &mut [u8], usize) -> AncestorPlaces>;
+type AfterBuilding = Box<dyn Fn(Answer, Building) -> Answer>;
 type AfterReplay = Box<dyn Fn(usize, &mut [u8], &mut [u16], &mut [u8], &mut [u64]) -> usize>;
 type AfterCall = Box<dyn Fn(Answer, &mut [u8], &mut [u8]) -> Answer>;
+
+/// What building was given: two buffers that it reads, and the output.
+struct Building<'a> {
+    table: &'a mut [u8],
+    site: u8,
+    requests: &'a mut [u8],
+    output: &'a mut [u8],
+}
 
 /// A mistake by its name.
 type Mistake = (&'static str, fn(&mut Mutant));
@@ -49,6 +67,8 @@ pub fn all() -> Vec<Mutant> {
     let mut mutants = form::conditions_left_out();
     mutants.extend(admission::checks_exchanged());
     mutants.extend(interpretation::checks_exchanged());
+    mutants.extend(watch::checks_exchanged());
+    mutants.extend(building::checks_exchanged());
     mutants.extend(reading::checks_exchanged());
     mutants.extend(listed);
     mutants
@@ -56,13 +76,27 @@ pub fn all() -> Vec<Mutant> {
 
 /// Mutants that break a law when they stand on both sides, where no call differs, each with the law.
 pub fn lawless() -> Vec<(Mutant, &'static str)> {
-    let names: [(&[&str], &str); 6] = [
+    let names: [(&[&str], &str); 20] = [
         (&[meaning::ARRIVAL_ORDER], EQUAL_PARTS),
         (&[meaning::STATE_OF_HIGHEST], EQUAL_PARTS),
         (&[meaning::STATE_OF_OTHER_BRANCH], EQUAL_PARTS),
         (&[process::DELIVERING_AT_SEND], ONE_NUMBER),
         (&[process::ECHO_QUORUM_F_PLUS_1, process::DELIVERY_AT_F_PLUS_1], ONE_NUMBER),
         (&[process::SEND_FROM_ANYONE, meaning::REQUEST_OF_ANYONE], REQUESTED),
+        (&[watch::SITES_NOT_COMPARED], WATCHED),
+        (&[watch::FOUR_BITS_COUNTED], ONES),
+        (&[watch::FEWER_THAN_F], THIRD),
+        (&[watch::NOBODY_NAMED], MORE_BLOCKS),
+        (&[watch::ITSELF], LOWER),
+        (&[watch::ONE_LEVEL], CLOSED),
+        (&[building::GREATEST_TWINS_ALONE], NAMED),
+        (&[building::SEQUENCE_OF_GREATEST], READS_BACK),
+        (&[building::REQUESTS_IN_REVERSE], READS_BACK),
+        (&[building::DESCENDING], REFERS),
+        (&[building::EMPTY_BLOCK], REFERS),
+        (&[building::REST_CLEARED], REST_STAYS),
+        (&[building::WITHOUT_GREATEST], LET_IN),
+        (&[building::SEVENTEEN_REFERENCES], LET_IN),
     ];
     names.into_iter().map(|(names, law)| (Mutant::of(names), law)).collect()
 }
@@ -70,7 +104,8 @@ pub fn lawless() -> Vec<(Mutant, &'static str)> {
 fn mistakes() -> Vec<Mistake> {
     let tables = [form::MISTAKES, admission::MISTAKES, fresh::MISTAKES, reading::MISTAKES];
     let records = [process::MISTAKES, meaning::MISTAKES, interpretation::MISTAKES, replay::MISTAKES];
-    [tables.concat(), records.concat()].concat()
+    let readers = [watch::FORK_MISTAKES, watch::ANCESTOR_MISTAKES, building::MISTAKES];
+    [tables.concat(), records.concat(), readers.concat()].concat()
 }
 
 impl Mutant {
@@ -98,6 +133,9 @@ impl Mutant {
             after_form: Box::new(|answer, _| answer),
             after_admission: Box::new(|answer, _, _| answer),
             after_interpretation: Box::new(|answer, _, _, _| answer),
+            after_forks: Box::new(|answer, _| answer),
+            after_ancestors: Box::new(|answer, _, _| answer),
+            after_building: Box::new(|answer, _| answer),
             after_replay: Box::new(|ran, _, _, _, _| ran),
             after_reading: Box::new(|reading, _| reading),
             after_digest: Box::new(|answer, _, _| answer),
@@ -127,6 +165,16 @@ impl Mutant {
         exchange(&mut self.model.interpretation.checks, number, finds);
     }
 
+    /// Exchanges a check of the ancestors.
+    fn ancestors(&mut self, number: u8, finds: fn(&Question) -> Option<usize>) {
+        exchange(&mut self.model.watch.ancestor_checks, number, finds);
+    }
+
+    /// Exchanges a check of building.
+    fn building(&mut self, number: u8, finds: fn(&Task) -> Option<usize>) {
+        exchange(&mut self.model.building.checks, number, finds);
+    }
+
     /// The rules of one slot's process.
     fn process(&mut self) -> &mut Process {
         &mut self.model.interpretation.process
@@ -151,6 +199,18 @@ impl Mutant {
 
     fn after_interpretation(&mut self, after: impl Fn(Answer, &mut [u8], usize, &mut [u16]) -> Answer + 'static) {
         self.after_interpretation = Box::new(after);
+    }
+
+    fn after_forks(&mut self, after: impl Fn(ForkedSites, &mut [u8]) -> ForkedSites + 'static) {
+        self.after_forks = Box::new(after);
+    }
+
+    fn after_ancestors(&mut self, after: impl Fn(AncestorPlaces, &mut [u8], usize) -> AncestorPlaces + 'static) {
+        self.after_ancestors = Box::new(after);
+    }
+
+    fn after_building(&mut self, after: impl Fn(Answer, Building) -> Answer + 'static) {
+        self.after_building = Box::new(after);
     }
 
     fn after_replay(&mut self, after: impl Fn(usize, &mut [u8], &mut [u16], &mut [u8], &mut [u64]) -> usize + 'static) {
@@ -199,6 +259,21 @@ impl Calls for Mutant {
     fn interpret(&self, table: &mut [u8], place: usize, records: &mut [u16]) -> Answer {
         let answer = self.model.interpret(table, place, records);
         (self.after_interpretation)(answer, table, place, records)
+    }
+
+    fn forks(&self, table: &mut [u8]) -> ForkedSites {
+        let answer = self.model.forks(table);
+        (self.after_forks)(answer, table)
+    }
+
+    fn ancestors(&self, table: &mut [u8], place: usize) -> AncestorPlaces {
+        let answer = self.model.ancestors(table, place);
+        (self.after_ancestors)(answer, table, place)
+    }
+
+    fn build(&self, table: &mut [u8], site: u8, requests: &mut [u8], output: &mut [u8]) -> Answer {
+        let answer = self.model.build(table, site, requests, output);
+        (self.after_building)(answer, Building { table, site, requests, output })
     }
 
     fn replay(&self, table: &mut [u8], records: &mut [u16], calls: &mut [u8], answers: &mut [u64]) -> usize {

@@ -1,6 +1,7 @@
 //! Document 01, "One slot's process": it takes one message at a time and is changed by it.
 
 use crate::record::{Act, Record};
+use crate::setup::faults;
 
 /// A message. The order of its fields is the order in which messages are heard: kind, then lower sender, then lower
 /// number.
@@ -21,9 +22,8 @@ pub struct Slot {
 }
 
 impl Slot {
-    /// The document's f: "n = 3f + 1".
     pub fn faults(&self) -> u32 {
-        u32::from(self.sites.saturating_sub(1)) / 3
+        faults(self.sites)
     }
 
     /// 2f + 1

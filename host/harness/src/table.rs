@@ -61,6 +61,11 @@ impl Table {
         self.held().iter().position(|row| row.digest == *digest)
     }
 
+    /// The places that hold a site's blocks, lowest first.
+    pub fn own(&self, site: u8) -> impl DoubleEndedIterator<Item = usize> + '_ {
+        (0..self.held().len()).filter(move |&place| self.rows[place].site == site)
+    }
+
     /// "any other has among its references exactly one block of its own site with the sequence number one less":
     /// how many there are. The sequence number isn't 0.
     pub fn parents(&self, site: u8, sequence: u16, references: u64) -> usize {

@@ -1,6 +1,6 @@
 //! Random setups, and random tables in form, most of which no calls reach.
 
-use crate::draft::lineage;
+use crate::draft::{lineage, Lineage};
 use crate::random::Random;
 use crate::sha256::Digest;
 use crate::sizes::{DIGEST_BYTES, PLACES, SITE_COUNTS};
@@ -16,21 +16,42 @@ pub fn empty(random: &Random) -> Table {
 /// A table in form, with 0 to 64 places. Full tables and nearly full ones come often.
 pub fn in_form(random: &Random) -> Table {
     let mut table = empty(random);
-    let any = random.between(0, PLACES);
-    let count = random.pick(&[PLACES, PLACES - 1, random.between(0, 3), any, any, any]);
-    let zero_digest_at = random.below(4 * PLACES);
-    // Marks are many or few; a table with a mark wherever one may be shows more than one without.
-    let unmarked_one_in = random.pick(&[1, 2, 8, 64]);
+    let count = some_count(random);
+    let growth = Growth::drawn(random);
     while table.count < count {
-        let (site, sequence, references) = lineage(random, &table);
+        let lineage = lineage(random, &table);
+        growth.add(random, &mut table, lineage);
+    }
+    table
+}
+
+pub fn some_count(random: &Random) -> usize {
+    let any = random.between(0, PLACES);
+    random.pick(&[PLACES, PLACES - 1, random.between(0, 3), any, any, any])
+}
+
+/// What the places of a table have besides their lineage.
+pub struct Growth {
+    zero_digest_at: usize,
+    unmarked_one_in: usize,
+}
+
+impl Growth {
+    pub fn drawn(random: &Random) -> Growth {
+        let zero_digest_at = random.below(4 * PLACES);
+        // Marks are many or few; a table with a mark wherever one may be shows more than one without.
+        Growth { zero_digest_at, unmarked_one_in: random.pick(&[1, 2, 8, 64]) }
+    }
+
+    /// Adds a place, for which there is room.
+    pub fn add(&self, random: &Random, table: &mut Table, (site, sequence, references): Lineage) {
         let markable = places(references).all(|place| table.rows[place].mark == 1);
-        let digest = if table.count == zero_digest_at { [0; DIGEST_BYTES] } else { new_digest(random, &table) };
+        let digest = if table.count == self.zero_digest_at { [0; DIGEST_BYTES] } else { new_digest(random, table) };
         let requests = std::array::from_fn(|_| random.pick(&[0, 1, random.number()]));
-        let mark = u8::from(markable && !random.one_in(unmarked_one_in));
+        let mark = u8::from(markable && !random.one_in(self.unmarked_one_in));
         table.rows[table.count] = Row { digest, site, sequence, references, requests, mark };
         table.count += 1;
     }
-    table
 }
 
 /// A digest that isn't held; sometimes only one bit makes it so.

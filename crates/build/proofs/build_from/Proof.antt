@@ -1,5 +1,5 @@
 -- `build_from` meets its contract: one law for each way out. Assumes nothing.
-use mathlib.Core.Path.{_≡_, sym, ap, _∙_}
+use mathlib.Core.Path.{_≡_, sym, _∙_}
 use mathlib.Core.Bool.{true, false}
 use mathlib.Core.Logic.{_≢_}
 use Prim.Native.Nat.{ℕ, _/_, _%_, _≤_, _<_}
@@ -7,15 +7,14 @@ use native.Mathlib.Omega.{arith}
 use lib.ListN.{length}
 use borrow.Author.Needs.{needs}
 use borrow.Author.Tests.{ne-eqb, eqb-true, leb-true, lt-ltb, le-ltb, not-true, not-false}
-use Rattle.base.specs.Search.{firstBelow, anyBelow}
+use Rattle.base.specs.Search.{anyBelow}
 use Rattle.base.specs.Mask.{inMask}
 use Rattle.base.specs.Bytes.{Bytes}
 use Rattle.base.proofs.Tests.{and-left, and-right}
-use Rattle.block.specs.Limits.{requestSize, maxRequestListSize}
-use Rattle.block.specs.Reading.{badRequestAt}
+use Rattle.block.specs.Limits.{requestSize}
 use Rattle.block.specs.Steps.{firstBad}
 use Rattle.block.specs.declared.Answer.{Answer}
-use Rattle.table.specs.Layout.{setupOf, countOf, viewOf}
+use Rattle.table.specs.Layout.{setupOf, viewOf}
 use Rattle.table.specs.Form.{inForm}
 use Rattle.table.specs.Checks.{refused, answerTo}
 use Rattle.table.proofs.Formed.{formed-of}

@@ -1,5 +1,4 @@
 -- `well_listed` meets its contract: one test after the other. Assumes nothing.
-use mathlib.Core.Path.{_≡_}
 use borrow.Author.Tests.{lt-leb, le-leb}
 use Rattle.build.specs.Building.{wellListed}
 use Rattle.build.proofs.well_listed.Statement.{statement}

@@ -1,15 +1,13 @@
 -- `write_next` meets its contract: what is picked, then check 17, then the block. Assumes nothing.
-use mathlib.Core.Path.{_≡_, sym, ap, _∙_, subst}
-use Prim.Native.Nat.{ℕ, _≤_}
+use mathlib.Core.Path.{sym, ap, _∙_, subst}
+use Prim.Native.Nat.{_≤_}
 use native.Mathlib.Omega.{arith}
-use lib.ListN.{length}
 use borrow.Author.Needs.{needs}
 use Rattle.base.specs.Mask.{inMask}
 use Rattle.base.specs.Bytes.{Bytes, splice}
 use Rattle.block.specs.Limits.{maxReferences}
 use Rattle.block.specs.Steps.{Writable}
 use Rattle.table.specs.Layout.{viewOf}
-use Rattle.build.specs.Building.{picked}
 use Rattle.build.proofs.Picked.{picked-few}
 use Rattle.build.proofs.Written.{front-is, encoding-is, writable, way-short, way-written}
 use Rattle.build.proofs.write_next.Statement.{statement}

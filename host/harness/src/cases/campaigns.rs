@@ -1,8 +1,9 @@
 //! Campaigns of two keepers, who get the same blocks in different orders. Each call is compared, and then the whole
-//! lists by replays. What the two come to must keep the laws.
+//! lists by replays. What the two come to must keep the laws, and a site can go on from there.
 
+use super::builds::{next_block, some_list};
 use crate::campaign::Campaign;
-use crate::compare::{Compare, Difference};
+use crate::compare::{Compare, Difference, Next};
 use crate::ends::Ends;
 use crate::keeper::Keeper;
 use crate::laws;
@@ -12,9 +13,15 @@ pub fn run(random: &Random, compare: &mut Compare) -> Result<(), Difference> {
     let campaign = Campaign::drawn(random);
     let one = Keeper::run(random, compare, &campaign)?;
     let other = Keeper::run(random, compare, &campaign)?;
-    let ends = Ends::of(one.left(), other.left());
+    let mut watched = |keeper: &Keeper| compare.forks(&keeper.left().table);
+    let watched = [watched(&one)?, watched(&other)?];
+    let ends = Ends::of([(one.left(), watched[0]), (other.left(), watched[1])]);
     compare.counts.campaigns.ended(&ends);
-    laws::check(&ends)?;
-    one.replay(random, compare)?;
-    other.replay(random, compare)
+    laws::check_ends(&ends)?;
+    for keeper in [one, other] {
+        keeper.replay(random, compare)?;
+        let site = random.below(campaign.sites.into()) as u8;
+        next_block(random, compare, &Next { table: &keeper.left().table, site, requests: &some_list(random) })?;
+    }
+    Ok(())
 }

@@ -40,7 +40,7 @@ impl Campaigns {
         let some = |holds: fn(&InSlot) -> bool| u64::from(slots.iter().any(holds));
         let delivers = some(|slot| !slot.delivered.is_empty());
         self.all += 1;
-        self.few_forked += u64::from(few && ends.any_forked());
+        self.few_forked += u64::from(few && ends.forked() != 0);
         self.many_forked += u64::from(!few);
         self.delivering += delivers;
         self.delivering_at_both += some(|slot| slot.delivered_at_both);

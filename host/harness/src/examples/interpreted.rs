@@ -1,11 +1,8 @@
 //! Document 01, "Small skies to try": those in which blocks are interpreted.
 
-use crate::block::Request;
+use super::holder::Holder;
 use crate::calls::Calls;
-use crate::draft::Draft;
 use crate::record::{record_at, ACTS};
-use crate::sha256::{sha256, Digest};
-use crate::sizes::{BUFFER_NUMBERS, SLOTS, TABLE_BYTES};
 
 pub fn all(calls: &dyn Calls) -> Vec<(&'static str, bool)> {
     let new = |sites| Holder::new(calls, sites);
@@ -21,42 +18,11 @@ pub fn all(calls: &dyn Calls) -> Vec<(&'static str, bool)> {
     ]
 }
 
-/// A table and its records. Blocks go by their places. Site 0 owns all slots.
-struct Holder<'a> {
-    calls: &'a dyn Calls,
-    table: Vec<u8>,
-    records: Vec<u16>,
-    digests: Vec<Digest>,
-}
-
 /// What is made in slot 0 of a block: SEND, ECHO, READY, delivery.
 type Made = [u16; ACTS.len()];
 const NOTHING: Made = [0; ACTS.len()];
 
-impl<'a> Holder<'a> {
-    fn new(calls: &'a dyn Calls, sites: u8) -> Holder<'a> {
-        let mut table = vec![0; TABLE_BYTES];
-        calls.fresh(sites, &mut [0; SLOTS], &mut table);
-        Holder { calls, table, records: vec![0; BUFFER_NUMBERS], digests: Vec::new() }
-    }
-
-    fn interpret(&mut self, place: usize) -> (u8, usize) {
-        let answer = self.calls.interpret(&mut self.table, place, &mut self.records);
-        (answer.refusal, answer.value)
-    }
-
-    /// Admits a block and interprets it.
-    fn block(&mut self, site: u8, sequence: u16, places: &[usize], number: Option<u16>) -> usize {
-        let references = places.iter().map(|&place| self.digests[place]).collect();
-        let requests = number.map(|number| Request { slot: 0, number }).into_iter().collect();
-        let mut bytes = Draft { site, sequence, references, requests, verdict: 1 }.to_bytes();
-        self.digests.push(sha256(&bytes));
-        self.calls.admit(&mut self.table, &mut bytes, 1);
-        let place = self.digests.len() - 1;
-        self.interpret(place);
-        place
-    }
-
+impl Holder<'_> {
     fn made(&self, place: usize) -> Made {
         let record = record_at(&self.records, place, 0);
         ACTS.map(|act| record[act.made()])
@@ -77,18 +43,10 @@ fn chain(mut holder: Holder) -> bool {
     [0, 1, 2, 3].map(|place| holder.made(place)) == [[7, 0, 0, 0], [0, 7, 0, 0], [0, 0, 7, 0], [0, 0, 0, 7]]
 }
 
-/// "owner 0 requests 42; four blocks refer to it, four to all of those, four to all of these"
 fn thirteen_blocks(holder: &mut Holder) -> bool {
-    let first = holder.block(0, 0, &[], Some(42));
-    let mut round = |references: &[usize], round: u16| -> Vec<usize> {
-        // Site 0 has a block more than the others.
-        (0..4).map(|site| holder.block(site, round + u16::from(site == 0), references, None)).collect()
-    };
-    let echoes = round(&[first], 0);
-    let readies = round(&echoes, 1);
-    let deliveries = round(&readies, 2);
+    let [first, echoes, readies, deliveries] = holder.thirteen_blocks();
     let all = |places: &[usize], made: Made| places.iter().all(|&place| holder.made(place) == made);
-    all(&[first], [42, 0, 0, 0])
+    all(&first, [42, 0, 0, 0])
         && all(&echoes, [0, 42, 0, 0])
         && all(&readies, [0, 0, 42, 0])
         && all(&deliveries, [0, 0, 0, 42])

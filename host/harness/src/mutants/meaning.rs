@@ -216,8 +216,7 @@ fn set(places: impl Iterator<Item = usize>) -> u64 {
 
 /// All places of the site that built the block at this one, whether referred to or not.
 fn own_places(table: &Table, place: usize) -> impl Iterator<Item = usize> + '_ {
-    let site = table.rows[place].site;
-    (0..table.held().len()).filter(move |&other| table.rows[other].site == site)
+    table.own(table.rows[place].site)
 }
 
 fn send_again(record: &mut Record, number: u16, _: &Process) {

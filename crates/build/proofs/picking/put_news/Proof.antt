@@ -1,12 +1,11 @@
 -- `put_news` meets its contract. The loop's invariant: the news among the places passed is put. Assumes nothing.
-use mathlib.Core.Path.{_≡_, sym, ap, _∙_, subst}
+use mathlib.Core.Path.{_≡_, sym, _∙_}
 use mathlib.Core.Bool.{Bool}
 use mathlib.Core.Logic.{⊎-elim}
 use Prim.Native.Nat.{ℕ, _-_, _≤_}
 use native.Mathlib.Omega.{arith}
 use borrow.Author.Needs.{needs}
 use Rattle.base.specs.Mask.{inMask}
-use Rattle.base.specs.Bytes.{Bytes}
 use Rattle.table.specs.Layout.{countOf, viewOf}
 use Rattle.table.specs.Steps.{Places}
 use Rattle.build.specs.Building.{isNews}

@@ -1,14 +1,12 @@
 -- `referred_mask` meets its contract. The loop's invariant: `mask` has what the site's blocks at the places passed refer to. Assumes nothing.
 use mathlib.Core.Path.{_≡_, sym, ap₂, _∙_}
-use mathlib.Core.Bool.{Bool}
 use mathlib.Core.Logic.{⊎-elim}
-use Prim.Native.Nat.{ℕ, _-_, _^_, _≤_, _<_}
+use Prim.Native.Nat.{_-_, _^_, _≤_, _<_}
 use native.Mathlib.Omega.{arith}
 use lib.Bits.{bitOr}
 use borrow.Author.Needs.{needs}
-use Rattle.base.specs.Mask.{inMask}
 use Rattle.table.specs.View.{maxPlaces}
-use Rattle.table.specs.Layout.{countOf, referencesAt}
+use Rattle.table.specs.Layout.{countOf}
 use Rattle.table.specs.Steps.{Places}
 use Rattle.build.proofs.Referred.{referredBelow, referred-none, referred-here, referred-past}
 use Rattle.build.proofs.picking.referred_mask.Statement.{statement}
