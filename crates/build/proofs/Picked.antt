@@ -16,7 +16,7 @@ use Rattle.base.proofs.Members.{at-member, member-at}
 use Rattle.base.proofs.Passing.{passing-has, passing-from, passing-rises, Pairwise, pairwise-append, pairwise-take}
 use Rattle.block.specs.Limits.{maxReferences}
 use Rattle.table.specs.View.{View}
-use Rattle.build.specs.Building.{nextSequence, isGreatest, isReferred, isNews, picked}
+use Rattle.build.specs.Building.{nextSequence, isGreatest, isReferred, isOther, picked}
 use Rattle.build.proofs.Sequence.{greatest-site, some-greatest}
 
 module _ (seen : ℕ → Bool) (v : View) (p : ℕ) where
@@ -27,48 +27,48 @@ module _ (seen : ℕ → Bool) (v : View) (p : ℕ) where
   abbrev greatest : List ℕ
   greatest = passing (isGreatest seen v p) (v .held)
 
-  abbrev news : List ℕ
-  news = passing (isNews seen v p) (v .held)
+  abbrev others : List ℕ
+  others = passing (isOther seen v p) (v .held)
 
-  news-site : (i : ℕ) → isNews seen v p i ≡ true → v .row i .site ≢ p
-  news-site i y =
+  other-site : (i : ℕ) → isOther seen v p i ≡ true → v .row i .site ≢ p
+  other-site i y =
       let other : (seen i && not (eqb (v .row i .site) p)) ≡ true = and-left (seen i && not (eqb (v .row i .site) p)) (not (isReferred seen v p i)) y in
       eqb-false _ _ (not-true _ (and-right (seen i) (not (eqb (v .row i .site) p)) other))
 
   pub picked-few : length (picked seen v p) ≤ maxReferences
   unfolding picked
-  picked-few = omega (arith, length-take maxReferences (greatest ++ news))
+  picked-few = omega (arith, length-take maxReferences (greatest ++ others))
 
   -- each is of one of the two lists
-  picked-cases : (i : ℕ) → i < length (picked seen v p) → List·Memᴰ (pickedAt i) greatest ⊎ List·Memᴰ (pickedAt i) news
+  picked-cases : (i : ℕ) → i < length (picked seen v p) → List·Memᴰ (pickedAt i) greatest ⊎ List·Memᴰ (pickedAt i) others
   unfolding picked
   picked-cases i h =
-      let l = length-take maxReferences (greatest ++ news) in
-      List·Memᴰ·append-cases greatest (Memᴰ·cast (getD-take maxReferences (greatest ++ news) i 0 (omega arith)) (at-member (greatest ++ news) i 0 (omega arith)))
+      let l = length-take maxReferences (greatest ++ others) in
+      List·Memᴰ·append-cases greatest (Memᴰ·cast (getD-take maxReferences (greatest ++ others) i 0 (omega arith)) (at-member (greatest ++ others) i 0 (omega arith)))
 
   pub picked-held : (i : ℕ) → i < length (picked seen v p) → pickedAt i < v .held
   picked-held i h = elim (picked-cases i h) [
     | inl m ↦ passing-from (isGreatest seen v p) (v .held) _ m .0
-    | inr m ↦ passing-from (isNews seen v p) (v .held) _ m .0
+    | inr m ↦ passing-from (isOther seen v p) (v .held) _ m .0
   ]
 
   pub picked-own : (i : ℕ) → i < length (picked seen v p) → v .row (pickedAt i) .site ≡ p → isGreatest seen v p (pickedAt i) ≡ true
   picked-own i h e = elim (picked-cases i h) [
     | inl m ↦ passing-from (isGreatest seen v p) (v .held) _ m .1
-    | inr m ↦ absurd (news-site _ (passing-from (isNews seen v p) (v .held) _ m .1) e)
+    | inr m ↦ absurd (other-site _ (passing-from (isOther seen v p) (v .held) _ m .1) e)
   ]
 
   pub picked-different : Pairwise _≢_ (picked seen v p)
   unfolding picked
   picked-different =
-      pairwise-take _≢_ maxReferences (greatest ++ news) (pairwise-append _≢_ greatest news (different (isGreatest seen v p)) (different (isNews seen v p)) apart)
+      pairwise-take _≢_ maxReferences (greatest ++ others) (pairwise-append _≢_ greatest others (different (isGreatest seen v p)) (different (isOther seen v p)) apart)
     where
       different : (f : ℕ → Bool) → Pairwise _≢_ (passing f (v .held))
       different f i j h l e = omega (arith, passing-rises f (v .held) i j h l)
 
-      apart : (x y : ℕ) → List·Memᴰ x greatest → List·Memᴰ y news → x ≢ y
+      apart : (x y : ℕ) → List·Memᴰ x greatest → List·Memᴰ y others → x ≢ y
       apart x y m n e =
-          news-site y (passing-from (isNews seen v p) (v .held) y n .1)
+          other-site y (passing-from (isOther seen v p) (v .held) y n .1)
           (ap (λ (i : ℕ). v .row i .site) (sym e) ∙ greatest-site seen v p x (passing-from (isGreatest seen v p) (v .held) x m .1))
 
   -- "its greatest block first"
@@ -78,7 +78,7 @@ module _ (seen : ℕ → Bool) (v : View) (p : ℕ) where
       let w = some-greatest seen v p n in
       let u = member-at greatest (w .0) 0 (passing-has (isGreatest seen v p) (v .held) (w .0) (w .1) (w .2)) in
       let some : 0 < length greatest = omega (arith, u .1) in
-      let first : pickedAt 0 ≡ getD greatest 0 0 = getD-take maxReferences (greatest ++ news) 0 0 (omega arith) ∙ List·getD-append greatest news 0 0 some in (
-        omega (arith, length-append greatest news, length-take maxReferences (greatest ++ news)),
+      let first : pickedAt 0 ≡ getD greatest 0 0 = getD-take maxReferences (greatest ++ others) 0 0 (omega arith) ∙ List·getD-append greatest others 0 0 some in (
+        omega (arith, length-append greatest others, length-take maxReferences (greatest ++ others)),
         ap (isGreatest seen v p) first ∙ passing-from (isGreatest seen v p) (v .held) _ (at-member greatest 0 0 some) .1,
       )

@@ -1,4 +1,4 @@
--- What is put for the site's greatest block, and then for the news, are the references of the next block. Assumes nothing.
+-- What is put for the site's greatest block, and then for the others, are the references of the next block. Assumes nothing.
 use mathlib.Core.Path.{_≡_, sym, ap, ap₂, _∙_}
 use mathlib.Core.Bool.{Bool, true}
 use mathlib.Core.List.{List, [], _∷_, _++_}
@@ -16,13 +16,13 @@ use Rattle.table.specs.Layout.{countOf, viewOf}
 use Rattle.watch.specs.Promises.{Shares}
 use Rattle.watch.proofs.Shared.{forked-shares}
 use Rattle.build.specs.Building.{isGreatest, picked}
-use Rattle.build.specs.Steps.{Ready, Room, newsIn, fitting, digestsOf, putDigests}
+use Rattle.build.specs.Steps.{Ready, Room, othersIn, fitting, digestsOf, putDigests}
 use Rattle.build.proofs.Sequence.{greatest-only}
 use Rattle.build.proofs.Digests.{AllPlaces, counted-append, put-append}
 
 module _ (t : Bytes) (seen p : ℕ) where
-  abbrev news : List ℕ
-  news = newsIn t seen p
+  abbrev others : List ℕ
+  others = othersIn t seen p
 
   abbrev own : ℕ → Bool
   own = isGreatest (inMask seen) (viewOf t) p
@@ -32,18 +32,18 @@ module _ (t : Bytes) (seen p : ℕ) where
   Picked count list after =
       (count ≡ length (picked (inMask seen) (viewOf t) p)) × (after ≡ splice list 0 (digestsOf t (picked (inMask seen) (viewOf t) p)))
 
-  -- the references are those that fit of the greatest block's place and the news
+  -- the references are those that fit of the greatest block's place and the others
   all-picked : (ps : List ℕ) → passing own (countOf t) ≡ ps → (list : Bytes)
-      → Picked (0 + length (fitting (ps ++ news) 0)) list (putDigests t (ps ++ news) 0 list)
+      → Picked (0 + length (fitting (ps ++ others) 0)) list (putDigests t (ps ++ others) 0 list)
   unfolding picked putDigests
   all-picked ps e list = (
-    omega (arith, ap (λ (qs : List ℕ). length (fitting (qs ++ news) 0)) e),
-    ap (λ (qs : List ℕ). splice list 0 (digestsOf t (fitting (qs ++ news) 0))) (sym e),
+    omega (arith, ap (λ (qs : List ℕ). length (fitting (qs ++ others) 0)) e),
+    ap (λ (qs : List ℕ). splice list 0 (digestsOf t (fitting (qs ++ others) 0))) (sym e),
   )
 
   -- the site has no block
-  pub picked-news : countOf t ≤ firstBelow own (countOf t) → (list : Bytes) → Picked (0 + length (fitting news 0)) list (putDigests t news 0 list)
-  picked-news h list = all-picked [] (passing-none own (countOf t) (λ i l. first-before own (countOf t) i (omega arith))) list
+  pub picked-others : countOf t ≤ firstBelow own (countOf t) → (list : Bytes) → Picked (0 + length (fitting others 0)) list (putDigests t others 0 list)
+  picked-others h list = all-picked [] (passing-none own (countOf t) (λ i l. first-before own (countOf t) i (omega arith))) list
 
   -- its greatest block first
   module _ (ready : Ready t seen p) (place : ℕ) (is : place ≡ firstBelow own (countOf t)) (below : place < countOf t) where
@@ -61,9 +61,9 @@ module _ (t : Bytes) (seen p : ℕ) where
     is-place (suc j) l = absurd (omega arith)
 
     pub picked-own : (list mid : Bytes) (count : ℕ) → Room list 0 → count ≡ 0 + length (fitting (place ∷ []) 0) → mid ≡ putDigests t (place ∷ []) 0 list
-        → Picked (count + length (fitting news count)) list (putDigests t news count mid)
+        → Picked (count + length (fitting others count)) list (putDigests t others count mid)
     picked-own list mid count room e f =
         let all = all-picked (place ∷ []) alone list in (
-          ap (λ (n : ℕ). n + length (fitting news n)) e ∙ counted-append (place ∷ []) news 0 (room .few) ∙ all .0,
-          ap₂ (putDigests t news) e f ∙ put-append t (ready .sized .size) (place ∷ []) news 0 list is-place room ∙ all .1,
+          ap (λ (n : ℕ). n + length (fitting others n)) e ∙ counted-append (place ∷ []) others 0 (room .few) ∙ all .0,
+          ap₂ (putDigests t others) e f ∙ put-append t (ready .sized .size) (place ∷ []) others 0 list is-place room ∙ all .1,
         )

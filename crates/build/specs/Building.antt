@@ -42,12 +42,12 @@ module _ (seen : ℕ → Bool) (v : View) (p : ℕ) where
   isReferred i = anyBelow (λ j. ofSite v seen p j && v .row j .refersTo i) (v .held)
 
   -- "block of another site that no held block of this site refers to directly"
-  abbrev pub isNews : ℕ → Bool
-  isNews i = (seen i && not (eqb (v .row i .site) p)) && not (isReferred i)
+  abbrev pub isOther : ℕ → Bool
+  isOther i = (seen i && not (eqb (v .row i .site) p)) && not (isReferred i)
 
   -- "its greatest block first, then in place order every" such block, "up to 16 in all"
   unfoldable pub picked : List ℕ
-  picked = take maxReferences (passing isGreatest (v .held) ++ passing isNews (v .held))
+  picked = take maxReferences (passing isGreatest (v .held) ++ passing isOther (v .held))
 
   -- the requests as given
   unfoldable pub nextContent : Bytes → Content

@@ -16,7 +16,7 @@ use Rattle.table.specs.Form.{inForm}
 use Rattle.table.specs.Checks.{check, answerTo}
 use Rattle.table.specs.Steps.{Places}
 use Rattle.watch.specs.Forks.{forkedIn}
-use Rattle.build.specs.Building.{isReferred, isNews, nextBlock}
+use Rattle.build.specs.Building.{isReferred, isOther, nextBlock}
 
 -- a table and a site that check 16 lets pass, with the places and the sequence numbers that follow from form
 pub record Ready (t : Bytes) (seen p : ℕ) : Type 0 where
@@ -34,9 +34,9 @@ pub record Room (list : Bytes) (count : ℕ) : Type 0 where
 abbrev pub referredMask : Bytes → ℕ → ℕ → ℕ
 referredMask t seen p = maskBelow (isReferred (inMask seen) (viewOf t) p) maxPlaces
 
--- the places that are news
-abbrev pub newsIn : Bytes → ℕ → ℕ → List ℕ
-newsIn t seen p = passing (isNews (inMask seen) (viewOf t) p) (countOf t)
+-- the places of other sites' blocks that none of the site refers to
+abbrev pub othersIn : Bytes → ℕ → ℕ → List ℕ
+othersIn t seen p = passing (isOther (inMask seen) (viewOf t) p) (countOf t)
 
 -- of some places, the first that a list with so many references has room for
 abbrev pub fitting : List ℕ → ℕ → List ℕ

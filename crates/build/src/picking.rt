@@ -12,8 +12,8 @@ ghost use Rattle.base.specs.Bytes.{splice};
 ghost use Rattle.block.specs.Limits.{referenceSize, maxReferences};
 ghost use Rattle.table.specs.Layout.{countOf, viewOf};
 ghost use Rattle.table.specs.Steps.{Place, Places};
-ghost use Rattle.build.specs.Building.{nextSequence, isGreatest, isNews, picked};
-ghost use Rattle.build.specs.Steps.{Ready, Room, referredMask, newsIn, fitting, digestsOf, putDigests};
+ghost use Rattle.build.specs.Building.{nextSequence, isGreatest, isOther, picked};
+ghost use Rattle.build.specs.Steps.{Ready, Room, referredMask, othersIn, fitting, digestsOf, putDigests};
 
 // Whether the place holds the site's greatest block.
 fn is_greatest(table: &[u8], seen: u64, site: u8, next: u16, i: usize) -> bool
@@ -60,9 +60,9 @@ fn referred_mask(table: &[u8], seen: u64, site: u8) -> u64
 }
 
 // Whether the place is looked at and holds a block of another site that is not among those referred to.
-fn is_news(table: &[u8], seen: u64, site: u8, referred: u64, i: usize) -> bool
+fn is_other(table: &[u8], seen: u64, site: u8, referred: u64, i: usize) -> bool
     requires { ⌜ Place (now table) i × (referred ≡ referredMask (now table) seen site) ⌝ }
-    ensures { λ r. ⌜ r ≡ isNews (inMask seen) (viewOf (now (table .entry))) site i ⌝ }
+    ensures { λ r. ⌜ r ≡ isOther (inMask seen) (viewOf (now (table .entry))) site i ⌝ }
 {
     if !base::in_mask(seen, i) {
         return false;
@@ -86,18 +86,19 @@ fn put_place(table: &[u8], i: usize, count: usize, list: &mut [u8]) -> usize
     count + 1
 }
 
-// Puts those of the places that are news, in place order.
-fn put_news(table: &[u8], seen: u64, site: u8, count: usize, list: &mut [u8]) -> usize
+// Puts those of the other sites' blocks that none of the site's refers to, in place order, as long as there is room; how many references there
+// are then.
+fn put_others(table: &[u8], seen: u64, site: u8, count: usize, list: &mut [u8]) -> usize
     requires { ⌜ Places (now table) (countOf (now table)) × Room (now list) count ⌝ }
-    ensures { λ r. ⌜ r ≡ count + length (fitting (newsIn (now (table .entry)) seen site) count) ⌝ }
-    ensures { λ _. ⌜ now (list .exit) ≡ putDigests (now (table .entry)) (newsIn (now (table .entry)) seen site) count (now (list .entry)) ⌝ }
+    ensures { λ r. ⌜ r ≡ count + length (fitting (othersIn (now (table .entry)) seen site) count) ⌝ }
+    ensures { λ _. ⌜ now (list .exit) ≡ putDigests (now (table .entry)) (othersIn (now (table .entry)) seen site) count (now (list .entry)) ⌝ }
 {
     let k = rows::count_of(table);
     let referred = referred_mask(table, seen, site);
     let mut end = count;
     let mut i = 0;
     while i < k {
-        if is_news(table, seen, site, referred, i) {
+        if is_other(table, seen, site, referred, i) {
             end = put_place(table, i, end, list);
         }
         i += 1;
@@ -113,8 +114,8 @@ pub fn pick(table: &[u8], seen: u64, site: u8, next: u16, list: &mut [u8]) -> us
 {
     let place = greatest_place(table, seen, site, next);
     if rows::count_of(table) <= place {
-        return put_news(table, seen, site, 0, list);
+        return put_others(table, seen, site, 0, list);
     }
     let own = put_place(table, place, 0, list);
-    put_news(table, seen, site, own, list)
+    put_others(table, seen, site, own, list)
 }

@@ -1,4 +1,4 @@
--- `put_news` meets its contract. The loop's invariant: the news among the places passed is put. Assumes nothing.
+-- `put_others` meets its contract. The loop's invariant: the others among the places passed are put. Assumes nothing.
 use mathlib.Core.Path.{_≡_, sym, _∙_}
 use mathlib.Core.Bool.{Bool}
 use mathlib.Core.Logic.{⊎-elim}
@@ -8,16 +8,16 @@ use borrow.Author.Needs.{needs}
 use Rattle.base.specs.Mask.{inMask}
 use Rattle.table.specs.Layout.{countOf, viewOf}
 use Rattle.table.specs.Steps.{Places}
-use Rattle.build.specs.Building.{isNews}
+use Rattle.build.specs.Building.{isOther}
 use Rattle.build.specs.Steps.{Room, referredMask}
 use Rattle.build.proofs.Putting.{Put, put-start, put-past, put-here, put-room}
-use Rattle.build.proofs.picking.put_news.Statement.{statement}
-use Rattle.build.proofs.picking.put_news.Tie as tie
+use Rattle.build.proofs.picking.put_others.Statement.{statement}
+use Rattle.build.proofs.picking.put_others.Tie as tie
 
 abbrev Inv-loop : tie.InvT-loop
 Inv-loop table seen site count list₀ k referred end₀ i₀ list end i =
     (i ≤ k) × (k ≡ countOf table) × Places table (countOf table) × (referred ≡ referredMask table seen site) × Room list₀ count
-    × Put table (isNews (inMask seen) (viewOf table) site) count list₀ i list end
+    × Put table (isOther (inMask seen) (viewOf table) site) count list₀ i list end
 
 abbrev μ-loop : tie.MeasureT-loop
 μ-loop table seen site count list₀ k referred end₀ i₀ list end i = k - i
@@ -34,7 +34,7 @@ loop-again : tie.Need-loop-again Inv-loop μ-loop
 loop-again c =
     let l = c .before .before .before .loop in
     let a = c .before .before .before .before .before .before .before .before .args in
-    let f : ℕ → Bool = isNews (inMask (a .seen)) (viewOf (a .table .now)) (a .site) in (
+    let f : ℕ → Bool = isOther (inMask (a .seen)) (viewOf (a .table .now)) (a .site) in (
       omega arith,
       search needs,
       search needs,
@@ -43,10 +43,10 @@ loop-again c =
       ⊎-elim
           (λ w.
           let p = put-here (a .table .now) f (a .count) (a .list .now) (l .inv .2 .size) (l .inv .4) (l .i) (l .list) (l .end) (omega arith)
-          (sym (c .before .is-news .ensures) ∙ w .0 .taken) (l .inv .5) in
+          (sym (c .before .is-other .ensures) ∙ w .0 .taken) (l .inv .5) in
           record { counted = w .6 ∙ w .2 .ensures .0 ∙ p .counted; listed = w .5 ∙ w .2 .ensures .1 ∙ p .listed })
           (λ w.
-          let p = put-past (a .table .now) f (a .count) (a .list .now) (l .i) (l .list) (l .end) (sym (c .before .is-news .ensures) ∙ w .0 .left) (l .inv .5) in
+          let p = put-past (a .table .now) f (a .count) (a .list .now) (l .i) (l .list) (l .end) (sym (c .before .is-other .ensures) ∙ w .0 .left) (l .inv .5) in
           record { counted = w .2 ∙ p .counted; listed = w .1 ∙ p .listed })
           (c .if1 .came),
     )
@@ -62,8 +62,8 @@ returns c =
     let e : l .i ≡ countOf (c .before .before .before .before .before .before .args .table .now) = omega arith in
     (rw e at (l .inv .5 .counted), rw e at (l .inv .5 .listed))
 
-pub put-news-spec : {M : Type 1} → statement M
-put-news-spec =
+pub put-others-spec : {M : Type 1} → statement M
+put-others-spec =
     tie.close
     (tie.spec
     Inv-loop

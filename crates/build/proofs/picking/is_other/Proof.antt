@@ -1,4 +1,4 @@
--- `is_news` meets its contract: one test after the other. Assumes nothing.
+-- `is_other` meets its contract: one test after the other. Assumes nothing.
 use mathlib.Core.Path.{_≡_, sym, ap, _∙_}
 use mathlib.Core.Bool.{true, not}
 use Prim.Native.Nat.{ℕ}
@@ -7,8 +7,8 @@ use borrow.Author.Tests.{eq-eqb, ne-eqb, not-true, not-false}
 use Rattle.base.specs.Mask.{inMask}
 use Rattle.base.proofs.Sets.{mask-has}
 use Rattle.table.specs.View.{maxPlaces}
-use Rattle.build.proofs.picking.is_news.Statement.{statement}
-use Rattle.build.proofs.picking.is_news.Tie as tie
+use Rattle.build.proofs.picking.is_other.Statement.{statement}
+use Rattle.build.proofs.picking.is_other.Tie as tie
 
 looked-at : (c : tie.Else1) → let a = c .before .before .before .args in inMask (a .seen) (a .i) ≡ true
 looked-at c = sym (c .before .in-mask .ensures) ∙ not-false _ (c .if1 .left)
@@ -26,5 +26,5 @@ returns-3 c =
     rw (looked-at (c .before .before .before), ← c .before .before .site-at .ensures, ne-eqb _ _ (c .before .if2 .left))
     (ap not (c .in-mask2 .ensures ∙ ap (λ (m : ℕ). inMask m i) (start .pre .1) ∙ mask-has _ maxPlaces i (start .pre .0 .place)))
 
-pub is-news-spec : {M : Type 1} → statement M
-is-news-spec = tie.close (tie.spec (λ c κs. search needs) returns (λ c κs. search needs) returns-2 (λ c κs. search needs) returns-3)
+pub is-other-spec : {M : Type 1} → statement M
+is-other-spec = tie.close (tie.spec (λ c κs. search needs) returns (λ c κs. search needs) returns-2 (λ c κs. search needs) returns-3)
