@@ -176,7 +176,7 @@ module _ (digest : Bytes → Bytes) (s : Setup) (size : ℕ) (l : Ledger) (x : S
   unfolding forks
   forks-answered = rw (t .formed)
 
-  ancestors-named : (i : ℕ) → i < l .held → (b : Bytes) → NamedAncestor digest l x i b ↔ AncestorIn digest (l .blocks) b (l .block i)
+  ancestors-named : (i : ℕ) → i < l .held → (b : Bytes) → NamedAncestor l x i b ↔ AncestorIn digest (l .blocks) b (l .block i)
   ancestors-named i h b = (
     λ w. subst (λ (c : Bytes). AncestorIn digest (l .blocks) c (l .block i)) (w .holds)
         (ancestor-of-block h (promises .ancestor table i (t .formed) (below i h) (w .place) .0 (w .named)) .1),

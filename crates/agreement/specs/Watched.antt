@@ -12,14 +12,14 @@ use Rattle.agreement.specs.Ledger.{Ledger}
 use Rattle.agreement.specs.Run.{Site}
 use Rattle.agreement.specs.Promises.{forked}
 
-module _ (digest : Bytes → Bytes) where
-  -- a place that the watch names as an ancestor of place i holds this block
-  pub record NamedAncestor (l : Ledger) (x : Site) (i : ℕ) (b : Bytes) : Type 0 where
-    pub place : ℕ
-    pub held : place < l .held
-    pub named : inMask (ancestors (x .table) i .places) place ≡ true
-    pub holds : l .block place ≡ b
+-- a place that the watch names as an ancestor of place i holds this block
+pub record NamedAncestor (l : Ledger) (x : Site) (i : ℕ) (b : Bytes) : Type 0 where
+  pub place : ℕ
+  pub held : place < l .held
+  pub named : inMask (ancestors (x .table) i .places) place ≡ true
+  pub holds : l .block place ≡ b
 
+module _ (digest : Bytes → Bytes) where
   pub record WatchKeeps (l : Ledger) (x : Site) : Type 0 where
     -- it refuses no place that is held
     pub formed : forks (x .table) .refusal ≡ 0

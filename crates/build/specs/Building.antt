@@ -25,7 +25,7 @@ greatestBelow f zero = 0
 greatestBelow f (suc k) = max (f k) (greatestBelow f k)
 
 module _ (seen : ℕ → Bool) (v : View) (p : ℕ) where
-  -- one more than the sequence number of the site's block at place i
+  -- one more than the sequence number of the site's block at place i, 0 if there is none
   abbrev pub sequenceAfter : ℕ → ℕ
   sequenceAfter i = cond (ofSite v seen p i) (v .row i .sequence + 1) 0
 
@@ -49,7 +49,7 @@ module _ (seen : ℕ → Bool) (v : View) (p : ℕ) where
   unfoldable pub picked : List ℕ
   picked = take maxReferences (passing isGreatest (v .held) ++ passing isOther (v .held))
 
-  -- the requests as given
+  -- what the next block says: references to the picked places, and the requests as given
   unfoldable pub nextContent : Bytes → Content
   nextContent requests =
       record {

@@ -13,6 +13,7 @@ use Rattle.table.specs.Layout.{setupOf, viewOf}
 use Rattle.table.specs.Form.{inForm}
 use Rattle.watch.specs.declared.ForkedSites.{ForkedSites}
 
+-- every place is looked at
 abbrev pub everywhere : ℕ → Bool
 everywhere i = ltb i maxPlaces
 
