@@ -6,6 +6,8 @@ pub mod Form
 pub mod Full
 pub mod Admission
 pub mod Interpretation
+pub mod Watch
+pub mod Building
 pub mod Starred
 pub mod Thresholds
 pub mod Traps

@@ -1,10 +1,10 @@
--- All that computing a case opens, under three names. Assumes nothing.
+-- All that computing a case opens, under four names. Assumes nothing.
 use mathlib.Core.Bool.{Bool, true}
 use lib.Count.{ones, onesIn}
 use Rattle.base.specs.Search.{firstBelow, anyBelow, allBelow}
 use Rattle.base.specs.Count.{countBelow}
 use Rattle.base.specs.Mask.{maskBelow}
-use Rattle.base.specs.List.{listBelow}
+use Rattle.base.specs.List.{listBelow, passing}
 use Rattle.base.specs.Bytes.{sameBytes, allZero, parts, joined, splice}
 use Rattle.base.specs.Word.{word, wordBytes}
 use Rattle.block.specs.Layout.{countedRequest, encode}
@@ -19,6 +19,9 @@ use Rattle.table.specs.Checks.{answerTo}
 use Rattle.admission.specs.Admission.{admission, admitted}
 use Rattle.interpret.specs.Slot.{parentState, insert, insertIf, numbers, messagesOf, messages, interpretSlot}
 use Rattle.interpret.specs.Interpretation.{interpretation}
+use Rattle.watch.specs.Forks.{forkedIn, forks}
+use Rattle.watch.specs.Ancestors.{reached, ancestors}
+use Rattle.build.specs.Building.{greatestBelow, nextSequence, picked, nextContent, wellListed, buildingFrom, builtFrom}
 use Rattle.agreement.specs.Ledger.{taken}
 use Rattle.agreement.specs.History.{slotRecord, directs}
 use Rattle.agreement.specs.Ancestry.{found, gather, find, historyOf}
@@ -55,3 +58,9 @@ unfolding openedBlocks firstBelow anyBelow allBelow countBelow maskBelow listBel
     wellShaped reading lawfulSites ownersBelow lawful rowBytes layout withRow parents parentRule rowInForm heldInForm inForm emptyTable answerTo
     admission admitted interpretation siteAnswer siteStep siteAfter siteAnswers tableAfter answers fresh unlawful four holding
 openedTable = true
+
+-- what the watch and building answer to a table is computed by
+unfoldable pub openedWatch : Bool
+unfolding openedTable faults ones onesIn passing forkedIn forks reached ancestors greatestBelow nextSequence picked nextContent wellListed buildingFrom
+    builtFrom
+openedWatch = true

@@ -5,6 +5,8 @@ pub mod Blocks
 pub mod Form
 pub mod Admission
 pub mod Interpretation
+pub mod Watch
+pub mod Building
 pub mod Starred
 pub mod Thresholds
 pub mod Traps

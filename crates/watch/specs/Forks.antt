@@ -22,11 +22,11 @@ module _ (v : View) (seen : ℕ → Bool) where
   abbrev pub ofSite : ℕ → ℕ → Bool
   ofSite p i = seen i && eqb (v .row i .site) p
 
-  -- and it has this sequence number
+  -- and that block has this sequence number
   abbrev pub ofSequence : ℕ → ℕ → ℕ → Bool
   ofSequence p sequence i = ofSite p i && eqb (v .row i .sequence) sequence
 
-  -- place i does, and a lower place has one of site p with the sequence number of i's block
+  -- place i holds a block of site p, and a lower place holds one of the same sequence number
   abbrev pub repeatedAt : ℕ → ℕ → Bool
   repeatedAt p i = ofSite p i && anyBelow (ofSequence p (v .row i .sequence)) i
 

@@ -1,0 +1,32 @@
+-- What sites build from small tables, and the order of the checks, by computing. Assumes nothing.
+use mathlib.Core.Path.{refl}
+use Rattle.cases.specs.Building.{BuildingOrderCases, BuildingCases}
+use Rattle.cases.proofs.Opened.{openedWatch}
+
+pub order : BuildingOrderCases
+unfolding openedWatch
+order =
+    record {
+      formBeforeSite = (refl, refl);
+      siteBeforeList = (refl, refl);
+      listBeforeRequest = (refl, refl);
+      requestBeforeFork = (refl, refl);
+      forkBeforeOutput = (refl, refl);
+    }
+
+pub building : BuildingCases
+unfolding openedWatch
+building =
+    record {
+      eightRequests = refl;
+      nineRequests = refl;
+      exact = refl;
+      short = refl;
+      stays = refl;
+      refusedStays = refl;
+      firstBlock = refl;
+      nextOne = refl;
+      greatestFirst = refl;
+      sixteen = refl;
+      fifteenOthers = refl;
+    }

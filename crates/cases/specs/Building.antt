@@ -1,0 +1,64 @@
+-- Building: document 01, "Building", on the tables of the cases.
+use mathlib.Core.Path.{_≡_}
+use mathlib.Core.List.{[], _∷_, _++_}
+use Prim.Native.Nat.{ℕ, _+_}
+use lib.ListN.{replicate}
+use Rattle.base.specs.Bytes.{Bytes}
+use Rattle.base.specs.List.{listBelow}
+use Rattle.block.specs.Limits.{blockSize, maxReferences, maxRequestListSize}
+use Rattle.block.specs.Layout.{referencesOf}
+use Rattle.table.specs.Layout.{siteOffset, rowStart, viewOf}
+use Rattle.table.specs.Checks.{success, refused}
+use Rattle.watch.specs.Forks.{everywhere}
+use Rattle.build.specs.Building.{nextBlock, building, built}
+use Rattle.cases.specs.Toy.{toy, request, block}
+use Rattle.cases.specs.Blocks.{fresh, unlawful, first, fork, third, fourth, numbered, four, holding}
+use Rattle.cases.specs.Form.{changed, referring}
+
+-- the bytes of a request
+abbrev pub asking : ℕ → ℕ → Bytes
+asking slot number = slot ∷ 0 ∷ number ∷ []
+
+-- an output of so many bytes
+abbrev pub room : ℕ → Bytes
+room size = replicate size 9
+
+-- "Checks 2, 4, 3, 6, 16, 17": a row for each two neighbours. Of the two calls the first has both causes and gets the earlier number; in the
+-- second only the earlier cause is mended, and it gets the later number.
+pub record BuildingOrderCases : Type 0 where
+  -- 2, 4: site 4, on a table of three sites, and on one of four
+  pub formBeforeSite : (building unlawful 4 [] [] ≡ refused 2 0) × (building fresh 4 [] [] ≡ refused 4 0)
+  -- 4, 3: a list of one byte
+  pub siteBeforeList : (building fresh 4 (0 ∷ []) [] ≡ refused 4 0) × (building fresh 3 (0 ∷ []) [] ≡ refused 3 0)
+  -- 3, 6: a request of slot 8 and a byte more, then without it
+  pub listBeforeRequest : (building fresh 3 (asking 8 1 ++ (0 ∷ [])) [] ≡ refused 3 0) × (building fresh 3 (asking 8 1) [] ≡ refused 6 0)
+  -- 6, 16: a second request of number 0 by a site that forked, then of number 1
+  pub requestBeforeFork :
+      (building four 0 (asking 0 1 ++ asking 1 0) [] ≡ refused 6 1) × (building four 0 (asking 0 1 ++ asking 1 1) [] ≡ refused 16 0)
+  -- 16, 17: no output, by a site that forked, then by one that did not
+  pub forkBeforeOutput : (building four 0 [] [] ≡ refused 16 0) × (building four 3 [] [] ≡ refused 17 (blockSize 1 0))
+
+pub record BuildingCases : Type 0 where
+  -- "request list over 24 bytes"
+  pub eightRequests : building fresh 3 (asking 0 1 ++ asking 1 1 ++ asking 2 1 ++ asking 3 1 ++ asking 4 1 ++ asking 5 1 ++ asking 6 1 ++ asking 7 1) (room 29)
+      ≡ success 29
+  pub nineRequests : building fresh 3 (replicate (maxRequestListSize + 3) 1) (room 29) ≡ refused 3 0
+  -- a block's length, and one byte less
+  pub exact : building fresh 3 (asking 0 1) (room 8) ≡ success 8
+  pub short : building fresh 3 (asking 0 1) (room 7) ≡ refused 17 8
+  -- "Bytes after the block stay", and all of them beside a refusal
+  pub stays : built fresh 3 (asking 0 1) (room 10) ≡ block 3 0 [] (request 0 1 ∷ []) ++ room 2
+  pub refusedStays : built fresh 3 (asking 0 1) (room 7) ≡ room 7
+  -- no held block: sequence 0, and every block in place order
+  pub firstBlock : nextBlock everywhere (viewOf four) 1 [] ≡ block 1 0 (toy first ∷ toy fork ∷ toy third ∷ toy fourth ∷ []) []
+  -- one more than the greatest, and nothing else where its blocks refer to all others
+  pub nextOne : nextBlock everywhere (viewOf four) 3 (asking 5 7) ≡ block 3 2 (toy fourth ∷ []) (request 5 7 ∷ [])
+  -- its greatest block first, then what none of its blocks refers to directly: place 1 is referred to by place 2 alone, which now refers to
+  -- nothing
+  pub greatestFirst : nextBlock everywhere (viewOf (referring four 2 0)) 3 [] ≡ block 3 2 (toy fourth ∷ toy fork ∷ []) []
+  -- "up to 16 in all"
+  pub sixteen : referencesOf (nextBlock everywhere (viewOf (holding 18)) 1 []) ≡ listBelow (λ i. toy (numbered i)) maxReferences
+  -- of 16 others 15 are left beside its own greatest block
+  pub fifteenOthers :
+      referencesOf (nextBlock everywhere (viewOf (changed (holding 17) (rowStart 16 + siteOffset) 1)) 1 [])
+      ≡ toy (numbered 16) ∷ listBelow (λ i. toy (numbered i)) 15

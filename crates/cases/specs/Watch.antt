@@ -1,0 +1,39 @@
+-- The watch: document 01, "Watch for forks", on tables of four places. `four` holds two forks of site 0 at places 0 and 1, a block of site 3
+-- that refers to place 1 at place 2, and the one after it, which refers to places 0 and 2, at place 3.
+use mathlib.Core.Path.{_≡_}
+use mathlib.Core.Bool.{Bool, true, false}
+use Prim.Native.Nat.{ℕ, _+_}
+use Rattle.table.specs.Layout.{siteOffset, sequenceOffset, rowStart}
+use Rattle.watch.specs.Forks.{forks}
+use Rattle.watch.specs.Ancestors.{ancestors}
+use Rattle.watch.specs.declared.ForkedSites.{ForkedSites}
+use Rattle.watch.specs.declared.AncestorPlaces.{AncestorPlaces}
+use Rattle.cases.specs.Blocks.{fresh, unlawful, four}
+use Rattle.cases.specs.Form.{changed, referring, marked}
+
+-- a mask of sites, how many they are, and whether that is at most f
+abbrev pub naming : ℕ → ℕ → Bool → ForkedSites
+naming mask count few = record { refusal = 0; sites = mask; count = count; «at_most_f» = few }
+
+-- a mask of places, and how many they are
+abbrev pub resting : ℕ → ℕ → AncestorPlaces
+resting mask count = record { refusal = 0; places = mask; count = count }
+
+pub record WatchCases : Type 0 where
+  pub nobody : forks fresh ≡ naming 0 0 true
+  -- of four sites one may fork: site 0 alone, then site 3 too, its second block having sequence number 0
+  pub one : forks four ≡ naming 1 1 true
+  pub two : forks (changed four (rowStart 3 + sequenceOffset + 1) 0) ≡ naming 9 2 false
+  -- interpreted or not
+  pub interpretedToo : forks (marked (marked four 0 1) 1 1) ≡ naming 1 1 true
+  -- one sequence number of two sites, and two of one site
+  pub otherSite : forks (changed four (rowStart 1 + siteOffset) 1) ≡ naming 0 0 true
+  pub otherSequence : forks (changed (referring four 1 1) (rowStart 1 + sequenceOffset + 1) 1) ≡ naming 0 0 true
+  pub notInForm : forks unlawful ≡ record { refusal = 2; sites = 0; count = 0; «at_most_f» = false }
+  -- no reference; one; one of which leads on
+  pub nothing : ancestors four 0 ≡ resting 0 0
+  pub direct : ancestors four 2 ≡ resting 2 1
+  pub further : ancestors four 3 ≡ resting 7 3
+  -- 2, then 13
+  pub noForm : ancestors unlawful 0 ≡ record { refusal = 2; places = 0; count = 0 }
+  pub notHeld : ancestors four 4 ≡ record { refusal = 13; places = 0; count = 0 }
