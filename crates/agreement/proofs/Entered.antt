@@ -24,9 +24,9 @@ use Rattle.table.specs.Layout.{countOf, digestAt, siteAt, sequenceAt, rowAt, vi
 use Rattle.table.specs.Rules.{hasDigest, parentRow, parents, parentRule}
 use Rattle.admission.specs.Admission.{lists, rowFor}
 use Rattle.admission.specs.Promises.{Parented}
+use Rattle.admission.proofs.Listed.{reference-from, lists-member, member-lists}
 use Rattle.agreement.proofs.Found.{Holds}
 use Rattle.agreement.proofs.Ancestry.{ParentAmong, Admitted}
-use Rattle.agreement.proofs.Listed.{reference-from, lists-member, member-lists}
 
 -- ---- the table's places hold these blocks
 

@@ -7,10 +7,10 @@ pub mod Agreement
 pub mod Found
 pub mod Ancestry
 pub mod Worlds
-pub mod Listed
 pub mod Same
 pub mod Entered
 pub mod Tied
+pub mod Standing
 pub mod Passed
 pub mod Shown
 pub mod Runs

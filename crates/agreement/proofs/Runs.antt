@@ -11,7 +11,6 @@ use borrow.Author.Tests.{eqb-true, eqb-false, eq-eqb, ne-eqb}
 use Rattle.base.specs.Bytes.{Bytes, splice}
 use Rattle.base.proofs.Tests.{by-test, true-not-false}
 use Rattle.base.proofs.Splice.{length-splice}
-use Rattle.base.proofs.Members.{newest-has}
 use Rattle.block.specs.Limits.{referenceSize}
 use Rattle.block.specs.Reading.{reading, answerOf}
 use Rattle.block.specs.declared.Answer.{Answer}
@@ -34,6 +33,7 @@ use Rattle.agreement.specs.Ledger.{Call, admit, interpret, Ledger, taken
 use Rattle.agreement.specs.Run.{Site, siteAnswer, siteStep, siteAfter, siteAnswers}
 use Rattle.agreement.proofs.Meanings.{record-sized}
 use Rattle.agreement.proofs.Ancestry.{Grown, history-stays}
+use Rattle.agreement.proofs.Standing.{standing}
 use Rattle.agreement.proofs.Tied.{Tied, ledger-formed, answers-same, block-admitted, admitted-tied}
 use Rattle.agreement.proofs.Passed.{interpreted-tied}
 use Rattle.agreement.proofs.Shown.{Shown, written-is}
@@ -99,9 +99,8 @@ module _ (digest : Bytes → Bytes) (sized : (b : Bytes) → length (digest b) �
         shown g i h m = by-test (eqb i (l .held))
             (λ y. let z : cond (eqb i (l .held)) 0 (l .mark i) ≡ 0 = rw y in absurd (omega arith))
             (λ n. let low : i < l .held = omega (arith, eqb-false i (l .held) n) in
-            let among : List·Memᴰ (l .block i) (l .blocks) = subst (λ (bs : List Bytes). List·Memᴰ (l .block i) bs) (sym (t .tied .stand)) (newest-has (l .block) (l .held) i low) in
             t .shown i low (sym (ap (λ (z : Bool). cond z 0 (l .mark i)) n) ∙ m)
-            ∙ ap (meaning s) (sym (history-stays digest (l .blocks) b g (l .block i) among)
+            ∙ ap (meaning s) (sym (history-stays digest (l .blocks) b g (l .block i) (standing digest s size l x (t .tied) .among i low))
             ∙ ap (historyOf digest (b ∷ l .blocks)) (sym (ap (λ (z : Bool). cond z b (l .block i)) n))))
 
     -- an interpretation that passes

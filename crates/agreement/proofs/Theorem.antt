@@ -9,7 +9,7 @@ use native.Mathlib.Omega.{arith}
 use lib.ListN.{length, getD, drop}
 use Rattle.base.specs.Bytes.{Bytes, allZero}
 use Rattle.base.specs.Count.{countBelow}
-use Rattle.base.proofs.Members.{newest, newest-has}
+use Rattle.base.proofs.Members.{newest}
 use Rattle.block.specs.Limits.{referenceSize, slotCount}
 use Rattle.setup.specs.Setup.{Setup, lawful, faults}
 use Rattle.setup.proofs.Thresholds.{sites-lawful}
@@ -30,6 +30,7 @@ use Rattle.agreement.specs.Promises.{forked, Interpreted, deliveredEntry
 use Rattle.agreement.proofs.Meanings.{record-sized}
 use Rattle.agreement.proofs.Validity.{owner-requested}
 use Rattle.agreement.proofs.Ancestry.{child-of, children-listed, ancestor-in}
+use Rattle.agreement.proofs.Standing.{standing}
 use Rattle.agreement.proofs.Runs.{Together, run-together, answers-together, answers-formed}
 use Rattle.agreement.proofs.Worlds.{history-in, history-agree, across, Either, one-delivery}
 
@@ -68,7 +69,7 @@ module _ (digest : Bytes → Bytes) (sized : (b : Bytes) → length (digest b) �
 
   module _ (size : ℕ) (l : Ledger) (x : Site) (t : Together digest sized s size l x) where
     among : (i : ℕ) → i < l .held → List·Memᴰ (l .block i) (l .blocks)
-    among i h = subst (λ (bs : List Bytes). List·Memᴰ (l .block i) bs) (sym (t .tied .stand)) (newest-has (l .block) (l .held) i h)
+    among = standing digest s size l x (t .tied) .among
 
     requested : (slot v : ℕ) → slot < slotCount → (d : Delivered digest s l slot v) → OwnerRequested digest s l (l .block (d .place)) slot v
     requested slot v h d =

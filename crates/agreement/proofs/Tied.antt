@@ -25,12 +25,12 @@ use Rattle.table.proofs.Views.{row-trans, row-sym, held-same, held-in}
 use Rattle.table.proofs.Formed.{formed-of}
 use Rattle.admission.specs.Admission.{lists, rowFor, admissionChecks, admission}
 use Rattle.admission.specs.Promises.{Parented}
+use Rattle.admission.proofs.Listed.{lists-member}
 use Rattle.interpret.specs.Interpretation.{interpretationChecks, interpretation}
 use Rattle.agreement.specs.Ledger.{Call, admit, interpret, Ledger, taken, viewIn, ledgerAnswer}
 use Rattle.agreement.specs.Run.{Site, siteAnswer}
 use Rattle.agreement.proofs.Found.{Holds}
 use Rattle.agreement.proofs.Ancestry.{Admitted, Grown, admitted-in}
-use Rattle.agreement.proofs.Listed.{lists-member}
 use Rattle.agreement.proofs.Same.{admission-same, interpretation-same}
 use Rattle.agreement.proofs.Entered.{entered}
 

@@ -15,16 +15,12 @@ use Rattle.base.specs.List.{someIn}
 use Rattle.base.proofs.Tests.{and-left, and-right, same-tests}
 use Rattle.base.proofs.List.{some-found, some-at}
 use Rattle.base.proofs.Bytes.{other-same, same-other}
-use Rattle.base.proofs.Members.{newest-has, newest-from}
 use Rattle.block.specs.Layout.{siteOf, sequenceOf, referencesOf}
-use Rattle.block.specs.Steps.{Shaped}
 use Rattle.setup.specs.Setup.{Setup, lawful}
 use Rattle.sha256.specs.Sha256.{sha256}
 use Rattle.sha256.proofs.Laws.{sha256-length}
 use Rattle.table.specs.View.{maxPlaces}
-use Rattle.table.specs.Layout.{setupOf, countOf, siteAt, rowAt, viewOf}
-use Rattle.table.proofs.Views.{RowForm, row-form}
-use Rattle.table.proofs.Formed.{formed-of}
+use Rattle.table.specs.Layout.{siteAt, viewOf}
 use Rattle.admission.specs.Admission.{lists}
 use Rattle.watch.specs.Forks.{everywhere, ofSite, forks}
 use Rattle.watch.specs.Ancestors.{Ancestor, direct, further}
@@ -35,38 +31,24 @@ use Rattle.agreement.specs.Ledger.{Call, Ledger}
 use Rattle.agreement.specs.Run.{Site}
 use Rattle.agreement.specs.Promises.{forked, ledgerOf, siteWith}
 use Rattle.agreement.specs.Watched.{NamedAncestor, WatchKeeps}
-use Rattle.agreement.proofs.Ancestry.{admitted-in}
-use Rattle.agreement.proofs.Listed.{lists-member, member-lists}
 use Rattle.agreement.proofs.Tied.{Tied}
+use Rattle.agreement.proofs.Standing.{Standing, standing}
 use Rattle.agreement.proofs.Theorem.{run}
 
 module _ (digest : Bytes → Bytes) (s : Setup) (size : ℕ) (l : Ledger) (x : Site) (t : Tied digest s size l x) where
   abbrev table : Bytes
   table = x .table
 
-  below : (i : ℕ) → i < l .held → i < countOf table
-  below i h = omega (arith, t .count)
-
-  is-place : (i : ℕ) → i < l .held → i < maxPlaces
-  is-place i h = omega (arith, below i h, formed-of table (t .formed) .held .fits)
-
-  row : (i : ℕ) → i < l .held → RowForm (setupOf table) (viewOf table) i
-  row i h = row-form (setupOf table) (viewOf table) i (formed-of table (t .formed) .held .rows i (below i h))
-
-  -- the ledger's blocks stand at its places
-  among : (i : ℕ) → i < l .held → List·Memᴰ (l .block i) (l .blocks)
-  among i h = subst (λ (bs : List Bytes). List·Memᴰ (l .block i) bs) (sym (t .stand)) (newest-has (l .block) (l .held) i h)
-
-  placed : (b : Bytes) → List·Memᴰ b (l .blocks) → (i : ℕ) × (i < l .held) × (b ≡ l .block i)
-  placed b m = newest-from (l .block) (l .held) b (subst (λ (bs : List Bytes). List·Memᴰ b bs) (t .stand) m)
+  stand : Standing digest l table
+  stand = standing digest s size l x t
 
   -- ---- forks
 
   of-site : (p i : ℕ) → i < l .held → siteOf (l .block i) ≡ p → ofSite (viewOf table) everywhere p i ≡ true
-  of-site p i h e = rw (lt-ltb i maxPlaces (is-place i h), eq-eqb (siteAt table i) p (t .rows i (below i h) .site ∙ e))
+  of-site p i h e = rw (lt-ltb i maxPlaces (stand .fits i h), eq-eqb (siteAt table i) p (t .rows i (stand .counted i h) .site ∙ e))
 
   site-of : (p i : ℕ) → i < l .held → ofSite (viewOf table) everywhere p i ≡ true → siteOf (l .block i) ≡ p
-  site-of p i h e = sym (t .rows i (below i h) .site) ∙ eqb-true (siteAt table i) p (and-right (everywhere i) (eqb (siteAt table i) p) e)
+  site-of p i h e = sym (t .rows i (stand .counted i h) .site) ∙ eqb-true (siteAt table i) p (and-right (everywhere i) (eqb (siteAt table i) p) e)
 
   -- two different blocks of a site with one sequence number
   abbrev twice : ℕ → Bytes → Bytes → Bool
@@ -80,12 +62,12 @@ module _ (digest : Bytes → Bytes) (s : Setup) (size : ℕ) (l : Ledger) (x : S
       let hj : j < l .held = omega (arith, w .held, t .count) in
       let hi : i < l .held = omega (arith, hj, w .different) in
       let q : sequenceOf (l .block i) ≡ sequenceOf (l .block j) =
-      sym (t .rows i (below i hi) .sequence) ∙ w .sequence ∙ t .rows j (below j hj) .sequence in
+      sym (t .rows i (stand .counted i hi) .sequence) ∙ w .sequence ∙ t .rows j (stand .counted j hj) .sequence in
       let n : sameBytes (l .block i) (l .block j) ≡ false = other-same (l .block i) (l .block j) (λ e.
-      row j hj .new i (w .different) (t .rows i (below i hi) .digest ∙ ap digest e ∙ sym (t .rows j (below j hj) .digest))) in
+      stand .row j hj .new i (w .different) (t .rows i (stand .counted i hi) .digest ∙ ap digest e ∙ sym (t .rows j (stand .counted j hj) .digest))) in
       let y : twice p (l .block i) (l .block j) ≡ true =
       rw (eq-eqb _ p (site-of p i hi (w .oneOf)), eq-eqb _ p (site-of p j hj (w .otherOf)), eq-eqb _ _ q, n) in
-      some-at (λ a. someIn (twice p a) (l .blocks)) (l .blocks) (l .block i) (among i hi) (some-at (twice p (l .block i)) (l .blocks) (l .block j) (among j hj) y)
+      some-at (λ a. someIn (twice p a) (l .blocks)) (l .blocks) (l .block i) (stand .among i hi) (some-at (twice p (l .block i)) (l .blocks) (l .block j) (stand .among j hj) y)
 
   -- at places that rise
   sharing : (p i j : ℕ) → i < j → j < l .held → siteOf (l .block i) ≡ p → siteOf (l .block j) ≡ p → sequenceOf (l .block i) ≡ sequenceOf (l .block j)
@@ -96,10 +78,10 @@ module _ (digest : Bytes → Bytes) (s : Setup) (size : ℕ) (l : Ledger) (x : S
         one = i;
         other = j;
         different = d;
-        held = below j h;
+        held = stand .counted j h;
         oneOf = of-site p i hi a;
         otherOf = of-site p j h b;
-        sequence = t .rows i (below i hi) .sequence ∙ q ∙ sym (t .rows j (below j h) .sequence);
+        sequence = t .rows i (stand .counted i hi) .sequence ∙ q ∙ sym (t .rows j (stand .counted j h) .sequence);
       }
 
   two-places : (p : ℕ) (a b : Bytes) → (i : ℕ) × (i < l .held) × (a ≡ l .block i) → (j : ℕ) × (j < l .held) × (b ≡ l .block j) → twice p a b ≡ true
@@ -125,33 +107,16 @@ module _ (digest : Bytes → Bytes) (s : Setup) (size : ℕ) (l : Ledger) (x : S
   forked-shared p e =
       let u = some-found (λ a. someIn (twice p a) (l .blocks)) (l .blocks) e in
       let w = some-found (twice p (u .0)) (l .blocks) (u .2) in
-      two-places p (u .0) (w .0) (placed (u .0) (u .1)) (placed (w .0) (w .1)) (w .2)
+      two-places p (u .0) (w .0) (stand .placed (u .0) (u .1)) (stand .placed (w .0) (w .1)) (w .2)
 
   -- ---- ancestors
 
-  -- what a place refers to is what its block lists
-  refers-is : (i j : ℕ) → i < l .held → j < l .held → rowAt table i .refersTo j ≡ lists (l .block i) (digest (l .block j))
-  refers-is i j h k = t .rows i (below i h) .refersTo j (is-place j k) ∙ rw (lt-ltb j (l .held) k)
-
-  shaped : (i : ℕ) → i < l .held → Shaped (l .block i)
-  shaped i h = admitted-in digest (l .blocks) (t .grown) (l .block i) (among i h) .1 .shape
-
-  module _ (i j : ℕ) (h : i < l .held) (k : j < l .held) where
-    refers-lists : rowAt table i .refersTo j ≡ true → List·Memᴰ (digest (l .block j)) (referencesOf (l .block i))
-    refers-lists e = lists-member (l .block i) (shaped i h) (digest (l .block j)) (sym (refers-is i j h k) ∙ e)
-
-    lists-refers : List·Memᴰ (digest (l .block j)) (referencesOf (l .block i)) → rowAt table i .refersTo j ≡ true
-    lists-refers m = refers-is i j h k ∙ member-lists (l .block i) (shaped i h) (digest (l .block j)) m
-
-  held-place : (a : ℕ) → a < countOf table → a < l .held
-  held-place a k = omega (arith, t .count)
-
   ancestor-of-block : {a i : ℕ} → i < l .held → Ancestor (viewOf table) a i → (a < l .held) × AncestorIn digest (l .blocks) (l .block a) (l .block i)
-  ancestor-of-block {a} {i} h (direct k e) = let ka = held-place a k in (ka, refers (among a ka) (refers-lists i a h ka e))
+  ancestor-of-block {a} {i} h (direct k e) = let ka = stand .held a k in (ka, refers (stand .among a ka) (stand .lists i a h ka e))
   ancestor-of-block {a} {i} h (further {c = c} w k e) =
-      let kc = held-place c k in
+      let kc = stand .held c k in
       let r = ancestor-of-block kc w in
-      (r .0, through (r .1) (among c kc) (refers-lists i c h kc e))
+      (r .0, through (r .1) (stand .among c kc) (stand .lists i c h kc e))
 
   -- a place above which place i stands, and its block
   record AncestorPlace (i : ℕ) (b : Bytes) : Type 0 where
@@ -161,14 +126,14 @@ module _ (digest : Bytes → Bytes) (s : Setup) (size : ℕ) (l : Ledger) (x : S
 
   block-of-ancestor : {b e : Bytes} → AncestorIn digest (l .blocks) b e → (i : ℕ) → i < l .held → e ≡ l .block i → AncestorPlace i b
   block-of-ancestor (refers {a = b} m r) i h q =
-      let w = placed b m in
+      let w = stand .placed b m in
       let e : List·Memᴰ (digest (l .block (w .0))) (referencesOf (l .block i)) = rw (← q, ← (w .2)) r in
-      record { place = w .0; above = direct (below (w .0) (w .1)) (lists-refers i (w .0) h (w .1) e); holds = sym (w .2) }
+      record { place = w .0; above = direct (stand .counted (w .0) (w .1)) (stand .refers i (w .0) h (w .1) e); holds = sym (w .2) }
   block-of-ancestor (through {c = c} u m r) i h q =
-      let w = placed c m in
+      let w = stand .placed c m in
       let e : List·Memᴰ (digest (l .block (w .0))) (referencesOf (l .block i)) = rw (← q, ← (w .2)) r in
       let v = block-of-ancestor u (w .0) (w .1) (w .2) in
-      record { place = v .place; above = further (v .above) (below (w .0) (w .1)) (lists-refers i (w .0) h (w .1) e); holds = v .holds }
+      record { place = v .place; above = further (v .above) (stand .counted (w .0) (w .1)) (stand .refers i (w .0) h (w .1) e); holds = v .holds }
 
   -- ---- what the watch answers
 
@@ -179,12 +144,12 @@ module _ (digest : Bytes → Bytes) (s : Setup) (size : ℕ) (l : Ledger) (x : S
   ancestors-named : (i : ℕ) → i < l .held → (b : Bytes) → NamedAncestor l x i b ↔ AncestorIn digest (l .blocks) b (l .block i)
   ancestors-named i h b = (
     λ w. subst (λ (c : Bytes). AncestorIn digest (l .blocks) c (l .block i)) (w .holds)
-        (ancestor-of-block h (promises .ancestor table i (t .formed) (below i h) (w .place) .0 (w .named)) .1),
+        (ancestor-of-block h (promises .ancestor table i (t .formed) (stand .counted i h) (w .place) .0 (w .named)) .1),
     λ u. let w = block-of-ancestor u i h refl in
         record {
           place = w .place;
           held = ancestor-of-block h (w .above) .0;
-          named = promises .ancestor table i (t .formed) (below i h) (w .place) .1 (w .above);
+          named = promises .ancestor table i (t .formed) (stand .counted i h) (w .place) .1 (w .above);
           holds = w .holds;
         },
   )
@@ -193,7 +158,7 @@ module _ (digest : Bytes → Bytes) (s : Setup) (size : ℕ) (l : Ledger) (x : S
   watch-keeps =
       record {
         formed = forks-answered;
-        answered = λ i h. promises .none table i .1 (t .formed, below i h);
+        answered = λ i h. promises .none table i .1 (t .formed, stand .counted i h);
         forkedSites = λ p.
             let named = promises .forked table (t .formed) p in
             same-tests _ _ (λ e. shared-forked p (named .0 e)) (λ e. named .1 (forked-shared p e));

@@ -65,7 +65,7 @@ module _ (seen : ℕ → Bool) (t : Bytes) (p : ℕ) (requests : Bytes) (all : A
   listed-picked : (j : ℕ) → j < countOf t → lists block (digestAt t j) ≡ true → (i : ℕ) × (i < length (picked seen v p)) × (place i ≡ j)
   listed-picked j h y =
       let w = listed-reference block next reads (digestAt t j) y in
-      let l : w .0 < length (picked seen v p) = omega (arith, w .1, count-picked) in
+      let l : w .0 < length (picked seen v p) = omega (arith, w .1, as-many-references seen t p requests) in
       (w .0, l, one-place t form (place (w .0)) j (picked-held seen v p (w .0) l) h (sym (reference-at seen t p requests (w .0) l) ∙ w .2))
 
   -- ---- what admission checks
@@ -102,7 +102,8 @@ module _ (seen : ℕ → Bool) (t : Bytes) (p : ℕ) (requests : Bytes) (all : A
       greatest-parent =
           rw (
             lt-ltb (place 0) (countOf t) first-held,
-            reference-listed block next reads (digestAt t (place 0)) 0 (omega (arith, first, count-picked)) (reference-at seen t p requests 0 first),
+            ← reference-at seen t p requests 0 first,
+            reference-listed block next reads 0 (omega (arith, first, as-many-references seen t p requests)),
             eq-eqb (v .row (place 0) .site) (siteOf block) (greatest-site seen v p (place 0) first-greatest ∙ sym of-site),
             eq-eqb (v .row (place 0) .sequence + 1) (sequenceOf block) (greatest-before seen v p (place 0) first-greatest ∙ sym of-sequence),
           )

@@ -27,10 +27,7 @@ use Rattle.build.specs.Promises.{Asked, answer, needed, Able}
 -- ---- what checks 3 and 6 say of the requests
 
 module _ (requests : Bytes) where
-  abbrev Listed : Type 0
-  Listed = (length requests ≤ maxRequestListSize) × (length requests % requestSize ≡ 0)
-
-  well-listed : (wellListed requests ≡ true) ↔ Listed
+  pub well-listed : (wellListed requests ≡ true) ↔ ((length requests ≤ maxRequestListSize) × (length requests % requestSize ≡ 0))
   unfolding wellListed
   well-listed = (
     λ e. (

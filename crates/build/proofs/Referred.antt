@@ -1,6 +1,6 @@
 -- What the blocks of a site refer to, gathered place by place. Assumes nothing.
-use mathlib.Core.Path.{_≡_, refl, _∙_}
-use mathlib.Core.Bool.{Bool, true, false, _&&_, _||_}
+use mathlib.Core.Path.{_≡_, refl, sym, _∙_}
+use mathlib.Core.Bool.{Bool, true, false, _&&_, or-false}
 use Prim.Native.Nat.{ℕ, _+_, _^_, _<_}
 use lib.Bits.{bitOr}
 use Rattle.base.specs.Search.{firstBelow, anyBelow}
@@ -11,10 +11,6 @@ use Rattle.base.proofs.Sets.{mask-join, mask-same}
 use Rattle.table.specs.View.{maxPlaces}
 use Rattle.table.specs.Layout.{referencesAt, rowAt, viewOf}
 use Rattle.watch.specs.Forks.{ofSite}
-
-or-none : (t : Bool) → t ≡ (t || false)
-or-none true = refl
-or-none false = refl
 
 module _ (t : Bytes) (seen p : ℕ) where
   -- a block of the site at place j refers to place i
@@ -36,4 +32,4 @@ module _ (t : Bytes) (seen p : ℕ) where
       ∙ mask-same _ (λ i. anyBelow (refers i) (k + 1)) maxPlaces (λ i l. rw (any-more (refers i) k, y))
 
   pub referred-past : (k : ℕ) → ofSite (viewOf t) (inMask seen) p k ≡ false → referredBelow k ≡ referredBelow (k + 1)
-  referred-past k n = mask-same _ (λ i. anyBelow (refers i) (k + 1)) maxPlaces (λ i l. rw (any-more (refers i) k, n) (or-none (anyBelow (refers i) k)))
+  referred-past k n = mask-same _ (λ i. anyBelow (refers i) (k + 1)) maxPlaces (λ i l. rw (any-more (refers i) k, n) (sym (or-false (anyBelow (refers i) k))))

@@ -1,14 +1,13 @@
 -- What the bytes of a block show, where they read to a content: its site, its sequence number and its references in their order, and so when
 -- a digest is among them. Assumes nothing.
-use mathlib.Core.Path.{_≡_, sym, ap, _∙_}
+use mathlib.Core.Path.{_≡_, sym, ap, _∙_, subst}
 use mathlib.Core.Bool.{true}
-use mathlib.Core.List.{[]}
+use mathlib.Core.List.{[], List·Memᴰ}
 use Prim.Native.Nat.{ℕ, _<_}
 use native.Mathlib.Omega.{arith}
 use lib.ListN.{length, getD}
-use Rattle.base.specs.Bytes.{Bytes, sameBytes}
-use Rattle.base.proofs.Search.{any-true, any-true-at}
-use Rattle.base.proofs.Bytes.{same-equal, equal-same}
+use Rattle.base.specs.Bytes.{Bytes}
+use Rattle.base.proofs.Members.{at-member, member-at}
 use Rattle.block.specs.Layout.{Content, siteOf, sequenceOf, referenceCount, referenceList, referenceAt, content, contentOf}
 use Rattle.block.specs.Reading.{fieldsOf}
 use Rattle.block.specs.Codec.{Reads}
@@ -17,6 +16,7 @@ use Rattle.block.proofs.Lists.{references-length, references-at}
 use Rattle.block.proofs.Shape.{references-counted}
 use Rattle.block.proofs.Accepted.{reading-accepted}
 use Rattle.admission.specs.Admission.{lists}
+use Rattle.admission.proofs.Listed.{lists-member, member-lists}
 
 module _ (b : Bytes) (c : Content) (r : Reads b c) where
   shape : Shaped b
@@ -40,11 +40,11 @@ module _ (b : Bytes) (c : Content) (r : Reads b c) where
       sym (references-at (referenceList b) i (omega (arith, references-counted b shape))) ∙ ap (λ (x : Content). getD (x .references) i []) (r .content)
 
   -- a listed digest is a reference, and each reference is listed
-  pub listed-reference : (d : Bytes) → lists b d ≡ true → (i : ℕ) × (i < referenceCount b) × (getD (c .references) i [] ≡ d)
-  listed-reference d y =
-      let w = any-true-at (λ i. sameBytes (referenceAt (referenceList b) i) d) (referenceCount b) y in
-      (w .0, w .1, sym (shown-reference (w .0) (w .1)) ∙ same-equal _ _ (w .2))
+  pub listed-reference : (d : Bytes) → lists b d ≡ true → (i : ℕ) × (i < length (c .references)) × (getD (c .references) i [] ≡ d)
+  unfolding contentOf content
+  listed-reference d y = member-at (c .references) d [] (subst (λ (x : Content). List·Memᴰ d (x .references)) (r .content) (lists-member b shape d y))
 
-  pub reference-listed : (d : Bytes) (i : ℕ) → i < referenceCount b → getD (c .references) i [] ≡ d → lists b d ≡ true
-  reference-listed d i h e =
-      any-true (λ i. sameBytes (referenceAt (referenceList b) i) d) (referenceCount b) i h (equal-same _ _ (shown-reference i h ∙ e))
+  pub reference-listed : (i : ℕ) → i < length (c .references) → lists b (getD (c .references) i []) ≡ true
+  unfolding contentOf content
+  reference-listed i h = member-lists b shape (getD (c .references) i [])
+      (subst (λ (x : Content). List·Memᴰ (getD (c .references) i []) (x .references)) (sym (r .content)) (at-member (c .references) i [] h))

@@ -7,6 +7,7 @@ use Rattle.base.specs.Bytes.{Bytes, allZero}
 use Rattle.base.proofs.Tests.{and-left, and-right}
 use Rattle.table.specs.Layout.{tableSize, rowStart, setupOf, countOf, viewOf}
 use Rattle.table.specs.Form.{inForm}
+use Rattle.table.specs.Steps.{Places}
 use Rattle.table.proofs.Views.{Held, held-of, held-in}
 
 pub record Formed (t : Bytes) : Type 0 where
@@ -23,6 +24,9 @@ formed-of t e =
       held = held-of (setupOf t) (viewOf t) (search (and-left, and-right));
       zeros = search and-right;
     }
+
+pub formed-places : (t : Bytes) → inForm t ≡ true → Places t (countOf t)
+formed-places t e = let f = formed-of t e in record { size = f .size; bound = f .held .fits }
 
 pub in-formed : (t : Bytes) → Formed t → inForm t ≡ true
 unfolding inForm

@@ -10,7 +10,7 @@ use Rattle.table.specs.Layout.{setupOf, countOf, viewOf}
 use Rattle.table.specs.Form.{inForm}
 use Rattle.table.specs.Steps.{Place}
 use Rattle.table.proofs.Views.{RowForm, row-form}
-use Rattle.table.proofs.Formed.{formed-of}
+use Rattle.table.proofs.Formed.{formed-of, formed-places}
 use Rattle.watch.specs.Steps.{Ready}
 use Rattle.watch.proofs.Reached.{RefersLower}
 
@@ -28,7 +28,7 @@ module _ (t : Bytes) (e : inForm t ≡ true) where
   ready =
       let f = formed-of t e in
       record {
-        sized = record { size = f .size; bound = f .held .fits };
+        sized = formed-places t e;
         few = sites-few (setupOf t .sites) (sites-lawful (setupOf t) (f .held .lawful));
       }
 

@@ -20,18 +20,14 @@ use Rattle.block.specs.declared.Reading.the-variants.{Block, Misshapen, BadRequ
 use Rattle.block.proofs.Reading.{the-type}
 use Rattle.block.proofs.Shape.{shaped}
 use Rattle.block.proofs.Accepted.{reading-accepted}
-use Rattle.table.specs.Layout.{setupOf, countOf}
+use Rattle.table.specs.Layout.{setupOf}
 use Rattle.table.specs.Form.{inForm}
 use Rattle.table.specs.Checks.{refused, answerTo}
-use Rattle.table.specs.Steps.{Places}
-use Rattle.table.proofs.Formed.{formed-of}
+use Rattle.table.proofs.Formed.{formed-places}
 use Rattle.admission.specs.Admission.{admission, admitted}
 use Rattle.admission.specs.Steps.{heldAnswer, entered}
 use Rattle.admission.proofs.admit.Statement.{statement}
 use Rattle.admission.proofs.admit.Tie as tie
-
-sized : (t : Bytes) → inForm t ≡ true → Places t (countOf t)
-sized t e = let f = formed-of t e in record { size = f .size; bound = f .held .fits }
 
 -- a reading that is no block has a refusal's number
 refused-number : (r : Reading) → OneOf (1 ∷ 2 ∷ 3 ∷ []) (tagOf the-type r) → answerOf r .refusal ≢ 0
@@ -142,7 +138,7 @@ enter-requires c κs =
     let v = r .before in
     let d = v .before in
     let a = start d .args in (
-      sized _ (formed (first d)),
+      formed-places _ (formed (first d)),
       shaped _ (shape (second d)),
       fields (a .table .now) (a .block .now) (a .verdict) (formed (first d)) (shape (second d)) (site d) (v .if4 .left) _ (r .read-block .ensures) _ (m .reading .given .1),
     )
@@ -167,7 +163,7 @@ admit-spec =
     (λ c κs. search needs)
     (λ c. search needs)
     returns-2
-    (λ c κs. let f = sized _ (formed (c .before .before .before)) in search needs)
+    (λ c κs. let f = formed-places _ (formed (c .before .before .before)) in search needs)
     (λ c. let f = shaped _ (shape (c .before .before .before)) in search needs)
     (λ c. search needs)
     returns-3

@@ -2,26 +2,26 @@
 use mathlib.Core.Path.{_≡_, sym, _∙_}
 use mathlib.Core.Bool.{true, false}
 use mathlib.Core.Logic.{_≢_}
-use Prim.Native.Nat.{ℕ, _/_, _%_, _≤_, _<_}
+use Prim.Native.Nat.{ℕ, _/_, _≤_, _<_}
 use native.Mathlib.Omega.{arith}
 use lib.ListN.{length}
 use borrow.Author.Needs.{needs}
-use borrow.Author.Tests.{ne-eqb, eqb-true, leb-true, lt-ltb, le-ltb, not-true, not-false}
+use borrow.Author.Tests.{ne-eqb, lt-ltb, le-ltb, not-true, not-false}
 use Rattle.base.specs.Search.{anyBelow}
 use Rattle.base.specs.Mask.{inMask}
 use Rattle.base.specs.Bytes.{Bytes}
-use Rattle.base.proofs.Tests.{and-left, and-right}
 use Rattle.block.specs.Limits.{requestSize}
 use Rattle.block.specs.Steps.{firstBad}
 use Rattle.block.specs.declared.Answer.{Answer}
 use Rattle.table.specs.Layout.{setupOf, viewOf}
 use Rattle.table.specs.Form.{inForm}
 use Rattle.table.specs.Checks.{refused, answerTo}
-use Rattle.table.proofs.Formed.{formed-of}
+use Rattle.table.proofs.Formed.{formed-of, formed-places}
 use Rattle.watch.specs.Forks.{forkedIn}
 use Rattle.build.specs.Building.{wellListed, buildingFrom, builtFrom}
 use Rattle.build.specs.Steps.{Ready, Listed, nextAnswer, nextOutput}
 use Rattle.build.proofs.Sequence.{sequence-low}
+use Rattle.build.proofs.Causes.{well-listed}
 use Rattle.build.proofs.build_from.Statement.{statement}
 use Rattle.build.proofs.build_from.Tie as tie
 
@@ -31,16 +31,13 @@ ready t seen p e n =
     let form = formed-of t e in
     record {
       formed = e;
-      sized = record { size = form .size; bound = form .held .fits };
+      sized = formed-places t e;
       low = λ i h. omega (arith, sequence-low (setupOf t) (viewOf t) (form .held) i h, form .held .fits);
       unforked = n;
     }
 
 listed : (requests : Bytes) → wellListed requests ≡ true → Listed requests
-unfolding wellListed
-listed requests e =
-    let w : length requests % requestSize ≡ 0 = eqb-true _ _ (search and-right) in
-    record { fits = leb-true _ _ (search and-left); whole = omega arith }
+listed requests e = let w = well-listed requests .0 e in record { fits = w .0; whole = omega (arith, w .1) }
 
 module _ (seen : ℕ) (t : Bytes) (p : ℕ) (requests output : Bytes) where
   -- what a call promises
@@ -137,7 +134,7 @@ returns-5 c =
     way16 _ _ _ _ _ (formed (first s)) (site s) (list l) _ (b .before .first-bad .ensures) (b .if4 .left) (sym (c .before .forked .ensures) ∙ c .if5 .taken)
 
 forked-requires : tie.Need-forked-requires
-forked-requires c κs = let form = formed-of _ (formed (first (second (third c)))) in record { size = form .size; bound = form .held .fits }
+forked-requires c κs = formed-places _ (formed (first (second (third c))))
 
 write-next-requires : tie.Need-write-next-requires
 write-next-requires c κs =
