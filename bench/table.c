@@ -72,102 +72,80 @@ static void interpret_all_but_one(void)
     }
 }
 
-/* ---- Batches */
+/* ---- The calls. Each says whether it was answered as expected. */
 
-static double time_digest(void)
+static bool call_digest(void)
 {
     uint8_t digest[GT_DIGEST_BYTES];
-    double start = cpu_seconds();
 
-    for (int i = 0; i < CALLS; i++)
-        gt_digest(block, GT_MAX_BLOCK_BYTES, digest, GT_DIGEST_BYTES);
-    return cpu_seconds() - start;
+    return gt_digest(block, GT_MAX_BLOCK_BYTES, digest, GT_DIGEST_BYTES).refusal == 0;
 }
 
-static double time_form(void)
-{
-    bool all = true;
-    double start = cpu_seconds();
+static bool call_in_form(void) { return gt_in_form(full, GT_TABLE_BYTES); }
 
-    for (int i = 0; i < CALLS; i++)
-        all = gt_in_form(full, GT_TABLE_BYTES) && all;
-    double taken = cpu_seconds() - start;
-    expect(all, "the full table is not in form");
-    return taken;
+/* The table is put back before each admission; that copy is in the time. */
+static bool call_admit(void)
+{
+    memcpy(lent, but_one, GT_TABLE_BYTES);
+    gt_answer answer = gt_admit(lent, GT_TABLE_BYTES, block, GT_MAX_BLOCK_BYTES, 1);
+    return answer.refusal == 0 && answer.value == LAST_PLACE;
 }
 
-/* The table is put back before each call; that copy is in the time. */
-static double time_admission(void)
+/* The mark is taken back before each interpretation, by a copy that is in the time. */
+static bool call_interpret(void)
 {
-    bool all = true;
-    double start = cpu_seconds();
-
-    for (int i = 0; i < CALLS; i++) {
-        memcpy(lent, but_one, GT_TABLE_BYTES);
-        gt_answer answer = gt_admit(lent, GT_TABLE_BYTES, block, GT_MAX_BLOCK_BYTES, 1);
-        all = answer.refusal == 0 && answer.value == LAST_PLACE && all;
-    }
-    double taken = cpu_seconds() - start;
-    expect(all && memcmp(lent, full, GT_TABLE_BYTES) == 0, "the last block was refused");
-    return taken;
+    memcpy(lent, unmarked, GT_TABLE_BYTES);
+    return gt_interpret(lent, GT_TABLE_BYTES, LAST_PLACE, records, GT_RECORDS_NUMBERS).refusal == 0;
 }
 
-/* The mark is taken back before each call, by a copy that is in the time. */
-static double time_interpretation(void)
+static bool call_forks(void)
 {
-    bool all = true;
-    double start = cpu_seconds();
-
-    for (int i = 0; i < CALLS; i++) {
-        memcpy(lent, unmarked, GT_TABLE_BYTES);
-        all = gt_interpret(lent, GT_TABLE_BYTES, LAST_PLACE, records, GT_RECORDS_NUMBERS).refusal == 0 && all;
-    }
-    double taken = cpu_seconds() - start;
-    expect(all, "the last place was not interpreted");
-    return taken;
-}
-
-static double time_forks(void)
-{
-    bool all = true;
-    double start = cpu_seconds();
-
-    for (int i = 0; i < CALLS; i++) {
-        gt_forked_sites forks = gt_forks(full, GT_TABLE_BYTES);
-        all = forks.refusal == 0 && forks.count == 0 && all;
-    }
-    double taken = cpu_seconds() - start;
-    expect(all, "the watch named a site");
-    return taken;
+    gt_forked_sites forks = gt_forks(full, GT_TABLE_BYTES);
+    return forks.refusal == 0 && forks.count == 0;
 }
 
 /* The last place rests on the three rounds before its own. */
-static double time_ancestors(void)
+static bool call_ancestors(void)
+{
+    return gt_ancestors(full, GT_TABLE_BYTES, LAST_PLACE).count == GT_MAX_PLACES - SITES;
+}
+
+/* Site 0 refers to its own block of the last round and to the 15 others. */
+static bool call_build(void)
+{
+    uint8_t output[GT_MAX_BLOCK_BYTES];
+    const uint8_t *requests = block + GT_MAX_BLOCK_BYTES - 3 * GT_SLOTS;
+    gt_answer answer = gt_build(full, GT_TABLE_BYTES, 0, requests, 3 * GT_SLOTS, output, sizeof output);
+
+    return answer.refusal == 0 && answer.value == GT_MAX_BLOCK_BYTES;
+}
+
+enum { DIGEST, IN_FORM, ADMIT, INTERPRET, FORKS, ANCESTORS, BUILD, KINDS };
+
+static const struct {
+    const char *name;
+    bool (*call)(void);
+} kinds[KINDS] = {
+    [DIGEST] = {"gt_digest, 541 bytes", call_digest},
+    [IN_FORM] = {"gt_in_form, 64 places", call_in_form},
+    [ADMIT] = {"gt_admit, at place 63", call_admit},
+    [INTERPRET] = {"gt_interpret, of place 63", call_interpret},
+    [FORKS] = {"gt_forks, 64 places", call_forks},
+    [ANCESTORS] = {"gt_ancestors, of place 63", call_ancestors},
+    [BUILD] = {"gt_build, 541 bytes", call_build},
+};
+
+/* ---- Batches */
+
+static double time_batch(int kind)
 {
     bool all = true;
     double start = cpu_seconds();
 
     for (int i = 0; i < CALLS; i++)
-        all = gt_ancestors(full, GT_TABLE_BYTES, LAST_PLACE).count == GT_MAX_PLACES - SITES && all;
+        all = kinds[kind].call() && all;
     double taken = cpu_seconds() - start;
-    expect(all, "the last place has other ancestors");
-    return taken;
-}
-
-/* Site 0 refers to its own block of the last round and to the 15 others. */
-static double time_building(void)
-{
-    uint8_t output[GT_MAX_BLOCK_BYTES];
-    const uint8_t *requests = block + GT_MAX_BLOCK_BYTES - 3 * GT_SLOTS;
-    bool all = true;
-    double start = cpu_seconds();
-
-    for (int i = 0; i < CALLS; i++) {
-        gt_answer answer = gt_build(full, GT_TABLE_BYTES, 0, requests, 3 * GT_SLOTS, output, sizeof output);
-        all = answer.refusal == 0 && answer.value == GT_MAX_BLOCK_BYTES && all;
-    }
-    double taken = cpu_seconds() - start;
-    expect(all, "the block built is not of 541 bytes");
+    expect(all, "a call was answered otherwise than expected");
     return taken;
 }
 
@@ -177,40 +155,29 @@ static void divide(double quotient[REPETITIONS], const double seconds[REPETITION
         quotient[i] = seconds[i] / by[i];
 }
 
-static void print_call(const char *call, double seconds[REPETITIONS], const double digest[REPETITIONS],
-                       const double admission[REPETITIONS])
-{
-    double digests_of[REPETITIONS], admissions_of[REPETITIONS];
+/* Seconds of each repetition's batch, by kind. */
+static double taken[KINDS][REPETITIONS];
 
-    divide(digests_of, seconds, digest);
-    divide(admissions_of, seconds, admission);
-    printf("%-28s %12.2f %8.2f %10.2f\n", call, 1e6 * median(seconds) / CALLS, median(digests_of),
+static void print_kind(int kind)
+{
+    double digests_of[REPETITIONS], admissions_of[REPETITIONS], seconds[REPETITIONS];
+
+    divide(digests_of, taken[kind], taken[DIGEST]);
+    divide(admissions_of, taken[kind], taken[ADMIT]);
+    memcpy(seconds, taken[kind], sizeof seconds); /* a median sorts */
+    printf("%-28s %12.2f %8.2f %10.2f\n", kinds[kind].name, 1e6 * median(seconds) / CALLS, median(digests_of),
            median(admissions_of));
 }
 
 int main(void)
 {
-    double digest[REPETITIONS], form[REPETITIONS], admission[REPETITIONS], interpretation[REPETITIONS];
-    double forks[REPETITIONS], ancestors[REPETITIONS], building[REPETITIONS];
-
     fill_table();
     interpret_all_but_one();
-    time_digest();
-    time_form();
-    time_admission();
-    time_interpretation();
-    time_forks();
-    time_ancestors();
-    time_building();
-    for (int i = 0; i < REPETITIONS; i++) {
-        digest[i] = time_digest();
-        form[i] = time_form();
-        admission[i] = time_admission();
-        interpretation[i] = time_interpretation();
-        forks[i] = time_forks();
-        ancestors[i] = time_ancestors();
-        building[i] = time_building();
-    }
+    for (int kind = 0; kind < KINDS; kind++)
+        time_batch(kind);
+    for (int i = 0; i < REPETITIONS; i++)
+        for (int kind = 0; kind < KINDS; kind++)
+            taken[kind][i] = time_batch(kind);
 
     puts("A full table: its form check, the admission that fills it, the interpretation of its last place, the watch and a");
     puts("block of 541 bytes built from it, against the digest of a block of 541 bytes and against that admission.");
@@ -222,12 +189,7 @@ int main(void)
     puts("counted with it. A ratio is the median of the ratios within the repetitions.");
     puts("");
     puts("call                         microseconds  digests admissions");
-    print_call("gt_digest, 541 bytes", digest, digest, admission);
-    print_call("gt_in_form, 64 places", form, digest, admission);
-    print_call("gt_admit, at place 63", admission, digest, admission);
-    print_call("gt_interpret, of place 63", interpretation, digest, admission);
-    print_call("gt_forks, 64 places", forks, digest, admission);
-    print_call("gt_ancestors, of place 63", ancestors, digest, admission);
-    print_call("gt_build, 541 bytes", building, digest, admission);
+    for (int kind = 0; kind < KINDS; kind++)
+        print_kind(kind);
     return 0;
 }

@@ -32,6 +32,11 @@ impl Answered {
     }
 }
 
+/// A line of the summary, in the parts of this module.
+fn line(to: &mut Formatter, name: &str, times: u64) -> fmt::Result {
+    writeln!(to, "{name:<52} {times:>8}")
+}
+
 #[derive(Default)]
 pub struct Counts {
     pub cases: u64,

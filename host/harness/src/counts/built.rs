@@ -78,7 +78,7 @@ fn forked_below(table: &Table, site: u8) -> bool {
 
 impl Display for BuiltBlocks {
     fn fmt(&self, to: &mut Formatter) -> fmt::Result {
-        let mut line = |name: &str, times: u64| writeln!(to, "{name:<52} {times:>8}");
+        let mut line = |name: &str, times: u64| super::line(to, name, times);
         line("blocks built", self.all)?;
         line("blocks built for a site without a held block", self.without_own)?;
         line("blocks built with nothing of others left", self.none_left)?;

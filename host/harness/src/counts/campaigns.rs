@@ -71,7 +71,7 @@ impl InSlot {
 
 impl Display for Campaigns {
     fn fmt(&self, to: &mut Formatter) -> fmt::Result {
-        let mut line = |name: &str, times: u64| writeln!(to, "{name:<52} {times:>8}");
+        let mut line = |name: &str, times: u64| super::line(to, name, times);
         line("campaigns", self.all)?;
         line("campaigns with 1 to f forked sites", self.few_forked)?;
         line("campaigns with more forked sites", self.many_forked)?;

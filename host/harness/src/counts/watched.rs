@@ -68,7 +68,7 @@ fn all_twins(table: &Table, holds: fn(u16, u16) -> bool) -> bool {
 
 impl Display for Watched {
     fn fmt(&self, to: &mut Formatter) -> fmt::Result {
-        let mut line = |name: &str, times: u64| writeln!(to, "{name:<52} {times:>8}");
+        let mut line = |name: &str, times: u64| super::line(to, name, times);
         line("tables watched with no forked site", self.none)?;
         line("tables watched with forked sites, fewer than f", self.fewer_than_f)?;
         line("tables watched with f forked sites", self.f)?;
