@@ -14,7 +14,6 @@ use Rattle.broadcast.specs.Record.{flatten}
 use Rattle.table.specs.View.{View}
 use Rattle.table.specs.Layout.{countOf, rowAt, viewOf}
 use Rattle.table.specs.Rules.{isParent}
-use Rattle.admission.specs.Admission.{lists}
 use Rattle.interpret.specs.Slot.{Direct, interpretSlot}
 use Rattle.interpret.specs.Buffer.{partOf, recordIn, numbersOf}
 use Rattle.interpret.specs.Interpretation.{directAt, directsBelow, recordFor, written, interpretation}

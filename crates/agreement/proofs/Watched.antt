@@ -21,7 +21,6 @@ use Rattle.sha256.specs.Sha256.{sha256}
 use Rattle.sha256.proofs.Laws.{sha256-length}
 use Rattle.table.specs.View.{maxPlaces}
 use Rattle.table.specs.Layout.{siteAt, viewOf}
-use Rattle.admission.specs.Admission.{lists}
 use Rattle.watch.specs.Forks.{everywhere, ofSite, forks}
 use Rattle.watch.specs.Ancestors.{Ancestor, direct, further}
 use Rattle.watch.specs.Promises.{Shares}
