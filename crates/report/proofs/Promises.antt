@@ -1,0 +1,68 @@
+-- The steps keep their promises: the first makes the table of a lawful setup, or ends the listing. Assumes nothing.
+use mathlib.Core.Path.{_≡_, ap₂}
+use mathlib.Core.Bool.{true, false}
+use mathlib.Core.List.{_++_}
+use Prim.Native.Nat.{ℕ, _≤_, _<_}
+use native.Mathlib.Omega.{arith}
+use lib.ListN.{length, take, drop, length-take, length-drop}
+use lib.Seq.{getD-take}
+use Rattle.base.specs.Bytes.{Bytes}
+use Rattle.base.proofs.Tests.{by-test}
+use Rattle.base.proofs.Parts.{part-of-front}
+use Rattle.block.specs.Limits.{slotCount}
+use Rattle.setup.specs.Setup.{Setup, lawful}
+use Rattle.setup.proofs.Thresholds.{eight-owners}
+use Rattle.table.specs.Layout.{tableSize}
+use Rattle.agreement.specs.Run.{Site, started}
+use Rattle.report.specs.Text.{names, setupLine}
+use Rattle.report.specs.Arrivals.{setupSize, setupIn}
+use Rattle.report.specs.Listing.{listing}
+use Rattle.report.specs.Framing.{pieceSize, wantedBy, countLimit, outcome, start, setupStep, stepBy, siteBy}
+use Rattle.report.specs.Promises.{Promises}
+use Rattle.report.specs.declared.Expected.{Expected}
+use Rattle.report.specs.declared.Expected.the-variants.{Length, Block, Skip, End}
+use Rattle.report.proofs.Setups.{unlawful-refused, lawful-made, table-made}
+use Rattle.report.proofs.Framed.{listingIn}
+use Rattle.report.proofs.Written.{Writes, stops, goes-on}
+use Rattle.report.proofs.Listed.{lists}
+
+wanted-small : (e : Expected) → wantedBy e ≤ pieceSize
+unfolding wantedBy
+wanted-small Expected.Setup = omega arith
+wanted-small Length = omega arith
+wanted-small (Block size) = omega arith
+wanted-small (Skip left) = omega arith
+wanted-small End = omega arith
+
+module _ (digest : Bytes → Bytes) (input : Bytes) (x : Site) where
+  abbrev setup : Setup
+  setup = setupIn input
+
+  -- the first piece has the input's setup
+  same-setup : setupIn (take setupSize input) ≡ setup
+  same-setup =
+      ap₂ (λ (n : ℕ) (owners : Bytes). record { sites = n; owners = owners })
+      (getD-take setupSize input 0 0 (omega arith)) (part-of-front 1 slotCount setupSize input (omega arith))
+
+  unlawful-listed : lawful setup ≡ false → Writes digest start x input (listing digest (x .records) input)
+  unfolding listing stepBy setupStep wantedBy
+  unlawful-listed law = rw law (stops digest start x input 0 (names ++ setupLine 1) (rw (same-setup, unlawful-refused setup (x .table) law)))
+
+  lawful-listed : lawful setup ≡ true → length (x .table) ≡ tableSize → length input < countLimit → Writes digest start x input (listing digest (x .records) input)
+  unfolding listing stepBy setupStep siteBy wantedBy
+  lawful-listed law sized few =
+      let site : Site = started setup (x .records) in
+      let owners : length (take slotCount (drop 1 input)) ≡ slotCount = eight-owners setup law in
+      rw law
+      (goes-on digest start x input (outcome Length 0 names) site (listingIn digest 0 site (drop setupSize input))
+      (rw (same-setup, lawful-made setup (x .table) law sized)) (rw (same-setup, table-made setup (x .table) law sized))
+      (omega arith) (omega (arith, length-take slotCount (drop 1 input), length-drop 1 input))
+      (lists digest 0 site (drop setupSize input) (omega (arith, length-drop setupSize input))))
+
+pub promises : (digest : Bytes → Bytes) → Promises digest
+promises digest =
+    record {
+      listed = λ input x turns few sized enough.
+          by-test (lawful (setupIn input)) (λ law. lawful-listed digest input x law sized few turns enough) (λ law. unlawful-listed digest input x law turns enough);
+      small = λ s. wanted-small (s .expected);
+    }

@@ -1,0 +1,51 @@
+-- `block_step` meets its contract: an arrival that is cut, or one that is whole. Assumes nothing.
+use mathlib.Core.Path.{_≡_, sym, ap, _∙_}
+use native.Mathlib.Omega.{arith}
+use borrow.Author.Needs.{needs}
+use Rattle.base.proofs.Parts.{part-size}
+use Rattle.sha256.specs.Sha256.{sha256}
+use Rattle.agreement.specs.Run.{Site}
+use Rattle.report.specs.Framing.{handed}
+use Rattle.report.proofs.Ways.{block-cut, site-cut, block-whole, site-whole}
+use Rattle.report.proofs.framing.block_step.Statement.{statement}
+use Rattle.report.proofs.framing.block_step.Tie as tie
+
+returns : tie.Need-returns
+returns c =
+    let a = c .before .before .before .before .before .before .args in
+    let x : Site = record { table = a .table .now; records = a .records .now } in
+    let e = site-cut sha256 (a .size) (a .arrivals) x (a .piece .now) (omega arith) in (
+      c .stepped .ensures
+          ∙ rw (c .before .refused .ensures) (ap handed (sym (block-cut sha256 (a .size) (a .arrivals) x (a .piece .now) (omega arith)))),
+      (sym (ap (λ (y : Site). y .table) e), sym (ap (λ (y : Site). y .records) e)),
+    )
+
+returns-2 : tie.Need-returns-2
+returns-2 c =
+    let a = c .before .before .before .before .before .before .before .before .before .before .before .before .before .before .before .args in
+    let x : Site = record { table = a .table .now; records = a .records .now } in
+    let r = rw (part-size 1 (a .size)) at (c .before .before .before .before .before .before .arrive .ensures) in
+    let e = site-whole sha256 (a .size) (a .arrivals) x (a .piece .now) (omega arith) in (
+      c .stepped2 .ensures
+          ∙ rw (r .0, c .before .following .ensures) (ap handed (sym (block-whole sha256 (a .size) (a .arrivals) x (a .piece .now) (omega arith)))),
+      (r .1 .0 ∙ sym (ap (λ (y : Site). y .table) e), r .1 .1 ∙ sym (ap (λ (y : Site). y .records) e)),
+    )
+
+pub block-step-spec : {M : Type 1} → statement M
+block-step-spec =
+    tie.close
+    (tie.spec
+    (λ c κs. search needs)
+    (λ c κs. search needs)
+    returns
+    (λ c. search needs)
+    (λ c. search needs)
+    (λ c. search needs)
+    (λ c. search needs)
+    (λ c. search needs)
+    (λ c κs. search needs)
+    (λ c κs. search needs)
+    (λ c κs. search needs)
+    (λ c. search needs)
+    (λ c. search needs)
+    returns-2)

@@ -1,0 +1,75 @@
+-- `setup_step` meets its contract, one way out after the other. Assumes nothing.
+use mathlib.Core.Path.{_≡_, sym, ap, _∙_}
+use mathlib.Core.Bool.{false}
+use mathlib.Core.Logic.{_≢_}
+use mathlib.Core.List.{_++_}
+use Prim.Native.Nat.{ℕ, _<_}
+use native.Mathlib.Omega.{arith}
+use borrow.Author.Needs.{needs}
+use lib.ListN.{length}
+use Rattle.base.specs.Bytes.{Bytes}
+use Rattle.block.specs.declared.Answer.{Answer}
+use Rattle.table.specs.Fresh.{freshAnswer, freshIn}
+use Rattle.report.specs.Text.{names, setupLine}
+use Rattle.report.specs.Arrivals.{setupSize, setupIn}
+use Rattle.report.specs.Framing.{outcome, setupStep, handed}
+use Rattle.report.specs.declared.Expected.the-variants.{End}
+use Rattle.report.proofs.Setups.{short-unlawful, unlawful-refused, refused-kept}
+use Rattle.report.proofs.Ways.{setup-refused, setup-made}
+use Rattle.report.proofs.framing.setup_step.Statement.{statement}
+use Rattle.report.proofs.framing.setup_step.Tie as tie
+
+-- a piece that is too short
+module _ (table piece : Bytes) (short : length piece < setupSize) where
+  one : freshAnswer (setupIn piece) table .refusal ≡ 1
+  one = unlawful-refused (setupIn piece) table (short-unlawful piece short)
+
+  refuses : freshAnswer (setupIn piece) table .refusal ≢ 0
+  refuses e = omega (arith, one)
+
+  short-refused : setupStep table piece ≡ outcome End 0 (names ++ setupLine 1)
+  short-refused = setup-refused table piece refuses ∙ ap (λ (r : ℕ). outcome End 0 (names ++ setupLine r)) one
+
+returns : tie.Need-returns
+returns c =
+    let a = c .before .before .before .before .before .args in (
+      c .stepped .ensures ∙ rw (c .before .names-and-refusal .ensures) (ap handed (sym (short-refused (a .table .now) (a .piece .now) (omega arith)))),
+      sym (refused-kept (setupIn (a .piece .now)) (a .table .now) (refuses (a .table .now) (a .piece .now) (omega arith))),
+    )
+
+returns-2 : tie.Need-returns-2
+returns-2 c =
+    let a = c .before .before .before .before .before .before .before .before .before .before .before .before .before .args in
+    let f = c .before .before .before .before .before .before .fresh-in in
+    let e : f .result .refusal ≡ freshAnswer (setupIn (a .piece .now)) (a .table .now) .refusal = ap (λ (r : Answer). r .refusal) (f .ensures .0) in
+    let some : freshAnswer (setupIn (a .piece .now)) (a .table .now) .refusal ≢ 0 = λ q. c .before .before .if2 .taken (e ∙ q) in
+    (c .stepped2 .ensures ∙ rw (c .before .names-and-refusal2 .ensures, e) (ap handed (sym (setup-refused (a .table .now) (a .piece .now) some))), f .ensures .1)
+
+returns-3 : tie.Need-returns-3
+returns-3 c =
+    let a = c .before .before .before .before .before .before .before .before .before .before .before .before .before .args in
+    let f = c .before .before .before .before .before .before .fresh-in in
+    let e : f .result .refusal ≡ freshAnswer (setupIn (a .piece .now)) (a .table .now) .refusal = ap (λ (r : Answer). r .refusal) (f .ensures .0) in
+    let none : freshAnswer (setupIn (a .piece .now)) (a .table .now) .refusal ≡ 0 = sym e ∙ omega arith in
+    (c .stepped3 .ensures ∙ rw (c .before .names .ensures) (ap handed (sym (setup-made (a .table .now) (a .piece .now) none))), f .ensures .1)
+
+pub setup-step-spec : {M : Type 1} → statement M
+setup-step-spec =
+    tie.close
+    (tie.spec
+    (λ c κs. search needs)
+    (λ c κs. search needs)
+    returns
+    (λ c. search needs)
+    (λ c. search needs)
+    (λ c. search needs)
+    (λ c. search needs)
+    (λ c κs. search needs)
+    (λ c κs. search needs)
+    (λ c κs. search needs)
+    (λ c. search needs)
+    returns-2
+    (λ c κs. search needs)
+    (λ c κs. search needs)
+    (λ c. search needs)
+    returns-3)

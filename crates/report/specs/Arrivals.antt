@@ -1,0 +1,69 @@
+-- Document 01, "Listing program and C host": "Standard input: n, eight owners (one byte each), then arrivals: length (two bytes, high
+-- first), verdict, block".
+use mathlib.Core.Bool.{Bool, cond, _||_}
+use mathlib.Core.List.{List, [], _∷_}
+use Prim.Native.Nat.{ℕ, zero, suc, _+_}
+use lib.Dec.{ltb}
+use lib.ListN.{length, getD, take, drop}
+use Rattle.base.specs.Bytes.{Bytes}
+use Rattle.base.specs.Number.{numberAt}
+use Rattle.block.specs.Limits.{slotCount, maxBlockSize}
+use Rattle.setup.specs.Setup.{Setup}
+
+-- n and the owners
+abbrev pub setupSize : ℕ
+setupSize = 1 + slotCount
+
+-- the setup at the front; of a short input it has too few owners, and so is not lawful
+abbrev pub setupIn : Bytes → Setup
+setupIn input = record { sites = getD input 0 0; owners = take slotCount (drop 1 input) }
+
+-- a block with the link's verdict; or no block, because its length is over 541 or the input's end cuts it
+pub data Arrival : Type 0 where
+  arrived : Bytes → ℕ → Arrival
+  unread : Arrival
+
+-- the bytes of a length, and of a verdict
+abbrev pub lengthSize : ℕ
+lengthSize = 2
+
+abbrev pub verdictSize : ℕ
+verdictSize = 1
+
+-- the block's length, and how many bytes the arrival at the front takes
+abbrev pub blockLength : Bytes → ℕ
+blockLength input = numberAt input 0
+
+abbrev pub arrivalSize : Bytes → ℕ
+arrivalSize input = lengthSize + (verdictSize + blockLength input)
+
+abbrev pub overlong : Bytes → Bool
+overlong input = ltb maxBlockSize (blockLength input)
+
+-- not all of its bytes are there
+abbrev pub cut : Bytes → Bool
+cut input = ltb (length input) (arrivalSize input)
+
+-- the verdict and the block, where all of their bytes are there, and the bytes behind the arrival
+abbrev pub firstVerdict : Bytes → ℕ
+firstVerdict input = getD input lengthSize 0
+
+abbrev pub firstBlock : Bytes → Bytes
+firstBlock input = take (blockLength input) (drop (lengthSize + verdictSize) input)
+
+abbrev pub behind : Bytes → Bytes
+behind input = drop (arrivalSize input) input
+
+-- the arrival at the front
+unfoldable pub firstArrival : Bytes → Arrival
+firstArrival input = cond (overlong input || cut input) unread (arrived (firstBlock input) (firstVerdict input))
+
+-- the first arrivals, at most so many; nothing follows one that is cut
+unfoldable pub arrivals : ℕ → Bytes → List Arrival
+arrivals zero input = []
+arrivals (suc most) [] = []
+arrivals (suc most) (x ∷ input) = firstArrival (x ∷ input) ∷ arrivals most (behind (x ∷ input))
+
+-- all of them: each takes a byte at least
+unfoldable pub arrivalsIn : Bytes → List Arrival
+arrivalsIn input = arrivals (length input) input

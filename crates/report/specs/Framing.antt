@@ -1,0 +1,140 @@
+-- The listing one step at a time. A step gets the bytes that the state before it wants, or fewer where the input ends; it gives the next
+-- state and its lines, and a setup or a whole arrival changes what the site holds.
+use mathlib.Core.Bool.{cond}
+use mathlib.Core.List.{List, [], _∷_, _++_}
+use Prim.Native.Nat.{ℕ, zero, suc, _+_, _-_, _*_, _^_, _%_, min}
+use lib.Dec.{eqb, ltb, leb}
+use lib.ListN.{length, getD, take, drop, replicate}
+use Rattle.base.specs.Bytes.{Bytes, splice}
+use Rattle.block.specs.Limits.{slotCount, maxBlockSize}
+use Rattle.table.specs.Fresh.{freshAnswer, freshIn}
+use Rattle.agreement.specs.Run.{Site}
+use Rattle.report.specs.Text.{fieldCount, names, setupLine, unreadLine}
+use Rattle.report.specs.Arrivals.{setupSize, setupIn, lengthSize, verdictSize, blockLength, overlong}
+use Rattle.report.specs.Listing.{siteArrived, arrivalLines}
+use Rattle.report.specs.declared.Expected.{Expected}
+use Rattle.report.specs.declared.Expected.the-variants.{Setup, Length, Block, Skip, End}
+use Rattle.report.specs.declared.State.{State}
+use Rattle.report.specs.declared.Lines.{Lines}
+use Rattle.report.specs.declared.Stepped.{Stepped}
+
+-- no piece is longer: a verdict and the longest block
+abbrev pub pieceSize : ℕ
+pieceSize = verdictSize + maxBlockSize
+
+-- how many bytes are read next
+unfoldable pub wantedBy : Expected → ℕ
+wantedBy Setup = setupSize
+wantedBy Length = lengthSize
+wantedBy (Block size) = min (verdictSize + size) pieceSize
+wantedBy (Skip left) = min left pieceSize
+wantedBy End = 0
+
+abbrev pub wanted : State → ℕ
+wanted s = wantedBy (s .expected)
+
+-- ---- the next state, and the lines
+
+-- arrivals are counted by numbers of 64 bits
+abbrev pub countLimit : ℕ
+countLimit = 2 ^ 64
+
+abbrev pub following : ℕ → ℕ
+following arrival = suc arrival % countLimit
+
+-- what is expected, and the number of the next arrival
+abbrev pub expecting : Expected → ℕ → State
+expecting expected arrival = record { expected = expected; arrivals = arrival }
+
+-- before the first byte
+abbrev pub start : State
+start = expecting Setup 0
+
+pub record Outcome : Type 0 where
+  pub state : State
+  pub lines : Bytes
+
+abbrev pub outcome : Expected → ℕ → Bytes → Outcome
+outcome expected arrival lines = record { state = expecting expected arrival; lines = lines }
+
+-- the names, and the refusal of a setup; the answer is that of making an empty table in the lent one
+unfoldable pub setupStep : Bytes → Bytes → Outcome
+setupStep table piece =
+    cond (eqb (freshAnswer (setupIn piece) table .refusal) 0)
+    (outcome Length 0 names)
+    (outcome End 0 (names ++ setupLine (freshAnswer (setupIn piece) table .refusal)))
+
+-- nothing more to read, a cut arrival, one that is too long, or how long the block is
+unfoldable pub lengthStep : ℕ → Bytes → Outcome
+lengthStep arrival piece =
+    cond (eqb (length piece) 0) (outcome End arrival [])
+    (cond (ltb (length piece) lengthSize) (outcome End arrival (unreadLine arrival))
+    (cond (overlong piece)
+    (outcome (Skip (verdictSize + blockLength piece)) (following arrival) (unreadLine arrival))
+    (outcome (Block (blockLength piece)) arrival [])))
+
+-- bytes of an arrival that is too long
+unfoldable pub skipStep : ℕ → ℕ → Bytes → Outcome
+skipStep left arrival piece =
+    cond (ltb (length piece) (wantedBy (Skip left))) (outcome End arrival [])
+    (cond (leb left pieceSize) (outcome Length arrival []) (outcome (Skip (left - pieceSize)) arrival []))
+
+module _ (digest : Bytes → Bytes) where
+  -- the verdict and the block, or a cut arrival
+  unfoldable pub blockStep : ℕ → ℕ → Site → Bytes → Outcome
+  blockStep size arrival x piece =
+      cond (ltb (length piece) (verdictSize + size)) (outcome End arrival (unreadLine arrival))
+      (outcome Length (following arrival) (arrivalLines digest x (take size (drop verdictSize piece)) (getD piece 0 0) arrival))
+
+  unfoldable pub stepBy : Expected → ℕ → Site → Bytes → Outcome
+  stepBy Setup arrival x piece = setupStep (x .table) piece
+  stepBy Length arrival x piece = lengthStep arrival piece
+  stepBy (Block size) arrival x piece = blockStep size arrival x piece
+  stepBy (Skip left) arrival x piece = skipStep left arrival piece
+  stepBy End arrival x piece = outcome End arrival []
+
+  abbrev pub stepped : State → Site → Bytes → Outcome
+  stepped s x piece = stepBy (s .expected) (s .arrivals) x piece
+
+  -- ---- the site
+
+  unfoldable pub siteBy : Expected → Site → Bytes → Site
+  siteBy Setup x piece = record { table = freshIn (setupIn piece) (x .table); records = x .records }
+  siteBy Length x piece = x
+  siteBy (Block size) x piece = cond (ltb (length piece) (verdictSize + size)) x (siteArrived digest x (take size (drop verdictSize piece)) (getD piece 0 0))
+  siteBy (Skip left) x piece = x
+  siteBy End x piece = x
+
+  abbrev pub siteStepped : State → Site → Bytes → Site
+  siteStepped s x piece = siteBy (s .expected) x piece
+
+  -- ---- the lines of so many steps, joined
+
+  unfoldable pub run : ℕ → State → Site → Bytes → Bytes
+  run zero s x input = []
+  run (suc turns) s x input =
+      stepped s x (take (wanted s) input) .lines
+      ++ run turns (stepped s x (take (wanted s) input) .state) (siteStepped s x (take (wanted s) input)) (drop (wanted s) input)
+
+-- ---- how the lines are handed over
+
+-- a number of 64 bits has at most so many digits
+abbrev pub maxDigits : ℕ
+maxDigits = 20
+
+-- room for a field with the byte that ends it, for a line, and for the lines of a step
+abbrev pub fieldSize : ℕ
+fieldSize = maxDigits + 1
+
+abbrev pub lineSize : ℕ
+lineSize = fieldCount * fieldSize
+
+abbrev pub linesSize : ℕ
+linesSize = slotCount * lineSize
+
+-- at the front of an array of zeros, with their length
+unfoldable pub linesOf : Bytes → Lines
+linesOf text = record { bytes = splice (replicate linesSize 0) 0 text; length = length text }
+
+abbrev pub handed : Outcome → Stepped
+handed o = record { state = o .state; lines = linesOf (o .lines) }

@@ -1,0 +1,79 @@
+-- Document 01, "Listing program and C host": the listing of a whole input, as text.
+use mathlib.Core.Bool.{cond}
+use mathlib.Core.List.{List, [], _∷_, _++_}
+use Prim.Native.Nat.{ℕ, suc}
+use lib.Dec.{eqb}
+use lib.ListN.{drop}
+use Rattle.base.specs.Bytes.{Bytes, joined}
+use Rattle.base.specs.List.{listBelow}
+use Rattle.block.specs.Limits.{slotCount}
+use Rattle.block.specs.Layout.{siteOf, sequenceOf}
+use Rattle.block.specs.declared.Answer.{Answer}
+use Rattle.setup.specs.Setup.{lawful}
+use Rattle.interpret.specs.Buffer.{recordIn}
+use Rattle.agreement.specs.Ledger.{Call, admit, interpret}
+use Rattle.agreement.specs.Run.{Site, started, siteAnswer, siteStep}
+use Rattle.report.specs.declared.Delivery.{Delivery}
+use Rattle.report.specs.Text.{names, setupLine, refusedLine, unreadLine, deliveryText}
+use Rattle.report.specs.Arrivals.{Arrival, arrived, unread, setupSize, setupIn, arrivalsIn}
+
+-- the number delivered in the block of a place, 0 if there is none: entry 39 of its record
+abbrev pub deliveredIn : List ℕ → ℕ → ℕ → ℕ
+deliveredIn records place slot = recordIn records place slot .made .delivered
+
+abbrev pub delivery : List ℕ → ℕ → ℕ → ℕ → ℕ → ℕ → Delivery
+delivery records arrival place site sequence slot =
+    record {
+      arrival = arrival;
+      place = place;
+      site = site;
+      sequence = sequence;
+      slot = slot;
+      number = deliveredIn records place slot;
+    }
+
+-- "A line stands for each delivery (lower slot first)"
+unfoldable pub deliveryLines : List ℕ → ℕ → ℕ → ℕ → ℕ → Bytes
+deliveryLines records arrival place site sequence =
+    joined (listBelow (λ slot. deliveryText (delivery records arrival place site sequence slot)) slotCount)
+
+module _ (digest : Bytes → Bytes) where
+  module _ (x : Site) (b : Bytes) (verdict : ℕ) where
+    -- "Each admitted block is interpreted directly": the admission, and the interpretation of the place that it gave
+    abbrev pub admissionAnswer : Answer
+    admissionAnswer = siteAnswer digest x (admit b verdict)
+
+    abbrev pub siteAdmitted : Site
+    siteAdmitted = siteStep digest x (admit b verdict)
+
+    abbrev pub interpretationCall : Call
+    interpretationCall = interpret (admissionAnswer .value)
+
+    -- the site after both calls; a refused admission has changed nothing, and nothing follows it
+    unfoldable pub siteArrived : Site
+    siteArrived = cond (eqb (admissionAnswer .refusal) 0) (siteStep digest siteAdmitted interpretationCall) x
+
+    -- the refusal of the first call that was refused, 0 if none was
+    unfoldable pub arrivalRefusal : ℕ
+    arrivalRefusal =
+        cond (eqb (admissionAnswer .refusal) 0) (siteAnswer digest siteAdmitted interpretationCall .refusal) (admissionAnswer .refusal)
+
+    -- "A line stands for each delivery .. and each refused arrival"
+    unfoldable pub arrivalLines : ℕ → Bytes
+    arrivalLines arrival =
+        cond (eqb arrivalRefusal 0)
+        (deliveryLines (siteArrived .records) arrival (admissionAnswer .value) (siteOf b) (sequenceOf b))
+        (refusedLine arrival arrivalRefusal)
+
+  -- the lines of the arrivals, the first of which has this number
+  unfoldable pub listingFrom : ℕ → Site → List Arrival → Bytes
+  listingFrom arrival x [] = []
+  listingFrom arrival x (unread ∷ rest) = unreadLine arrival ++ listingFrom (suc arrival) x rest
+  listingFrom arrival x (arrived b verdict ∷ rest) =
+      arrivalLines x b verdict arrival ++ listingFrom (suc arrival) (siteArrived x b verdict) rest
+
+  -- the whole listing, at a site with this record buffer; "arrivals count from 0"
+  unfoldable pub listing : List ℕ → Bytes → Bytes
+  listing buffer input =
+      names
+      ++ cond (lawful (setupIn input)) (listingFrom 0 (started (setupIn input) buffer) (arrivalsIn (drop setupSize input))) (setupLine 1)

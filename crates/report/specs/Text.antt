@@ -1,0 +1,85 @@
+-- Document 01, "Listing program and C host": the lines of a listing, in ASCII.
+use mathlib.Core.Bool.{Bool, true, false, cond}
+use mathlib.Core.List.{List, [], _∷_, _++_}
+use Prim.Native.Nat.{ℕ, zero, suc, _+_, _-_, _/_, _%_}
+use Prim.Native.Char.{code}
+use Prim.Native.String.{String, len, charAt}
+use lib.Dec.{eqb, ltb}
+use lib.ListN.{getD}
+use Rattle.base.specs.Bytes.{Bytes, joined}
+use Rattle.base.specs.List.{listBelow}
+use Rattle.report.specs.declared.Delivery.{Delivery}
+use Rattle.report.specs.declared.Field.{Field}
+use Rattle.report.specs.declared.Field.the-variants.{Number, Empty}
+
+-- the bytes of a text of ASCII characters
+unfoldable pub ascii : String → Bytes
+ascii s = listBelow (λ i. code (charAt s i)) (len s)
+
+abbrev pub space : ℕ
+space = 32
+
+abbrev pub lineFeed : ℕ
+lineFeed = 10
+
+-- the digits of a number up to 9
+abbrev pub digit : ℕ → ℕ
+digit d = 48 + d
+
+-- the decimal digits of n, the last one last; a number of at most `most` digits is whole
+unfoldable pub digits : ℕ → ℕ → Bytes
+digits zero n = []
+digits (suc most) n = elim (ltb n 10) [ true ↦ digit n ∷ [] | false ↦ digits most (n / 10) ++ (digit (n % 10) ∷ []) ]
+
+-- no number has more digits than its successor says
+unfoldable pub decimal : ℕ → Bytes
+decimal n = digits (suc n) n
+
+-- "`-` is a field with no value"
+unfoldable pub fieldText : Field → Bytes
+fieldText (Number n) = decimal n
+fieldText Empty = ascii "-"
+
+-- arrival, place, site, seq, slot, number, refusal
+abbrev pub fieldCount : ℕ
+fieldCount = 7
+
+-- what stands after a field: one space, or a line feed after the last
+unfoldable pub ending : ℕ → ℕ
+ending i = cond (eqb i (fieldCount - 1)) lineFeed space
+
+unfoldable pub line : List Field → Bytes
+line fields = joined (listBelow (λ i. fieldText (getD fields i (Number 0)) ++ (ending i ∷ [])) fieldCount)
+
+-- "First a line of names"
+unfoldable pub names : Bytes
+names = ascii "arrival place site seq slot number refusal\n"
+
+-- "A refused arrival's line fills only arrival and refusal"
+unfoldable pub refusedLine : ℕ → ℕ → Bytes
+refusedLine arrival refusal = line (Number arrival ∷ Empty ∷ Empty ∷ Empty ∷ Empty ∷ Empty ∷ Number refusal ∷ [])
+
+-- an arrival without a block: "refused with 3", "gets 3"
+abbrev pub unreadLine : ℕ → Bytes
+unreadLine arrival = refusedLine arrival 3
+
+-- "A setup that is short or unlawful gives .. `- - - - - - 1`"
+unfoldable pub setupLine : ℕ → Bytes
+setupLine refusal = line (Empty ∷ Empty ∷ Empty ∷ Empty ∷ Empty ∷ Empty ∷ Number refusal ∷ [])
+
+-- a delivery's line has all values: "refusal 0 is none"
+unfoldable pub deliveryLine : Delivery → Bytes
+deliveryLine d =
+    line
+    (Number (d .arrival)
+    ∷ Number (d .place)
+    ∷ Number (d .site)
+    ∷ Number (d .sequence)
+    ∷ Number (d .slot)
+    ∷ Number (d .number)
+    ∷ Number 0
+    ∷ [])
+
+-- where no number was delivered, there is no line
+unfoldable pub deliveryText : Delivery → Bytes
+deliveryText d = cond (eqb (d .number) 0) [] (deliveryLine d)

@@ -1,0 +1,125 @@
+// A step for each thing that is expected. A piece that is shorter than was wanted is the input's end.
+use crate::Expected;
+use crate::LENGTH_SIZE;
+use crate::Lines;
+use crate::PIECE_SIZE;
+use crate::SETUP_SIZE;
+use crate::State;
+use crate::Stepped;
+use crate::VERDICT_SIZE;
+use crate::arrival;
+use crate::text;
+use block::MAX_BLOCK_SIZE;
+ghost use mathlib.Core.Path.{_≡_};
+ghost use mathlib.Core.List.{[]};
+ghost use Prim.Native.Nat.{_<_};
+ghost use Rattle.sha256.specs.Sha256.{sha256};
+ghost use Rattle.table.specs.Fresh.{freshIn};
+ghost use Rattle.report.specs.Arrivals.{setupIn};
+ghost use Rattle.report.specs.Framing.{following as Framing·following, linesOf, setupStep, lengthStep, skipStep, blockStep, siteBy, handed};
+ghost use Rattle.report.specs.declared.Expected.the-variants.{Block};
+
+// The number of the next arrival.
+fn following(arrivals: u64) -> u64
+    ensures { λ r. ⌜ r ≡ Framing·following arrivals ⌝ }
+{
+    if arrivals == u64::MAX {
+        return 0;
+    }
+    arrivals + 1
+}
+
+// The next state, and these lines.
+fn stepped(expected: Expected, arrivals: u64, lines: Lines) -> Stepped
+    ensures { λ r. ⌜ r ≡ record { state = record { expected = expected; arrivals = arrivals }; lines = lines } ⌝ }
+{
+    Stepped {
+        state: State { expected, arrivals },
+        lines,
+    }
+}
+
+// The next state, and no line.
+pub fn quiet(expected: Expected, arrivals: u64) -> Stepped
+    ensures { λ r. ⌜ r ≡ record { state = record { expected = expected; arrivals = arrivals }; lines = linesOf [] } ⌝ }
+{
+    stepped(expected, arrivals, text::none())
+}
+
+// The setup: an empty table, or the end.
+pub fn setup_step(table: &mut [u8], piece: &[u8]) -> Stepped
+    ensures { λ r. ⌜ r ≡ handed (setupStep (now (table .entry)) (now (piece .entry))) ⌝ }
+    ensures { λ _. ⌜ now (table .exit) ≡ freshIn (setupIn (now (piece .entry))) (now (table .entry)) ⌝ }
+{
+    if piece.len() < SETUP_SIZE {
+        return stepped(Expected::End, 0, text::names_and_refusal(1));
+    }
+    let answer = table::fresh_in(piece[0], &piece[1..SETUP_SIZE], table);
+    if answer.refusal != 0 {
+        return stepped(Expected::End, 0, text::names_and_refusal(answer.refusal));
+    }
+    stepped(Expected::Length, 0, text::names())
+}
+
+// The length of an arrival, or the end.
+pub fn length_step(arrivals: u64, piece: &[u8]) -> Stepped
+    ensures { λ r. ⌜ r ≡ handed (lengthStep arrivals (now (piece .entry))) ⌝ }
+{
+    if piece.len() == 0 {
+        return quiet(Expected::End, arrivals);
+    }
+    if piece.len() < LENGTH_SIZE {
+        return stepped(Expected::End, arrivals, text::refused(arrivals, 3));
+    }
+    let size = base::number_of(piece[0], piece[1]) as usize;
+    if MAX_BLOCK_SIZE < size {
+        return stepped(
+            Expected::Skip(VERDICT_SIZE + size),
+            following(arrivals),
+            text::refused(arrivals, 3),
+        );
+    }
+    quiet(Expected::Block(size), arrivals)
+}
+
+// The verdict and the block of an arrival.
+pub fn block_step(
+    size: usize,
+    arrivals: u64,
+    table: &mut [u8],
+    records: &mut [u16],
+    piece: &[u8],
+) -> Stepped
+    ensures { λ r. ⌜ r ≡ handed (blockStep sha256 size arrivals (record { table = now (table .entry); records = now (records .entry) }) (now (piece .entry))) ⌝ }
+    ensures { λ _. ⌜ now (table .exit) ≡ siteBy sha256 (Block size) (record { table = now (table .entry); records = now (records .entry) }) (now (piece .entry)) .table ⌝ }
+    ensures { λ _. ⌜ now (records .exit) ≡ siteBy sha256 (Block size) (record { table = now (table .entry); records = now (records .entry) }) (now (piece .entry)) .records ⌝ }
+{
+    if piece.len() <= size {
+        return stepped(Expected::End, arrivals, text::refused(arrivals, 3));
+    }
+    let end = VERDICT_SIZE + size;
+    let lines = arrival::arrive(
+        arrivals,
+        table,
+        records,
+        &piece[VERDICT_SIZE..end],
+        piece[0],
+    );
+    stepped(Expected::Length, following(arrivals), lines)
+}
+
+// Bytes of an arrival that is too long.
+pub fn skip_step(left: usize, arrivals: u64, piece: &[u8]) -> Stepped
+    ensures { λ r. ⌜ r ≡ handed (skipStep left arrivals (now (piece .entry))) ⌝ }
+{
+    if left <= PIECE_SIZE {
+        if piece.len() < left {
+            return quiet(Expected::End, arrivals);
+        }
+        return quiet(Expected::Length, arrivals);
+    }
+    if piece.len() < PIECE_SIZE {
+        return quiet(Expected::End, arrivals);
+    }
+    quiet(Expected::Skip(left - PIECE_SIZE), arrivals)
+}

@@ -1,0 +1,121 @@
+// The listing of a campaign, one step at a time. The input is a setup and then arrivals; a state says what is expected next, and `wanted`
+// how many bytes that takes. Promises: `step` does and writes what specs/Framing.antt says, for any state, table, record buffer and bytes;
+// and the steps' lines, joined, are the listing of the whole input (specs/Promises.antt). Assumes nothing.
+mod arrival;
+mod framing;
+mod text;
+
+use block::MAX_BLOCK_SIZE;
+use block::SLOTS;
+ghost use mathlib.Core.Path.{_≡_};
+ghost use Prim.Native.Nat.{_≤_};
+ghost use Rattle.sha256.specs.Sha256.{sha256};
+ghost use Rattle.report.specs.Framing.{pieceSize, wanted as Framing·wanted, start as Framing·start, stepped, siteStepped, handed};
+
+// Sizes in bytes: the setup, an arrival's length and its verdict, and the longest piece.
+pub const SETUP_SIZE: usize = 1 + SLOTS;
+
+pub const LENGTH_SIZE: usize = 2;
+
+pub const VERDICT_SIZE: usize = 1;
+
+pub const PIECE_SIZE: usize = VERDICT_SIZE + MAX_BLOCK_SIZE;
+
+// Room for the lines of a step: a line for each slot, a number of 64 bits and one byte more for each field.
+pub const FIELDS: usize = 7;
+
+pub const MAX_DIGITS: usize = 20;
+
+pub const LINE_SIZE: usize = FIELDS * (MAX_DIGITS + 1);
+
+pub const LINES_SIZE: usize = SLOTS * LINE_SIZE;
+
+// A field of a line.
+pub enum Field {
+    Number(u64),
+    Empty,
+}
+
+// What a delivery's line shows.
+pub struct Delivery {
+    pub arrival: u64,
+    pub place: usize,
+    pub site: u8,
+    pub sequence: u16,
+    pub slot: usize,
+    pub number: u16,
+}
+
+// What the next piece of the input is: the setup; the length of an arrival; its verdict and a block of this size; bytes that are skipped,
+// so many; or none, since the listing is at its end.
+pub enum Expected {
+    Setup,
+    Length,
+    Block(usize),
+    Skip(usize),
+    End,
+}
+
+// What is expected next, and how many arrivals there were.
+pub struct State {
+    pub expected: Expected,
+    pub arrivals: u64,
+}
+
+// The lines to write: the first bytes of an array, so many.
+pub struct Lines {
+    pub bytes: [u8; LINES_SIZE],
+    pub length: usize,
+}
+
+pub struct Stepped {
+    pub state: State,
+    pub lines: Lines,
+}
+
+// The state before the first byte.
+pub fn start() -> State
+    ensures { λ r. ⌜ r ≡ Framing·start ⌝ }
+{
+    State {
+        expected: Expected::Setup,
+        arrivals: 0,
+    }
+}
+
+// How many bytes of the input the next step gets; fewer mean that the input is at its end.
+pub fn wanted(state: State) -> usize
+    ensures { λ r. ⌜ (r ≡ Framing·wanted state) × (r ≤ pieceSize) ⌝ }
+{
+    let expected = state.expected;
+    match expected {
+        Expected::Setup => SETUP_SIZE,
+        Expected::Length => LENGTH_SIZE,
+        Expected::Block(size) => {
+            if MAX_BLOCK_SIZE <= size {
+                PIECE_SIZE
+            } else {
+                VERDICT_SIZE + size
+            }
+        }
+        Expected::Skip(left) => { if PIECE_SIZE <= left { PIECE_SIZE } else { left } }
+        Expected::End => 0,
+    }
+}
+
+// One step: the next state, and the lines to write.
+pub fn step(state: State, table: &mut [u8], records: &mut [u16], piece: &[u8]) -> Stepped
+    ensures { λ r. ⌜ r ≡ handed (stepped sha256 state (record { table = now (table .entry); records = now (records .entry) }) (now (piece .entry))) ⌝ }
+    ensures { λ _. ⌜ now (table .exit) ≡ siteStepped sha256 state (record { table = now (table .entry); records = now (records .entry) }) (now (piece .entry)) .table ⌝ }
+    ensures { λ _. ⌜ now (records .exit) ≡ siteStepped sha256 state (record { table = now (table .entry); records = now (records .entry) }) (now (piece .entry)) .records ⌝ }
+{
+    let expected = state.expected;
+    let arrivals = state.arrivals;
+    match expected {
+        Expected::Setup => framing::setup_step(table, piece),
+        Expected::Length => framing::length_step(arrivals, piece),
+        Expected::Block(size) => framing::block_step(size, arrivals, table, records, piece),
+        Expected::Skip(left) => framing::skip_step(left, arrivals, piece),
+        Expected::End => framing::quiet(Expected::End, arrivals),
+    }
+}
