@@ -1,9 +1,11 @@
-# make demo    shows the control program on a small campaign
-# make test    proves and tests everything: the gate
-# make bench   measures SHA-256 against a baseline in C, and a full table's calls against a digest
-# make fuzz    compares the library with the harness's model for long: FUZZ_SEED and FUZZ_CASES say where and how far
-# make host    builds the two libraries for C and the control program
-# make clean   removes all that was built
+# make demo        shows the listing and the control program, each on a small campaign
+# make test        proves and tests everything: the gate
+# make bench       measures SHA-256 against a baseline in C, and a full table's calls against a digest
+# make fuzz        compares the library with the harness's model for long: FUZZ_SEED and FUZZ_CASES say where and how far
+# make host        builds the listing, the two libraries for C and the control program
+# make install     puts them, the headers and the man pages below PREFIX, or below DESTDIR and PREFIX
+# make uninstall   removes what was installed there
+# make clean       removes all that was built
 
 CC = gcc
 CFLAGS = -std=c11 -O2 -Wall -Wextra -Wpedantic -Werror
@@ -13,21 +15,27 @@ BENCH_CFLAGS = -O3 -Wall -Wextra -Werror
 C_LIBRARY = target/staticlib/libc_interface.a
 CORE_LIBRARY = target/staticlib/libcore_interface.a
 LIBRARIES = $(CORE_LIBRARY) $(C_LIBRARY)
+LISTING = target/bin/listing
 HEADERS = host/giangotum.h host/giangotum_core.h
 HOST = target/host
 HARNESS = target/harness/release/harness
 
 FUZZ_SEED ?= 1
 FUZZ_CASES ?= 1000000
+PREFIX ?= /usr/local
+DESTDIR ?=
 
-# All that the libraries are proved and built from. Folders are among it, so that a removed file counts as a change.
+# All that the libraries and the listing are proved and built from. Folders are among it, so that a removed file counts as a change.
 LIBRARY_SOURCES := $(shell find crates.txt crates \( -name must-fail -prune \) -o -print)
 
-.PHONY: demo test bench fuzz host test-programs harness prerequisites clean
+.PHONY: demo test bench fuzz host install uninstall test-programs harness prerequisites clean
 .DELETE_ON_ERROR:
 
 # The first target, so that a plain `make` shows something working.
 demo: host
+	@echo
+	@echo '$$ $(LISTING) < examples/four_sites.campaign'
+	@$(LISTING) < examples/four_sites.campaign
 	@echo
 	@echo '$$ $(HOST)/dome < examples/arrivals.bin'
 	@$(HOST)/dome < examples/arrivals.bin
@@ -49,8 +57,15 @@ bench: prerequisites $(HOST)/bench_sha256 $(HOST)/bench_table $(HOST)/bench_stac
 fuzz: harness
 	$(HARNESS) --seed $(FUZZ_SEED) --cases $(FUZZ_CASES)
 
-# The proved libraries for C, and the control program.
-host: prerequisites $(LIBRARIES) $(HOST)/dome
+# The proved libraries for C, the proved listing, and the control program.
+host: prerequisites $(LIBRARIES) $(LISTING) $(HOST)/dome
+
+# A package is made with DESTDIR: the files are put below it, and know only of PREFIX.
+install: host
+	DESTDIR='$(DESTDIR)' tools/install.sh install '$(PREFIX)'
+
+uninstall:
+	DESTDIR='$(DESTDIR)' tools/install.sh uninstall '$(PREFIX)'
 
 # What the host tests run.
 test-programs: host $(HOST)/digests $(HOST)/calls $(HOST)/core_calls $(HOST)/record_calls $(HOST)/watch_calls harness
@@ -71,8 +86,14 @@ prerequisites:
 $(LIBRARIES): target/staticlib/lib%.a: $(LIBRARY_SOURCES) rattle.version | prerequisites
 	rt staticlib $*
 
-# One after the other, also under make -j: both write what they prove into the same folder.
+# rt leaves a program as it is where nothing that it is made from has changed, so its time is set here.
+$(LISTING): $(LIBRARY_SOURCES) rattle.version | prerequisites
+	rt check listing
+	@touch -c $@
+
+# One after the other, also under make -j: they write what they prove into the same folder.
 $(CORE_LIBRARY): | $(C_LIBRARY)
+$(LISTING): | $(LIBRARIES)
 
 $(HOST)/dome: host/dome.c host/giangotum.h $(C_LIBRARY) | $(HOST)
 	$(CC) $(CFLAGS) -Ihost -o $@ $< $(C_LIBRARY)

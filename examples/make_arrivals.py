@@ -4,28 +4,12 @@
 An arrival is the block's length in two bytes, high byte first, and then the block (docs/FORMATS.md).
 """
 
-import hashlib
 from pathlib import Path
 
-
-def block(site, sequence, references=(), requests=()):
-    """A block's bytes; a request is (slot, number). Nothing is checked, so refused blocks can be made too."""
-    data = bytes([site]) + sequence.to_bytes(2, "big") + bytes([len(references), len(requests)])
-    data += b"".join(references)
-    for slot, number in requests:
-        data += bytes([slot]) + number.to_bytes(2, "big")
-    return data
+from campaign import block, digest, dome_arrival as arrival
 
 
-def digest(data):
-    return hashlib.sha256(data).digest()
-
-
-def arrival(data):
-    return len(data).to_bytes(2, "big") + data
-
-
-def campaign():
+def arrivals():
     """The arrivals in their order."""
     # The chain: site 0 requests amendment 7 in slot 0, then refers to its block before, three times.
     first = block(0, 0, requests=[(0, 7)])
@@ -53,4 +37,4 @@ def campaign():
 
 
 if __name__ == "__main__":
-    Path(__file__).with_name("arrivals.bin").write_bytes(b"".join(campaign()))
+    Path(__file__).with_name("arrivals.bin").write_bytes(b"".join(arrivals()))

@@ -1,8 +1,9 @@
 /* Digest and block reading for C and C++ programs.
  *
- * Link with libc_interface.a (`make host` builds it). Every function here is proved to
- * meet its contract for all bytes, all lengths and all numbers: none crashes, none reads or
- * writes outside the bytes that it is lent, and a refusal changes nothing.
+ * Link with libc_interface.a (`make host` builds it), or with -lgiangotum where it is
+ * installed. Every function here is proved to meet its contract for all bytes, all lengths
+ * and all numbers: none crashes, none reads or writes outside the bytes that it is lent, and
+ * a refusal changes nothing.
  *
  * What the caller answers for: a pointer points to as many bytes as the length beside it says
  * (at length 0 it may be any pointer), and an output overlaps no input.

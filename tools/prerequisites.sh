@@ -17,6 +17,7 @@ need g++ 'compiles the header as C++, a host test'
 need make 'runs the targets of the Makefile'
 need cargo 'the test harness in Rust'
 need python3 'runs the host tests'
+need groff 'renders the man pages, a host test'
 need valgrind 'looks for memory errors in the host tests'
 
 exit "$missing"

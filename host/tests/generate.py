@@ -1,6 +1,6 @@
 """Seeded blocks, lawful and damaged. Every function takes its generator, so that a run can be repeated."""
 
-from make_arrivals import arrival, block
+from campaign import block, dome_arrival as arrival
 
 HEADER, REFERENCE, REQUEST = 5, 32, 3
 MAX_REFERENCES, MAX_REQUESTS, MAX_BLOCK = 16, 8, 541

@@ -7,6 +7,7 @@ ROOT = Path(__file__).resolve().parents[2]
 BUILT = ROOT / "target" / "host"
 DOME, DIGESTS, CALLS, CORE_CALLS, RECORD_CALLS, WATCH_CALLS = (
     str(BUILT / name) for name in ("dome", "digests", "calls", "core_calls", "record_calls", "watch_calls"))
+LISTING = str(ROOT / "target" / "bin" / "listing")
 HARNESS = str(ROOT / "target" / "harness" / "release" / "harness")
 VALGRIND_ERROR = 99
 VALGRIND = ["valgrind", "--quiet", f"--error-exitcode={VALGRIND_ERROR}", "--leak-check=full"]
@@ -55,6 +56,11 @@ def expect_all_ok(program):
 def dome(stream, under=()):
     """The control program's output for a stream of arrivals; `under` stands before its name."""
     return output_of([*under, DOME], stream)
+
+
+def listing(stream, under=()):
+    """The listing of a campaign; `under` stands before the program's name."""
+    return output_of([*under, LISTING], stream)
 
 
 def digests(messages, under=()):

@@ -3,6 +3,7 @@
 import re
 
 from programs import ROOT, expect
+from test_examples import EXPECTED, LISTINGS
 
 
 def test_the_theorems_are_quoted_word_for_word():
@@ -13,3 +14,10 @@ def test_the_theorems_are_quoted_word_for_word():
     expect(len(quoted) == 3, f"{len(quoted)} quotations")
     for text in quoted:
         expect(any(text in source for source in sources), text)
+
+
+def test_the_examples_are_shown_as_they_are_stored():
+    page = (ROOT / "README.md").read_text(encoding="utf-8")
+    for command, lines in [("target/bin/listing < examples/four_sites.campaign", LISTINGS["four_sites"]),
+                           ("target/host/dome < examples/arrivals.bin", EXPECTED)]:
+        expect(f"```\n$ {command}\n{lines}```\n" in page, command)

@@ -6,7 +6,7 @@ import subprocess
 
 import bad_inputs
 import generate
-from make_arrivals import arrival
+from campaign import dome_arrival as arrival
 from programs import DOME, LONGEST_RUN, dome, expect, expect_same_lines, run
 from reference import text_of
 from test_examples import ARRIVALS

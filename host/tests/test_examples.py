@@ -1,11 +1,15 @@
-"""The stored example: its bytes, its lines, and dome between them."""
+"""The stored examples: their bytes, their lines, and the program between them."""
 
 import make_arrivals
-from programs import ROOT, dome, expect, expect_same_lines
+import make_campaigns
+from programs import ROOT, dome, expect, expect_same_lines, listing
 from reference import text_of
 
-ARRIVALS = (ROOT / "examples" / "arrivals.bin").read_bytes()
-EXPECTED = (ROOT / "examples" / "arrivals.expected").read_text(encoding="ascii")
+EXAMPLES = ROOT / "examples"
+ARRIVALS = (EXAMPLES / "arrivals.bin").read_bytes()
+EXPECTED = (EXAMPLES / "arrivals.expected").read_text(encoding="ascii")
+CAMPAIGNS = {name: (EXAMPLES / f"{name}.campaign").read_bytes() for name in make_campaigns.CAMPAIGNS}
+LISTINGS = {name: (EXAMPLES / f"{name}.listing").read_text(encoding="ascii") for name in make_campaigns.CAMPAIGNS}
 
 
 def test_dome_writes_the_stored_lines():
@@ -17,4 +21,20 @@ def test_the_reference_writes_the_stored_lines():
 
 
 def test_the_stored_arrivals_are_the_described_ones():
-    expect(b"".join(make_arrivals.campaign()) == ARRIVALS, "examples/make_arrivals.py makes other bytes")
+    expect(b"".join(make_arrivals.arrivals()) == ARRIVALS, "examples/make_arrivals.py makes other bytes")
+
+
+def test_the_stored_listings_are_written():
+    for name, stream in CAMPAIGNS.items():
+        expect_same_lines(listing(stream), LISTINGS[name])
+
+
+def test_the_stored_campaigns_are_the_described_ones():
+    for name, stream in make_campaigns.CAMPAIGNS.items():
+        expect(stream() == CAMPAIGNS[name], f"examples/make_campaigns.py makes other bytes for {name}")
+
+
+def test_no_campaign_is_left_over():
+    for ending in ["campaign", "listing"]:
+        stored = {path.stem for path in EXAMPLES.glob(f"*.{ending}")}
+        expect(stored == set(CAMPAIGNS), f"*.{ending}: {sorted(stored)}")

@@ -5,8 +5,8 @@ from collections import Counter
 from itertools import combinations
 
 import generate
+from campaign import block
 from generate import HEADER, MAX_BLOCK, MAX_REFERENCES, MAX_REQUESTS, REFERENCE, REQUEST
-from make_arrivals import block
 from programs import dome, expect, expect_same_lines
 from reference import Refusal, read_block, text_of
 

@@ -1,0 +1,669 @@
+"""Inputs of the listing, each with the lines that document 01 gives for it, worked out by hand; test_listing.py runs them."""
+
+from typing import NamedTuple
+
+from campaign import Campaign, Draft, arrival, block, digest, setup
+
+NAMES = "arrival place site seq slot number refusal"
+OWNERS = [0, 1, 2, 3, 0, 1, 2, 3]
+FOUR_SITES = setup(4, OWNERS)
+ONE_SITE = setup(1, [0] * 8)
+
+FIRST = block(0, 0)
+UNKNOWN = digest(b"no block")
+
+
+class Case(NamedTuple):
+    name: str
+    stream: bytes
+    lines: list  # after the names
+
+
+def text_of(lines):
+    """A listing that has these lines after the names."""
+    return "".join(line + "\n" for line in [NAMES, *lines])
+
+
+# ---- The setup
+
+SETUPS = [
+    Case("no input", b"", ["- - - - - - 1"]),
+    Case("n alone", FOUR_SITES[:1], ["- - - - - - 1"]),
+    Case("seven owners", FOUR_SITES[:8], ["- - - - - - 1"]),
+    Case("a setup alone", FOUR_SITES, []),
+    Case("no site", setup(0, [0] * 8), ["- - - - - - 1"]),
+    Case("three sites, and a good arrival", setup(3, [0] * 8) + arrival(FIRST), ["- - - - - - 1"]),
+    Case("an unlawful n alone", b"\5", ["- - - - - - 1"]),
+    Case("owner 4 of slot 0", setup(4, [4, 1, 2, 3, 0, 1, 2, 3]), ["- - - - - - 1"]),
+    Case("owner 4 of slot 7, and a good arrival", setup(4, [0, 1, 2, 3, 0, 1, 2, 4]) + arrival(FIRST), ["- - - - - - 1"]),
+    Case("owner 1 of one site", setup(1, [0, 0, 0, 1, 0, 0, 0, 0]), ["- - - - - - 1"]),
+    Case("owner 255", setup(16, [0, 255, 0, 0, 0, 0, 0, 0]), ["- - - - - - 1"]),
+    Case("owner 15 of 16 sites", setup(16, [15] * 8), []),
+    Case("nine bytes of text", b"campaigns", ["- - - - - - 1"]),
+]
+
+
+# ---- 3: bytes that are no block, and lengths that no block has
+
+def longest():
+    """A chain of 16 blocks, and a block of 541 bytes that refers to them all, twice."""
+    night = Campaign(1, [0] * 8)
+    parts = [night.site(0) for _ in range(16)]
+    last = night.site(0).refers_to(*parts)
+    for slot in range(8):
+        last.requests(65535, slot=slot)
+    night.arrives(last)
+    return night.stream()
+
+
+def arrivals_inside(length):
+    """Bytes that would be good arrivals if they weren't a part of one."""
+    return (arrival(FIRST) * length)[:length]
+
+
+SHAPES = [
+    Case("0 bytes", FOUR_SITES + arrival(b""), ["0 - - - - - 3"]),
+    Case("1 byte", FOUR_SITES + arrival(b"\0"), ["0 - - - - - 3"]),
+    Case("4 bytes, and a good block", FOUR_SITES + arrival(bytes(4)) + arrival(FIRST) * 2,
+         ["0 - - - - - 3", "2 - - - - - 8"]),
+    Case("5 bytes", FOUR_SITES + arrival(bytes(5)) * 2, ["1 - - - - - 8"]),
+    Case("a byte too many", FOUR_SITES + arrival(bytes(6)), ["0 - - - - - 3"]),
+    Case("a byte too few", FOUR_SITES + arrival(block(0, 0, [UNKNOWN], [(0, 7)])[:-1]), ["0 - - - - - 3"]),
+    Case("p 1 and no reference", FOUR_SITES + arrival(bytes([0, 0, 0, 1, 0])), ["0 - - - - - 3"]),
+    Case("p 17 in 541 bytes", FOUR_SITES + arrival(bytes([0, 0, 0, 17, 0]) + bytes(536)), ["0 - - - - - 3"]),
+    Case("nine requests", FOUR_SITES + arrival(block(0, 0, requests=[(0, 7)] * 9)), ["0 - - - - - 3"]),
+    Case("p and r 255", FOUR_SITES + arrival(bytes([0, 0, 0, 255, 255])), ["0 - - - - - 3"]),
+    Case("541 bytes that are no block", FOUR_SITES + arrival(bytes(541)) + arrival(FIRST) * 2,
+         ["0 - - - - - 3", "2 - - - - - 8"]),
+    Case("541 bytes that are a block", longest(), ["17 - - - - - 8"]),
+    Case("542 bytes", FOUR_SITES + arrival(bytes(542)), ["0 - - - - - 3"]),
+    Case("542 bytes, and a good block", FOUR_SITES + arrival(bytes(542)) + arrival(FIRST) * 2,
+         ["0 - - - - - 3", "2 - - - - - 8"]),
+    Case("542 bytes with verdict 0", FOUR_SITES + arrival(bytes(542), verdict=0) + arrival(FIRST) * 2,
+         ["0 - - - - - 3", "2 - - - - - 8"]),
+    Case("65,535 bytes, and a good block", FOUR_SITES + arrival(bytes(65535)) + arrival(FIRST) * 2,
+         ["0 - - - - - 3", "2 - - - - - 8"]),
+    Case("542 bytes with good arrivals inside", FOUR_SITES + arrival(arrivals_inside(542)) + arrival(FIRST), ["0 - - - - - 3"]),
+    Case("65,535 bytes with good arrivals inside", FOUR_SITES + arrival(arrivals_inside(65535)) + arrival(FIRST),
+         ["0 - - - - - 3"]),
+]
+
+
+# ---- 4 to 11, each by itself
+
+def sequence_one_after(*sites):
+    """Blocks of sequence number 0, one of each site named, and a block of site 0 that has number 1 and refers to them all."""
+    blocks = [block(site, 0, requests=[(7, number)]) for number, site in enumerate(sites, start=1)]
+    return FOUR_SITES + b"".join(map(arrival, blocks)) + arrival(block(0, 1, [digest(data) for data in blocks]))
+
+
+REFUSALS = [
+    Case("4: site 4 of four", FOUR_SITES + arrival(block(4, 0)), ["0 - - - - - 4"]),
+    Case("4: site 255", FOUR_SITES + arrival(block(255, 0)), ["0 - - - - - 4"]),
+    Case("4: site 1 of one", ONE_SITE + arrival(block(1, 0)), ["0 - - - - - 4"]),
+    Case("site 3 of four", FOUR_SITES + arrival(block(3, 0)), []),
+    Case("5: verdict 0", FOUR_SITES + arrival(FIRST, verdict=0), ["0 - - - - - 5"]),
+    Case("5: verdict 2", FOUR_SITES + arrival(FIRST, verdict=2), ["0 - - - - - 5"]),
+    Case("5: verdict 255", FOUR_SITES + arrival(FIRST, verdict=255), ["0 - - - - - 5"]),
+    Case("verdict 0, then 1, then 1", FOUR_SITES + arrival(FIRST, verdict=0) + arrival(FIRST) * 2,
+         ["0 - - - - - 5", "2 - - - - - 8"]),
+    Case("6: slot 8", FOUR_SITES + arrival(block(0, 0, requests=[(8, 42)])), ["0 - - - - - 6"]),
+    Case("6: slot 255 in the last request", FOUR_SITES + arrival(block(0, 0, requests=[(0, 42)] * 7 + [(255, 42)])),
+         ["0 - - - - - 6"]),
+    Case("6: number 0", FOUR_SITES + arrival(block(0, 0, requests=[(0, 0)])), ["0 - - - - - 6"]),
+    Case("slot 7, number 65,535", FOUR_SITES + arrival(block(0, 0, requests=[(7, 65535)])), []),
+    Case("7: two equal references", FOUR_SITES + arrival(FIRST) + arrival(block(1, 0, [digest(FIRST)] * 2)), ["1 - - - - - 7"]),
+    Case("8: a block once more", FOUR_SITES + arrival(FIRST) * 2, ["1 - - - - - 8"]),
+    Case("8: and once more again", FOUR_SITES + arrival(FIRST) * 3, ["1 - - - - - 8", "2 - - - - - 8"]),
+    Case("9: a reference to no block", FOUR_SITES + arrival(block(0, 0, [UNKNOWN])), ["0 - - - - - 9"]),
+    Case("9: a reference to a block that was refused",
+         FOUR_SITES + arrival(FIRST, verdict=0) + arrival(block(1, 0, [digest(FIRST)])), ["0 - - - - - 5", "1 - - - - - 9"]),
+    Case("9: the second reference", FOUR_SITES + arrival(FIRST) + arrival(block(1, 0, [digest(FIRST), UNKNOWN])),
+         ["1 - - - - - 9"]),
+    Case("10: sequence 1 without references", FOUR_SITES + arrival(block(0, 1)), ["0 - - - - - 10"]),
+    Case("10: sequence 1 and both forks of sequence 0", sequence_one_after(0, 0), ["2 - - - - - 10"]),
+    Case("10: the block before is another site's", sequence_one_after(1), ["1 - - - - - 10"]),
+    Case("one parent, beside another site's block", sequence_one_after(1, 0), []),
+    Case("10: sequence 2 after 0", FOUR_SITES + arrival(FIRST) + arrival(block(0, 2, [digest(FIRST)])), ["1 - - - - - 10"]),
+    Case("10: sequence 257 after 0", FOUR_SITES + arrival(FIRST) + arrival(block(0, 257, [digest(FIRST)])), ["1 - - - - - 10"]),
+    Case("10: sequence 65,535", FOUR_SITES + arrival(FIRST) + arrival(block(0, 65535, [digest(FIRST)])), ["1 - - - - - 10"]),
+]
+
+
+# ---- Where two faults meet, the lower number decides
+
+ORDER = [
+    Case("3 before 4", FOUR_SITES + arrival(bytes([4, 0, 0, 0, 0, 0])), ["0 - - - - - 3"]),
+    Case("3 before 5", FOUR_SITES + arrival(bytes(6), verdict=0), ["0 - - - - - 3"]),
+    Case("3 before 6", FOUR_SITES + arrival(block(0, 0, requests=[(8, 0)]) + b"\0"), ["0 - - - - - 3"]),
+    Case("4 before 5", FOUR_SITES + arrival(block(4, 0), verdict=0), ["0 - - - - - 4"]),
+    Case("4 before 6", FOUR_SITES + arrival(block(4, 0, requests=[(8, 42)])), ["0 - - - - - 4"]),
+    Case("4 before 7", FOUR_SITES + arrival(block(4, 0, [UNKNOWN] * 2)), ["0 - - - - - 4"]),
+    Case("4 before 9", FOUR_SITES + arrival(block(4, 0, [UNKNOWN])), ["0 - - - - - 4"]),
+    Case("5 before 6", FOUR_SITES + arrival(block(0, 0, requests=[(0, 0)]), verdict=0), ["0 - - - - - 5"]),
+    Case("5 before 7", FOUR_SITES + arrival(block(0, 0, [UNKNOWN] * 2), verdict=2), ["0 - - - - - 5"]),
+    Case("5 before 8", FOUR_SITES + arrival(FIRST) + arrival(FIRST, verdict=0), ["1 - - - - - 5"]),
+    Case("5 before 9", FOUR_SITES + arrival(block(0, 0, [UNKNOWN]), verdict=0), ["0 - - - - - 5"]),
+    Case("6 before 7", FOUR_SITES + arrival(block(0, 0, [UNKNOWN] * 2, [(8, 42)])), ["0 - - - - - 6"]),
+    Case("6 before 10", FOUR_SITES + arrival(block(0, 1, requests=[(0, 0)])), ["0 - - - - - 6"]),
+    Case("7 before 9", FOUR_SITES + arrival(block(0, 0, [UNKNOWN] * 2)), ["0 - - - - - 7"]),
+    Case("7 before 10", FOUR_SITES + arrival(FIRST) + arrival(block(0, 2, [digest(FIRST)] * 2)), ["1 - - - - - 7"]),
+    Case("9 before 10", FOUR_SITES + arrival(block(0, 1, [UNKNOWN])), ["0 - - - - - 9"]),
+]
+
+
+# ---- A full table
+
+def full_table():
+    night = Campaign(4, OWNERS)
+    for _ in range(64):
+        night.site(0)
+    return night
+
+
+def one_more():
+    night = full_table()
+    night.site(0)
+    return night.stream()
+
+
+FULL = full_table().stream()
+FULL_TABLE = [
+    Case("64 blocks", FULL, []),
+    Case("11: the 65th", one_more(), ["64 - - - - - 11"]),
+    Case("11: the 65th is the first of its site", FULL + arrival(block(1, 0)), ["64 - - - - - 11"]),
+    Case("11: and the next", FULL + arrival(block(1, 0)) * 2, ["64 - - - - - 11", "65 - - - - - 11"]),
+    Case("8 before 11", FULL + arrival(FIRST), ["64 - - - - - 8"]),
+    Case("9 before 11", FULL + arrival(block(1, 0, [UNKNOWN])), ["64 - - - - - 9"]),
+    Case("10 before 11", FULL + arrival(block(1, 1, [digest(FIRST)])), ["64 - - - - - 10"]),
+    Case("7 before 11", FULL + arrival(block(1, 0, [digest(FIRST)] * 2)), ["64 - - - - - 7"]),
+    Case("6 before 11", FULL + arrival(block(1, 0, requests=[(1, 0)])), ["64 - - - - - 6"]),
+    Case("5 before 11", FULL + arrival(block(1, 0), verdict=0), ["64 - - - - - 5"]),
+    Case("4 before 11", FULL + arrival(block(4, 0)), ["64 - - - - - 4"]),
+    Case("3 before 11", FULL + arrival(bytes(4)), ["64 - - - - - 3"]),
+]
+
+
+# ---- Cut by the input's end: one line, whatever else is wrong
+
+CUTS = [
+    Case("at an arrival's end", FOUR_SITES + arrival(FIRST), []),
+    Case("one byte of length", FOUR_SITES + b"\0", ["0 - - - - - 3"]),
+    Case("one byte of a length over 541", FOUR_SITES + b"\xff", ["0 - - - - - 3"]),
+    Case("before the verdict", FOUR_SITES + arrival(FIRST)[:2], ["0 - - - - - 3"]),
+    Case("before the verdict of no bytes", FOUR_SITES + arrival(b"")[:2], ["0 - - - - - 3"]),
+    Case("before the block", FOUR_SITES + arrival(FIRST)[:3], ["0 - - - - - 3"]),
+    Case("in the block", FOUR_SITES + arrival(FIRST)[:4], ["0 - - - - - 3"]),
+    Case("before the block's last byte", FOUR_SITES + arrival(FIRST)[:-1], ["0 - - - - - 3"]),
+    Case("in the second arrival", FOUR_SITES + arrival(FIRST) + arrival(FIRST)[:-1], ["1 - - - - - 3"]),
+    Case("after a refused arrival", FOUR_SITES + arrival(FIRST, verdict=0) + b"\0", ["0 - - - - - 5", "1 - - - - - 3"]),
+    Case("where the bytes that are there would be a block", FOUR_SITES + b"\0\6\1" + FIRST, ["0 - - - - - 3"]),
+    Case("and site 4", FOUR_SITES + arrival(block(4, 0))[:-1], ["0 - - - - - 3"]),
+    Case("and verdict 0", FOUR_SITES + arrival(FIRST, verdict=0)[:-1], ["0 - - - - - 3"]),
+    Case("and a full table", FULL + arrival(block(1, 0))[:-1], ["64 - - - - - 3"]),
+    Case("542 bytes, before the verdict", FOUR_SITES + arrival(bytes(542))[:2], ["0 - - - - - 3"]),
+    Case("542 bytes, after the verdict", FOUR_SITES + arrival(bytes(542))[:3], ["0 - - - - - 3"]),
+    Case("542 bytes, in the skipped bytes", FOUR_SITES + arrival(bytes(542))[:300], ["0 - - - - - 3"]),
+    Case("542 bytes, before the last skipped byte", FOUR_SITES + arrival(bytes(542))[:-1], ["0 - - - - - 3"]),
+    Case("542 bytes, one byte after them", FOUR_SITES + arrival(bytes(542)) + b"\0", ["0 - - - - - 3", "1 - - - - - 3"]),
+    Case("65,535 bytes, nothing after the length", FOUR_SITES + b"\xff\xff", ["0 - - - - - 3"]),
+    Case("65,535 bytes, before the last skipped byte", FOUR_SITES + arrival(bytes(65535))[:-1], ["0 - - - - - 3"]),
+]
+
+
+# ---- Campaigns that deliver, or don't. Each function is a case: its name, the campaign that it gives, and the lines above it.
+
+DELIVERIES = []
+
+
+def lists(*lines):
+    """Makes a function a case of DELIVERIES: these are the lines of the campaign that it gives."""
+    def add(written):
+        DELIVERIES.append(Case(written.__name__.replace("_", " "), written().stream(), list(lines)))
+        return written
+    return add
+
+
+def all_refer(night, sites, blocks):
+    """Each of these sites builds a block that refers to all these blocks; the new ones."""
+    return [night.site(site).refers_to(*blocks) for site in sites]
+
+
+def up_to_ready(night, sites):
+    """Site 0 requests 42 in slot 0, these sites echo it and get ready for it: the blocks in which they are ready.
+
+    Arrival 0 is the request; then come the echoes, and then the blocks given, one for each site."""
+    request = night.site(0).requests(42, slot=0)
+    return all_refer(night, sites, all_refer(night, sites, [request]))
+
+
+# ---- One site: a request, and three blocks later its delivery
+
+@lists("3 3 0 3 0 1 0",
+       "3 3 0 3 3 256 0",
+       "3 3 0 3 7 65535 0")
+def several_slots_in_one_block_the_lower_first():
+    night = Campaign(1, [0] * 8)
+    night.site(0).requests(65535, slot=7).requests(1, slot=0).requests(256, slot=3)
+    for _ in range(3):
+        night.site(0)
+    return night
+
+
+@lists("3 3 0 3 0 10000 0",
+       "3 3 0 3 1 10001 0",
+       "3 3 0 3 2 10002 0",
+       "3 3 0 3 3 10003 0",
+       "3 3 0 3 4 10004 0",
+       "3 3 0 3 5 10005 0",
+       "3 3 0 3 6 10006 0",
+       "3 3 0 3 7 10007 0")
+def all_slots_in_one_block():
+    night = Campaign(1, [0] * 8)
+    first = night.site(0)
+    for slot in reversed(range(8)):
+        first.requests(10000 + slot, slot=slot)
+    for _ in range(3):
+        night.site(0)
+    return night
+
+
+@lists("3 3 0 3 0 7 0",
+       "4 4 0 4 1 9 0")
+def two_slots_in_two_blocks():
+    night = Campaign(1, [0] * 8)
+    night.site(0).requests(7, slot=0)
+    night.site(0).requests(9, slot=1)
+    for _ in range(4):
+        night.site(0)
+    return night
+
+
+@lists("3 3 0 3 2 5 0")
+def of_two_requests_in_a_block_the_first_counts():
+    night = Campaign(1, [0] * 8)
+    night.site(0).requests(5, slot=2).requests(6, slot=2)
+    for _ in range(5):
+        night.site(0)
+    return night
+
+
+@lists("3 3 0 3 0 7 0")
+def the_second_request_a_block_later_sends_nothing():
+    night = Campaign(1, [0] * 8)
+    night.site(0).requests(7, slot=0)
+    night.site(0).requests(8, slot=0)
+    for _ in range(5):
+        night.site(0)
+    return night
+
+
+@lists("12 12 0 12 0 12345 0")
+def a_sequence_number_of_two_digits():
+    night = Campaign(1, [0] * 8)
+    for _ in range(9):
+        night.site(0)
+    night.site(0).requests(12345, slot=0)
+    for _ in range(3):
+        night.site(0)
+    return night
+
+
+@lists("63 63 0 63 2 65535 0",
+       "64 - - - - - 11")
+def the_last_place_delivers():
+    night = Campaign(1, [0] * 8)
+    for _ in range(60):
+        night.site(0)
+    night.site(0).requests(65535, slot=2)
+    for _ in range(4):
+        night.site(0)
+    return night
+
+
+@lists(*(f"{number} - - - - - 5" for number in range(100)),
+       "103 3 0 3 0 7 0")
+def arrival_numbers_go_on_where_places_do_not():
+    night = Campaign(1, [0] * 8)
+    for _ in range(100):
+        night.arrives(FIRST, verdict=0)
+    night.site(0).requests(7, slot=0)
+    for _ in range(3):
+        night.site(0)
+    return night
+
+
+# ---- Four sites, and more: the thresholds
+
+@lists("9 9 0 3 0 42 0",
+       "10 10 1 2 0 42 0",
+       "11 11 2 2 0 42 0",
+       "12 12 3 2 0 42 0")
+def thirteen_blocks():
+    night = Campaign(4, OWNERS)
+    all_refer(night, range(4), up_to_ready(night, range(4)))
+    return night
+
+
+@lists("7 7 0 3 0 42 0",
+       "8 8 1 2 0 42 0",
+       "9 9 2 2 0 42 0")
+def three_sites_of_four():
+    night = Campaign(4, OWNERS)
+    all_refer(night, range(3), up_to_ready(night, range(3)))
+    return night
+
+
+@lists()
+def two_sites_of_four_deliver_nothing():
+    night = Campaign(4, OWNERS)
+    blocks = up_to_ready(night, range(2))
+    for _ in range(5):
+        blocks = all_refer(night, range(2), blocks)
+    return night
+
+
+@lists("11 11 0 3 0 42 0",
+       "12 12 1 2 0 42 0",
+       "13 13 2 2 0 42 0",
+       "14 14 3 2 0 42 0",
+       "15 15 4 2 0 42 0")
+def five_sites_of_seven():
+    night = Campaign(7, [0] * 8)
+    all_refer(night, range(5), up_to_ready(night, range(5)))
+    return night
+
+
+@lists()
+def four_sites_of_seven_deliver_nothing():
+    night = Campaign(7, [0] * 8)
+    blocks = up_to_ready(night, range(4))
+    for _ in range(5):
+        blocks = all_refer(night, range(4), blocks)
+    return night
+
+
+@lists("33 33 0 3 0 42 0",
+       *(f"{33 + site} {33 + site} {site} 2 0 42 0" for site in range(1, 16)))
+def sixteen_sites_and_sixteen_references():
+    night = Campaign(16, [0] * 8)
+    all_refer(night, range(16), up_to_ready(night, range(16)))
+    return night
+
+
+@lists("7 7 3 0 0 42 0")
+def a_site_delivers_in_its_first_block():
+    night = Campaign(4, OWNERS)
+    readies = up_to_ready(night, range(3))
+    night.site(3).refers_to(*readies)
+    return night
+
+
+@lists("7 7 0 3 0 42 0",
+       "8 8 3 1 0 42 0")
+def two_that_are_ready_make_a_third_ready():
+    night = Campaign(4, OWNERS)
+    request = night.site(0).requests(42, slot=0)
+    echoes = all_refer(night, range(3), [request])
+    zero, one = all_refer(night, range(2), echoes)
+    three = night.site(3).refers_to(zero, one)  # arrival 6: it has heard no echo
+    night.site(0).refers_to(one, three)
+    night.site(3)  # hears that it is ready itself
+    night.site(1).refers_to(zero)  # has heard of two alone
+    return night
+
+
+@lists()
+def two_echoes_make_nobody_ready():
+    night = Campaign(4, OWNERS)
+    request = night.site(0).requests(42, slot=0)
+    echoes = all_refer(night, range(2), [request])
+    blocks = all_refer(night, range(4), echoes)
+    for _ in range(2):
+        blocks = all_refer(night, range(4), blocks)
+    return night
+
+
+@lists()
+def one_that_is_ready_makes_nobody_ready():
+    night = Campaign(4, OWNERS)
+    request = night.site(0).requests(42, slot=0)
+    echoes = all_refer(night, range(3), [request])
+    ready = night.site(0).refers_to(*echoes)
+    blocks = [ready]
+    for _ in range(3):
+        blocks = all_refer(night, range(1, 4), blocks)
+    return night
+
+
+@lists("9 9 0 3 0 42 0")
+def a_number_is_delivered_once():
+    night = Campaign(4, OWNERS)
+    readies = up_to_ready(night, range(4))
+    night.site(0).refers_to(*readies[:3])
+    night.site(0).refers_to(readies[3])
+    return night
+
+
+@lists("7 7 0 3 0 42 0",
+       "8 8 1 2 0 42 0",
+       "9 9 2 2 0 42 0")
+def a_site_is_ready_once():
+    night = Campaign(4, OWNERS)
+    blocks = all_refer(night, range(3), up_to_ready(night, range(3)))
+    night.site(3).refers_to(*blocks)
+    return night
+
+
+@lists()
+def the_second_request_is_not_sent_to_sites_that_missed_the_first():
+    night = Campaign(4, OWNERS)
+    night.site(0).requests(42, slot=0)
+    blocks = [night.site(0).requests(43, slot=0)]
+    for _ in range(4):
+        blocks = all_refer(night, range(1, 4), blocks)
+    return night
+
+
+@lists()
+def a_request_by_another_site_than_the_owner():
+    night = Campaign(4, [0] * 8)
+    request = night.site(1).requests(42, slot=0)
+    blocks = [request]
+    for _ in range(4):
+        blocks = all_refer(night, range(4), blocks)
+    return night
+
+
+@lists("9 9 0 3 0 42 0",
+       "11 11 1 3 0 42 0")
+def messages_of_further_ancestors_are_not_heard():
+    night = Campaign(4, OWNERS)
+    readies = up_to_ready(night, range(4))
+    zero = night.site(0).refers_to(*readies)
+    night.site(1).refers_to(zero)  # arrival 10: refers to one of the readies, its own
+    night.site(1).refers_to(*readies)
+    return night
+
+
+# ---- Forks
+
+@lists("5 5 0 3 0 7 0",
+       "6 6 0 3 0 7 0",
+       "8 8 0 4 1 9 0")
+def both_branches_of_one_site_deliver():
+    night = Campaign(1, [0] * 8)
+    night.site(0).requests(7, slot=0)
+    night.site(0)
+    right = night.fork(0).requests(9, slot=1)
+    night.site(0)
+    right = night.after(right)
+    night.site(0)
+    right = night.after(right)
+    night.site(0)
+    night.after(right)
+    return night
+
+
+@lists("6 6 0 3 0 42 0",
+       "7 7 0 3 0 43 0")
+def more_than_f_forks_and_two_numbers():
+    night = Campaign(1, [0] * 8)
+    night.site(0).requests(42, slot=0)
+    right = night.fork(0).requests(43, slot=0)
+    for _ in range(3):
+        night.site(0)
+        right = night.after(right)
+    return night
+
+
+@lists("10 10 0 3 0 42 0",
+       "11 11 1 2 0 42 0",
+       "12 12 2 2 0 42 0",
+       "13 13 3 2 0 42 0")
+def the_owner_forks_and_the_lower_number_is_echoed():
+    night = Campaign(4, OWNERS)
+    lower = night.site(0).requests(42, slot=0)
+    higher = night.fork(0).requests(43, slot=0)
+    echoes = [night.site(1).refers_to(higher, lower), night.site(3).refers_to(higher, lower),
+              night.site(2).refers_to(higher), night.site(0)]
+    readies = all_refer(night, range(4), echoes)
+    all_refer(night, range(4), readies)
+    return night
+
+
+@lists("9 9 0 3 0 42 0",
+       "10 10 1 2 0 42 0",
+       "11 11 2 2 0 42 0",
+       "12 12 3 2 0 42 0",
+       "13 13 3 2 0 42 0")
+def both_branches_of_one_of_four_sites_deliver():
+    night = Campaign(4, OWNERS)
+    readies = up_to_ready(night, range(4))
+    all_refer(night, range(4), readies)
+    night.fork(3).refers_to(*readies).requests(8, slot=3)
+    return night
+
+
+@lists("9 9 3 2 0 42 0",
+       "12 12 3 3 0 42 0")
+def a_branch_starts_as_its_parent():
+    night = Campaign(4, OWNERS)
+    request = night.site(0).requests(42, slot=0)
+    echoes = all_refer(night, range(4), [request])
+    readies = all_refer(night, range(4), echoes)
+    night.site(3).refers_to(*readies)
+    branch = night.after(echoes[3])  # arrival 10: not ready
+    branch = night.after(branch).refers_to(readies[0], readies[1])  # ready, as two others
+    night.after(branch)
+    return night
+
+
+@lists("9 9 1 2 0 42 0")
+def a_forked_site_counts_once():
+    night = Campaign(4, OWNERS)
+    request = night.site(0).requests(42, slot=0)
+    echoes = all_refer(night, range(4), [request])
+    zero, three = all_refer(night, [0, 3], echoes)
+    other = night.fork(3).refers_to(*echoes).requests(8, slot=3)
+    night.site(1).refers_to(zero, three, other)  # arrival 8: two sites are ready, in three blocks
+    night.site(1)  # and now itself
+    return night
+
+
+@lists("9 9 0 3 0 42 0",
+       "10 10 1 2 0 42 0",
+       "11 11 2 2 0 42 0")
+def of_two_echoes_of_a_forked_site_the_lower_is_noted():
+    night = Campaign(4, OWNERS)
+    lower = night.site(0).requests(42, slot=0)
+    higher = night.fork(0).requests(43, slot=0)
+    zero, other = night.site(0), night.after(higher)
+    one, two = all_refer(night, [1, 2], [lower])
+    readies = [night.site(0).refers_to(one, two), *all_refer(night, [1, 2], [other, zero, one, two])]
+    all_refer(night, range(3), readies)
+    return night
+
+
+@lists()
+def a_site_echoes_once():
+    night = Campaign(4, OWNERS)
+    lower = night.site(0).requests(42, slot=0)
+    higher = night.fork(0).requests(43, slot=0)
+    all_refer(night, range(1, 4), [lower])
+    blocks = all_refer(night, range(1, 4), [higher])
+    # Blocks of sequence number 0 have heard nothing yet.
+    blocks = [night.arrives(Draft(site).refers_to(*blocks)) for site in range(1, 4)]
+    for parent in blocks:
+        night.after(parent).refers_to(*blocks)
+    return night
+
+
+@lists("3 3 0 3 0 7 0",
+       "5 5 0 1 0 7 0")
+def sequence_0_starts_anew():
+    night = Campaign(1, [0] * 8)
+    night.site(0).requests(7, slot=0)
+    night.site(0)
+    ready = night.site(0)
+    delivering = night.site(0)
+    anew = night.arrives(Draft(0).refers_to(delivering))
+    night.after(anew).refers_to(ready)
+    return night
+
+
+# Sites 1, 2 and 3 fork, more than f: one branch of each is for 42, the other for 43, and site 0 sees some of both.
+
+def two_camps():
+    """The campaign up to arrival 13, and blocks of sites 1, 2 and 3 in it: that echo 42, are ready for 42, are ready for 43."""
+    night = Campaign(4, OWNERS)
+    lower = night.site(0).requests(42, slot=0)
+    higher = night.fork(0).requests(43, slot=0)
+    echoes = all_refer(night, range(1, 4), [lower])
+    others = [night.fork(site).refers_to(higher) for site in range(1, 4)]
+    readies = all_refer(night, range(1, 4), echoes)
+    return night, echoes, readies, [night.after(parent).refers_to(*others) for parent in others]
+
+
+@lists("15 15 0 2 0 42 0")
+def two_numbers_are_counted_apart():
+    night, _, lower, higher = two_camps()
+    night.site(0).refers_to(lower[0], higher[1], lower[2])  # gets ready for 42
+    night.site(0)  # and hears itself as the third
+    return night
+
+
+@lists("15 15 0 2 0 42 0")
+def of_two_numbers_that_a_forked_site_is_ready_for_the_lower_is_noted():
+    night, _, lower, higher = two_camps()
+    night.site(0).refers_to(higher[0], lower[0], lower[1])
+    night.site(0)
+    return night
+
+
+@lists()
+def echoes_are_heard_before_readiness():
+    night, echoes, _, higher = two_camps()
+    night.site(0).refers_to(higher[0], higher[1], *echoes)  # gets ready for 42, with two others for 43
+    night.site(0)
+    return night
+
+
+@lists("2 - - - - - 8")
+def sequence_0_may_refer_to_its_own_fork():
+    night = Campaign(4, OWNERS)
+    one = night.site(1)
+    other = night.fork(1).refers_to(one)
+    night.arrives(other)
+    return night
+
+
+@lists("0 - - - - - 9",
+       "2 - - - - - 8")
+def a_block_that_comes_before_its_parent_and_is_not_sent_again():
+    night = Campaign(4, OWNERS)
+    first = Draft(2).requests(7, slot=2)
+    night.after(first)
+    night.arrives(first)
+    night.arrives(first)
+    return night
