@@ -1,7 +1,9 @@
 # make demo        shows the listing and the control program, each on a small campaign
 # make test        proves and tests everything: the gate
-# make bench       measures SHA-256 against a baseline in C, and a full table's calls against a digest
-# make fuzz        compares the library with the harness's model for long: FUZZ_SEED and FUZZ_CASES say where and how far
+# make bench       measures SHA-256, whole campaigns, form and the listing against baselines in C and Rust
+# make memory      adds up what the core's calls take of the device's memory, and fails where it is too much
+# make fuzz        compares the library and the listing with the harness's model for long: FUZZ_SEED, FUZZ_CASES and FUZZ_LISTINGS
+#                  say where and how far
 # make host        builds the listing, the two libraries for C and the control program
 # make install     puts them, the headers and the man pages below PREFIX, or below DESTDIR and PREFIX
 # make uninstall   removes what was installed there
@@ -19,9 +21,11 @@ LISTING = target/bin/listing
 HEADERS = host/giangotum.h host/giangotum_core.h
 HOST = target/host
 HARNESS = target/harness/release/harness
+LISTING = target/bin/listing
 
 FUZZ_SEED ?= 1
 FUZZ_CASES ?= 1000000
+FUZZ_LISTINGS ?= 20000
 PREFIX ?= /usr/local
 DESTDIR ?=
 
@@ -53,9 +57,11 @@ bench: prerequisites $(HOST)/bench_sha256 $(HOST)/bench_table $(HOST)/bench_stac
 	@echo
 	$(HOST)/bench_stack
 
-# The library against the harness's model. A million cases take some minutes; another seed gives other cases.
-fuzz: harness
+# The library, and then the listing program, against the harness's model. A million cases take some minutes; another seed
+# gives other cases.
+fuzz: harness $(LISTING)
 	$(HARNESS) --seed $(FUZZ_SEED) --cases $(FUZZ_CASES)
+	$(HARNESS) --listing $(LISTING) --seed $(FUZZ_SEED) --cases $(FUZZ_LISTINGS)
 
 # The proved libraries for C, the proved listing, and the control program.
 host: prerequisites $(LIBRARIES) $(LISTING) $(HOST)/dome

@@ -1,11 +1,12 @@
-"""The harness: the library against an implementation of document 01 of its own, on seeded input."""
+"""The harness: the library, and the listing program, against an implementation of document 01 of its own, on seeded input."""
 
 import re
 
-from programs import HARNESS, expect, output_of, run
+from programs import DOME, HARNESS, LISTING, expect, output_of, run
 
 CASES = 10_000
-FEWEST_MUTANTS = 500
+STREAMS = 1_500
+FEWEST_MUTANTS = 600
 # 1 is no answer of admission: it is for a setup.
 ANSWERS = {"gt_admit": {0, *range(2, 12)}, "gt_interpret": {0, 2, 12, 13, 14, 15}, "gt_forks": {0, 2},
            "gt_ancestors": {0, 2, 13}, "gt_build": {0, 2, 3, 4, 6, 16, 17}}
@@ -19,10 +20,26 @@ MET = ["campaigns with a slot delivered at both sites", "up to f forked: two num
        "blocks built into an output of their length", "blocks built into a longer output", "outputs too short by one byte",
        "sites forked below their greatest number alone", "built blocks admitted", "built blocks refused with 8",
        "built blocks refused with 11"]
+# The same of listings. Their tables are in form, so that no arrival is answered 2.
+LISTED = [*(f"arrivals answered {number}" for number in (0, *range(3, 12))),
+          "listings of no bytes", "listings of a short setup", "listings of an unlawful setup", "listings without an arrival",
+          "listings with deliveries in several slots", "listings with deliveries at several sites",
+          "listings with deliveries in both branches of a fork", "listings with a full table",
+          "listings with more than 256 arrivals", "listings of more than 65,536 bytes", "listings cut in a length",
+          "listings cut before a verdict", "listings cut in a block", "listings cut in an over-long arrival",
+          "arrivals answered 8 with a full table", "arrivals over-long", "arrivals of 0 to 4 bytes",
+          "arrivals of 541 bytes not answered 3", "deliveries after another in the same block"]
+SITE_COUNTS = {"1", "4", "7", "10", "13", "16"}
 
 
 def last_line(text):
     return text.splitlines()[-1]
+
+
+def expect_met(text, names):
+    counts = dict(re.findall(r"^ *(\S.*?) +(\d+)$", text, re.MULTILINE))
+    for name in names:
+        expect(int(counts.get(name, "0")) > 0, f"{name}\n{text}")
 
 
 def test_no_difference():
@@ -32,9 +49,25 @@ def test_no_difference():
         times = re.findall(rf"^{call} answered +(\d+) +(\d+) times$", text, re.MULTILINE)
         met = {int(answer) for answer, count in times if int(count) > 0}
         expect(met == wanted, f"answers of {call} that were met: {sorted(met)}\n{text}")
-    counts = dict(re.findall(r"^ *(\S.*?) +(\d+)$", text, re.MULTILINE))
-    for name in MET:
-        expect(int(counts.get(name, "0")) > 0, f"{name}\n{text}")
+    expect_met(text, MET)
+
+
+def test_listing_program():
+    text = output_of([HARNESS, "--listing", LISTING, "--seed", "1", "--cases", str(STREAMS)])
+    expect(last_line(text) == f"{STREAMS} cases, 0 differences", text)
+    expect_met(text, LISTED)
+    delivering = set(re.findall(r"^  n (\d+): with a delivery of \d+ +[1-9]\d*$", text, re.MULTILINE))
+    expect(delivering == SITE_COUNTS, text)
+
+
+def test_another_program_is_found():
+    """By a case that finds it alone too."""
+    command = [HARNESS, "--listing", DOME, "--seed", "2"]
+    ended = run([*command, "--cases", "10"])
+    found = re.search(r"^seed 2, case (\d+), kind listings: listing: line 0 is .*$", ended.stdout.decode(), re.MULTILINE)
+    expect(ended.returncode == 1 and found, ended.stdout)
+    alone = run([*command, "--only", found[1]])
+    expect(alone.returncode == 1 and found[0] in alone.stdout.decode(), alone.stdout)
 
 
 def test_each_mutant_is_found():
@@ -44,7 +77,8 @@ def test_each_mutant_is_found():
 
 
 def test_bad_arguments():
-    for arguments in [["--cases", "x"], ["--cases", "0"], ["--cases"], ["--unknown"]]:
+    for arguments in [["--cases", "x"], ["--cases", "0"], ["--cases"], ["--unknown"], ["--listing"], ["--listing", "none"],
+                      ["--listing", LISTING, "--kind", "setups"], ["--listing", LISTING, "--self-test"]]:
         ended = run([HARNESS, *arguments])
         expect(ended.returncode == 2 and ended.stderr and not ended.stdout,
                f"{arguments}: exit status {ended.returncode}, said: {ended.stderr!r}")

@@ -1,8 +1,8 @@
 //! Arrivals: the bytes of a block and a verdict, from lawful ones to bytes that are no block at all.
 
-use crate::draft::{bad_verdict, lawful, spoil, Draft};
+use crate::draft::{self, bad_verdict, lawful, spoil, Draft};
 use crate::random::Random;
-use crate::sizes::{DIGEST_BYTES, HEADER_BYTES, REQUEST_BYTES};
+use crate::sizes::{DIGEST_BYTES, HEADER_BYTES, MAX_BLOCK_BYTES, REQUEST_BYTES};
 use crate::table::Table;
 
 #[derive(Clone)]
@@ -49,6 +49,29 @@ pub fn any(random: &Random, table: &Table, earlier: &[Vec<u8>]) -> Sent {
             Sent { block: random.bytes(length), verdict: 1 }
         }
     }
+}
+
+/// As long as a block may be.
+pub fn longest(random: &Random, table: &Table) -> Sent {
+    sent(draft::longest(random, table))
+}
+
+/// Longer than a block may be, though it begins as one of the greatest length.
+pub fn over_long(random: &Random, table: &Table) -> Sent {
+    let mut sent = longest(random, table);
+    let twice = 2 * MAX_BLOCK_BYTES;
+    let any = random.between(MAX_BLOCK_BYTES + 1, 3 * MAX_BLOCK_BYTES);
+    let length = random.pick(&[MAX_BLOCK_BYTES + 1, MAX_BLOCK_BYTES + 1, MAX_BLOCK_BYTES + 2, twice, twice + 1, any]);
+    // Rarely as long as two bytes can say.
+    let length = if random.one_in(16) { u16::MAX.into() } else { length };
+    sent.block.extend(random.bytes(length - MAX_BLOCK_BYTES));
+    sent
+}
+
+/// Shorter than any block is.
+pub fn short(random: &Random) -> Sent {
+    let length = random.below(HEADER_BYTES);
+    Sent { block: random.bytes(length), verdict: random.pick(&[1, 1, 0, random.byte()]) }
 }
 
 fn sent(draft: Draft) -> Sent {

@@ -1,8 +1,9 @@
-//! The calls that are compared. The library answers them, and so does the model.
+//! The calls that are compared. The library answers them, and so does the model. A listing is a program's answer.
 //!
 //! Every buffer is lent writable, also where a call should only read: so a call that writes there is seen.
 
 use crate::answer::{AncestorPlaces, Answer, ForkedSites, Reading};
+use crate::ended::Ended;
 
 pub trait Calls {
     fn fresh(&self, sites: u8, owners: &mut [u8], table: &mut [u8]) -> Answer;
@@ -17,4 +18,6 @@ pub trait Calls {
     fn replay(&self, table: &mut [u8], records: &mut [u16], calls: &mut [u8], answers: &mut [u64]) -> usize;
     fn read_block(&self, block: &mut [u8]) -> Reading;
     fn digest(&self, message: &mut [u8], output: &mut [u8]) -> Answer;
+    /// What the listing program leaves for an input, which goes to it by a pipe: it can't write there.
+    fn listing(&self, input: &[u8]) -> Ended;
 }

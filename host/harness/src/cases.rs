@@ -4,6 +4,7 @@ mod admissions;
 mod builds;
 mod campaigns;
 mod interpretations;
+mod listings;
 mod replays;
 mod setups;
 mod watches;
@@ -34,6 +35,9 @@ pub static KINDS: [Kind; 9] = [
     Kind { name: "watches", shares: 2, run: watches::run },
     Kind { name: "builds", shares: 2, run: builds::run },
 ];
+
+/// It is run only where it is named: its cases take a process each, of a program that not every run has.
+pub static LISTINGS: Kind = Kind { name: "listings", shares: 0, run: listings::run };
 
 /// Which cases are run.
 #[derive(Clone)]

@@ -227,6 +227,16 @@ impl Compare<'_> {
         self.counts.digest += 1;
         Ok(())
     }
+
+    pub fn listing(&mut self, input: &[u8]) -> Result<(), Difference> {
+        let lines = self.model.lines(input);
+        let ended = self.tested.listing(input);
+        if let Some(what) = ended.other(&self.model.listing.ended(&lines)) {
+            return Err(Difference { call: "listing", what, inputs: vec![shown("input", input)] });
+        }
+        self.counts.listings.listed(input, &lines);
+        Ok(())
+    }
 }
 
 fn other_answer<T: Debug + PartialEq>(tested: &T, expected: &T) -> Option<String> {

@@ -2,6 +2,7 @@
 
 mod built;
 mod campaigns;
+mod listings;
 mod watched;
 
 use std::fmt::{self, Display, Formatter};
@@ -9,6 +10,7 @@ use std::fmt::{self, Display, Formatter};
 use crate::answer::{AncestorPlaces, Answer, ForkedSites};
 use built::BuiltBlocks;
 use campaigns::Campaigns;
+use listings::Listings;
 use watched::Watched;
 
 /// How often a call gave each answer, by its refusal number: these end at 17.
@@ -46,6 +48,7 @@ pub struct Counts {
     pub campaigns: Campaigns,
     pub watched: Watched,
     pub built: BuiltBlocks,
+    pub listings: Listings,
     admissions: Answered,
     interpretations: Answered,
     forks: Answered,
@@ -95,6 +98,10 @@ impl Counts {
 
 impl Display for Counts {
     fn fmt(&self, to: &mut Formatter) -> fmt::Result {
+        // A run of listings makes no calls, and a run of calls lists nothing.
+        if self.listings.any() {
+            return self.listings.fmt(to);
+        }
         let answered = [
             ("gt_admit", &self.admissions, ADMISSION_ANSWERS),
             ("gt_interpret", &self.interpretations, INTERPRETATION_ANSWERS),

@@ -84,6 +84,26 @@ pub fn lawful(random: &Random, table: &Table) -> Draft {
     Draft { site, sequence, references, requests: some_requests(random), verdict: 1 }
 }
 
+/// A block of 541 bytes. A table that holds few blocks doesn't have all its references.
+pub fn longest(random: &Random, table: &Table) -> Draft {
+    let mut draft = lawful(random, table);
+    fill_references(random, &mut draft, MAX_REFERENCES);
+    fill_requests(random, &mut draft, MAX_REQUESTS);
+    draft
+}
+
+fn fill_references(random: &Random, draft: &mut Draft, count: usize) {
+    while draft.references.len() < count {
+        draft.references.push(random.array());
+    }
+}
+
+fn fill_requests(random: &Random, draft: &mut Draft, count: usize) {
+    while draft.requests.len() < count {
+        draft.requests.push(Request { slot: 0, number: some_number(random) });
+    }
+}
+
 /// As many as a block may have.
 pub fn some_requests(random: &Random) -> Vec<Request> {
     let count = some_count(random, MAX_REQUESTS);
@@ -202,12 +222,8 @@ fn second_parent(random: &Random, table: &Table, draft: &mut Draft) {
 /// One reference or one request more than a block may have.
 fn long_list(random: &Random, _: &Table, draft: &mut Draft) {
     if random.one_in(2) {
-        while draft.references.len() <= MAX_REFERENCES {
-            draft.references.push(random.array());
-        }
+        fill_references(random, draft, MAX_REFERENCES + 1);
     } else {
-        while draft.requests.len() <= MAX_REQUESTS {
-            draft.requests.push(Request { slot: 0, number: some_number(random) });
-        }
+        fill_requests(random, draft, MAX_REQUESTS + 1);
     }
 }

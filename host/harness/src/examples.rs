@@ -4,6 +4,7 @@
 mod built;
 mod holder;
 mod interpreted;
+mod listed;
 mod lists;
 mod watched;
 
@@ -38,6 +39,7 @@ pub fn failed(calls: &dyn Calls) -> Vec<&'static str> {
     examples.extend(lists::all(calls));
     examples.extend(watched::all(calls));
     examples.extend(built::all(calls));
+    examples.extend(listed::all(calls));
     examples.into_iter().filter(|(_, holds)| !holds).map(|(name, _)| name).collect()
 }
 
@@ -69,9 +71,19 @@ fn chained(sequence: u16, before: &[Vec<u8>]) -> Vec<u8> {
     Draft { site: 0, sequence, references, requests: Vec::new(), verdict: 1 }.to_bytes()
 }
 
+/// A block of site 0 that refers to nothing, with these requests: slot and number.
+fn requesting(requests: &[(u8, u16)]) -> Vec<u8> {
+    let requests = requests.iter().map(|&(slot, number)| Request { slot, number }).collect();
+    Draft { site: 0, sequence: 0, references: Vec::new(), requests, verdict: 1 }.to_bytes()
+}
+
 /// Blocks of site 0, each referring to the one before.
 fn chain(length: usize) -> Vec<Vec<u8>> {
-    let mut blocks = vec![chained(0, &[])];
+    chain_from(chained(0, &[]), length)
+}
+
+fn chain_from(first: Vec<u8>, length: usize) -> Vec<Vec<u8>> {
+    let mut blocks = vec![first];
     while blocks.len() < length {
         let last = &blocks[blocks.len() - 1..];
         blocks.push(chained(blocks.len() as u16, last));
@@ -80,11 +92,7 @@ fn chain(length: usize) -> Vec<Vec<u8>> {
 }
 
 fn forks_and_child() -> Vec<Vec<u8>> {
-    let request = |number| vec![Request { slot: 0, number }];
-    let fork = |number| {
-        Draft { site: 0, sequence: 0, references: Vec::new(), requests: request(number), verdict: 1 }.to_bytes()
-    };
-    let forks = vec![fork(42), fork(43)];
+    let forks = vec![requesting(&[(0, 42)]), requesting(&[(0, 43)])];
     let child = chained(1, &forks);
     [forks, vec![child]].concat()
 }

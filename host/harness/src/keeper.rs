@@ -8,7 +8,7 @@ use crate::compare::{Compare, Difference, Made};
 use crate::contents::{any_numbers, some_length};
 use crate::lent::{Lent, Sides};
 use crate::random::Random;
-use crate::record::record_at;
+use crate::record::part_at;
 use crate::replay::{admission, interpretation};
 use crate::sizes::{BUFFER_NUMBERS, TABLE_BYTES};
 use crate::table::Table;
@@ -169,8 +169,7 @@ impl<'a> Keeper<'a> {
         let answer = compare.interpret(&mut self.sides, place)?;
         self.answers.push(answer);
         if answer.refusal == 0 {
-            let part = std::array::from_fn(|slot| record_at(&self.left().records, place, slot));
-            compare.counts.campaigns.made(&part);
+            compare.counts.campaigns.made(&part_at(&self.left().records, place));
         }
         // Or before it was known as a block of the campaign.
         if [0, 14].contains(&answer.refusal) {

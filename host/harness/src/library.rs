@@ -1,7 +1,9 @@
-//! The library's C functions as `Calls`. The only unsafe code of the harness.
+//! The library's C functions, and the listing program, as `Calls`. The only unsafe code of the harness.
 
 use crate::answer::{AncestorPlaces, Answer, ForkedSites, Reading};
 use crate::calls::Calls;
+use crate::ended::Ended;
+use crate::program::Program;
 
 // libcore_interface.a
 extern "C" {
@@ -44,7 +46,10 @@ extern "C" {
     fn gt_read_block(block: *const u8, block_length: usize) -> Reading;
 }
 
-pub struct Library;
+pub struct Library {
+    /// Only cases of listings run it.
+    pub listing: Option<Program>,
+}
 
 // What the functions ask of their caller holds for each call below: a pointer has as many items behind it as the
 // length beside it says, and no two buffers overlap, since each comes from a slice that is borrowed alone.
@@ -109,5 +114,9 @@ impl Calls for Library {
 
     fn digest(&self, message: &mut [u8], output: &mut [u8]) -> Answer {
         unsafe { gt_digest(message.as_mut_ptr(), message.len(), output.as_mut_ptr(), output.len()) }
+    }
+
+    fn listing(&self, input: &[u8]) -> Ended {
+        self.listing.as_ref().expect("the listing program").run(input)
     }
 }

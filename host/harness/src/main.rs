@@ -1,6 +1,7 @@
 //! Compares the library with an implementation of document 01 of its own, on seeded random and damaged input.
 //!
 //!     harness [--seed S] [--cases N] [--only K] [--kind NAME]   compares the library with the model
+//!     harness --listing PATH [--seed S] [--cases N] [--only K]  compares a listing program with the model
 //!     harness --self-test [--seed S] [--cases N]                shows that the comparison finds each of many mistakes
 //!
 //! With a kind, all cases are of that kind: as in `--kind campaigns --cases 100000`.
@@ -20,6 +21,7 @@ mod contents;
 mod counts;
 mod damage;
 mod draft;
+mod ended;
 mod ends;
 mod examples;
 mod forked;
@@ -29,10 +31,13 @@ mod keeper;
 mod laws;
 mod lent;
 mod library;
+mod listing;
 mod model;
 mod mutants;
 mod options;
+mod parts;
 mod process;
+mod program;
 mod random;
 mod record;
 mod replay;
@@ -41,6 +46,7 @@ mod self_test;
 mod setup;
 mod sha256;
 mod sizes;
+mod streams;
 mod table;
 mod tables;
 mod targets;
@@ -64,7 +70,7 @@ fn main() -> ExitCode {
         Ok(options) => options,
         Err(message) => {
             eprintln!("harness: {message}");
-            eprintln!("usage: harness [--seed S] [--cases N] [--only K] [--kind NAME] [--self-test]");
+            eprintln!("usage: harness [--seed S] [--cases N] [--only K] [--kind NAME] [--listing PATH] [--self-test]");
             return ExitCode::from(BAD_ARGUMENTS);
         }
     };
@@ -77,12 +83,13 @@ fn main() -> ExitCode {
 }
 
 fn compare_library(options: &Options) -> bool {
+    let library = Library { listing: options.listing.clone() };
     let model = Model::document();
     let mut cases = options.cases.clone();
     let mut counts = Counts::default();
     let mut differences = 0;
     while differences < MOST_DIFFERENCES {
-        let Some(found) = first_difference(&Library, &model, &mut cases, &mut counts) else { break };
+        let Some(found) = first_difference(&library, &model, &mut cases, &mut counts) else { break };
         differences += 1;
         println!("seed {}, case {}, kind {}: {}", cases.seed, found.case, found.kind, found.difference);
     }

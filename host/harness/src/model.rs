@@ -6,8 +6,10 @@ use crate::block;
 use crate::building::{Building, Task};
 use crate::calls::Calls;
 use crate::checks::{first_refusal, Check};
+use crate::ended::Ended;
 use crate::form::{self, Condition};
 use crate::interpretation::{Asked, Interpretation};
+use crate::listing::{Line, Listing};
 use crate::replay::{Call, Replay};
 use crate::setup;
 use crate::sha256::{sha256, Digest};
@@ -36,6 +38,7 @@ pub struct Model {
     pub reading: Vec<Check<[u8]>>,
     pub fields: fn(&[u8]) -> Fields,
     pub digest: fn(&[u8]) -> Digest,
+    pub listing: Listing,
 }
 
 impl Model {
@@ -61,7 +64,13 @@ impl Model {
             ],
             fields: block::fields,
             digest: sha256,
+            listing: Listing::document(),
         }
+    }
+
+    /// The lines that an input gives, over the model's own calls.
+    pub fn lines(&self, input: &[u8]) -> Vec<Line> {
+        self.listing.lines(self, input)
     }
 
     /// A table's bytes as fields, and whether it is in form.
@@ -175,5 +184,9 @@ impl Calls for Model {
         };
         first.copy_from_slice(&(self.digest)(message));
         Answer::success(0)
+    }
+
+    fn listing(&self, input: &[u8]) -> Ended {
+        self.listing.ended(&self.lines(input))
     }
 }

@@ -8,6 +8,7 @@ mod building;
 mod form;
 mod fresh;
 mod interpretation;
+mod listing;
 mod meaning;
 mod process;
 mod reading;
@@ -19,6 +20,7 @@ use crate::answer::{AncestorPlaces, Answer, ForkedSites, Reading};
 use crate::building::Task;
 use crate::calls::Calls;
 use crate::checks::Check;
+use crate::ended::Ended;
 use crate::interpretation::Asked;
 use crate::laws::*;
 use crate::model::{Model, Wanted};
@@ -39,6 +41,7 @@ pub struct Mutant {
     after_replay: AfterReplay,
     after_reading: AfterReading,
     after_digest: AfterCall,
+    after_listing: AfterListing,
 }
 
 // Each is given the answer and the buffers in their order, and gives the answer that goes out.
@@ -49,6 +52,7 @@ type AfterForks = Box<dyn Fn(ForkedSites, &mut [u8]) -> ForkedSites>;
 type AfterAncestors = Box<dyn Fn(AncestorPlaces, &mut [u8], usize) -> AncestorPlaces>;
 type AfterBuilding = Box<dyn Fn(Answer, Building) -> Answer>;
 type AfterReplay = Box<dyn Fn(usize, &mut [u8], &mut [u16], &mut [u8], &mut [u64]) -> usize>;
+type AfterListing = Box<dyn Fn(Ended, &[u8]) -> Ended>;
 type AfterCall = Box<dyn Fn(Answer, &mut [u8], &mut [u8]) -> Answer>;
 
 /// What building was given: two buffers that it reads, and the output.
@@ -62,16 +66,25 @@ struct Building<'a> {
 /// A mistake by its name.
 type Mistake = (&'static str, fn(&mut Mutant));
 
+/// Those that cases of all kinds find.
 pub fn all() -> Vec<Mutant> {
-    let listed = mistakes().into_iter().map(|(name, make)| Mutant::with(name.to_string(), make));
     let mut mutants = form::conditions_left_out();
     mutants.extend(admission::checks_exchanged());
     mutants.extend(interpretation::checks_exchanged());
     mutants.extend(watch::checks_exchanged());
     mutants.extend(building::checks_exchanged());
     mutants.extend(reading::checks_exchanged());
-    mutants.extend(listed);
+    mutants.extend(mistaken(&mistakes()));
     mutants
+}
+
+/// Those that cases of listings find.
+pub fn of_listings() -> Vec<Mutant> {
+    mistaken(listing::MISTAKES)
+}
+
+fn mistaken(mistakes: &[Mistake]) -> Vec<Mutant> {
+    mistakes.iter().map(|(name, make)| Mutant::with(name.to_string(), make)).collect()
 }
 
 /// Mutants that break a law when they stand on both sides, where no call differs, each with the law.
@@ -139,6 +152,7 @@ impl Mutant {
             after_replay: Box::new(|ran, _, _, _, _| ran),
             after_reading: Box::new(|reading, _| reading),
             after_digest: Box::new(|answer, _, _| answer),
+            after_listing: Box::new(|ended, _| ended),
         };
         make(&mut mutant);
         mutant
@@ -221,6 +235,10 @@ impl Mutant {
         self.after_digest = Box::new(after);
     }
 
+    fn after_listing(&mut self, after: impl Fn(Ended, &[u8]) -> Ended + 'static) {
+        self.after_listing = Box::new(after);
+    }
+
     fn after_reading(&mut self, after: impl Fn(Reading, &mut [u8]) -> Reading + 'static) {
         self.after_reading = Box::new(after);
     }
@@ -289,5 +307,10 @@ impl Calls for Mutant {
     fn digest(&self, message: &mut [u8], output: &mut [u8]) -> Answer {
         let answer = self.model.digest(message, output);
         (self.after_digest)(answer, message, output)
+    }
+
+    fn listing(&self, input: &[u8]) -> Ended {
+        let ended = self.model.listing(input);
+        (self.after_listing)(ended, input)
     }
 }

@@ -65,3 +65,8 @@ pub fn record_at(records: &[u16], place: usize, slot: usize) -> Record {
     let record = part.and_then(|part| part.chunks_exact(RECORD_NUMBERS).nth(slot));
     record.map_or([0; RECORD_NUMBERS], |record| record.try_into().expect("a record's numbers"))
 }
+
+/// All records of a place.
+pub fn part_at(records: &[u16], place: usize) -> Part {
+    std::array::from_fn(|slot| record_at(records, place, slot))
+}

@@ -1,8 +1,10 @@
-//! The self-test: a comparison that can't fail shows nothing. So mutants of the model take the library's place, and
-//! each must be found. The library isn't called.
+//! The self-test: a comparison that can't fail shows nothing. So mutants of the model take the library's place, and the
+//! listing program's, and each must be found. Neither library nor program is called.
+
+use std::ops::Range;
 
 use crate::calls::Calls;
-use crate::cases::{first_difference, Cases, Found};
+use crate::cases::{first_difference, Cases, Found, LISTINGS};
 use crate::counts::Counts;
 use crate::examples;
 use crate::model::Model;
@@ -17,15 +19,20 @@ pub fn run(options: &Options) -> bool {
         println!("the model fails the document's examples: {}", failed.join("; "));
         return false;
     }
+    let listings = listings(&options.cases);
     // The other way round: what follows the rules must not be found to differ.
-    if let Some(found) = find(&model, &model, &mut options.cases.clone()) {
-        println!("the model differs from itself, case {}, kind {}: {}", found.case, found.kind, found.difference);
-        return false;
+    for cases in [&options.cases, &listings] {
+        if let Some(found) = find(&model, &model, &mut cases.clone()) {
+            println!("the model differs from itself, case {}, kind {}: {}", found.case, found.kind, found.difference);
+            return false;
+        }
     }
     let mut tally = Tally::default();
-    for mutant in mutants::all() {
-        let found = find(&mutant, &model, &mut options.cases.clone());
-        tally.note(&options.cases, found.map(|found| found.case), &mutant.name);
+    for (mutants, cases) in [(mutants::all(), &options.cases), (mutants::of_listings(), &listings)] {
+        for mutant in mutants {
+            let found = find(&mutant, &model, &mut cases.clone());
+            tally.note(cases, found.map(|found| found.case), &mutant.name);
+        }
     }
     for (mutant, law) in mutants::lawless() {
         let name = format!("{law}: broken by {}", mutant.name);
@@ -33,6 +40,15 @@ pub fn run(options: &Options) -> bool {
     }
     println!("{} mutants found, {} survived", tally.found, tally.survived);
     tally.survived == 0
+}
+
+/// Listings take longer than other cases, and their mutants are found sooner.
+const MOST_LISTINGS: u64 = 400;
+
+/// The first of the cases, as listings.
+fn listings(cases: &Cases) -> Cases {
+    let Range { start, end } = cases.numbers;
+    Cases { seed: cases.seed, numbers: start..end.min(start.saturating_add(MOST_LISTINGS)), kind: Some(&LISTINGS) }
 }
 
 #[derive(Default)]

@@ -5,6 +5,7 @@ use crate::compare::{Compare, Difference};
 use crate::contents;
 use crate::damage::damaged;
 use crate::lent::{Lent, Sides};
+use crate::parts::{bytes_after, cut_in};
 use crate::random::Random;
 use crate::replay::{admission, interpretation, BEFORE_BLOCK, WIDE_BYTES};
 use crate::table::Table;
@@ -77,7 +78,7 @@ fn some_calls(random: &Random, table: &Table) -> Vec<Vec<u8>> {
 fn damaged_list(random: &Random, calls: &[Vec<u8>]) -> Vec<u8> {
     let mut calls = calls.to_vec();
     let at = random.below(calls.len());
-    let after: usize = calls[at + 1..].iter().map(Vec::len).sum();
+    let after = bytes_after(&calls, at);
     match random.below(6) {
         // Cut anywhere.
         0 => {
@@ -85,12 +86,7 @@ fn damaged_list(random: &Random, calls: &[Vec<u8>]) -> Vec<u8> {
             return whole[..random.below(whole.len())].to_vec();
         }
         // Cut in a call's fixed part, or right before its end.
-        1 => {
-            let most = calls[at].len() - 1;
-            let cut = random.pick(&[1, 2, WIDE_BYTES, WIDE_BYTES + 1, BEFORE_BLOCK, most]);
-            calls.truncate(at + 1);
-            calls[at].truncate(cut.min(most));
-        }
+        1 => cut_in(random, &mut calls, at, &[1, 2, WIDE_BYTES, WIDE_BYTES + 1, BEFORE_BLOCK]),
         // Not a call.
         2 => calls[at][0] = random.pick(&[2, 3, 128, 255, random.byte()]),
         // The one call taken for the other.

@@ -8,9 +8,7 @@ const SETUPS_A_CASE: usize = 8;
 
 pub fn run(random: &Random, compare: &mut Compare) -> Result<(), Difference> {
     for _ in 0..SETUPS_A_CASE {
-        let sites =
-            if random.one_in(3) { random.pick(&[0, 2, 3, 19, random.byte()]) } else { random.pick(&SITE_COUNTS) };
-        let owners = some_owners(random, sites);
+        let (sites, owners) = some_setup(random);
         let any = random.between(0, TABLE_BYTES + 100);
         let length = random.pick(&[TABLE_BYTES, TABLE_BYTES, TABLE_BYTES, TABLE_BYTES - 1, TABLE_BYTES + 1, 0, any]);
         let mut table = random.bytes(length);
@@ -18,6 +16,12 @@ pub fn run(random: &Random, compare: &mut Compare) -> Result<(), Difference> {
         compare.in_form(&table)?;
     }
     Ok(())
+}
+
+/// A site count and owners.
+pub fn some_setup(random: &Random) -> (u8, Vec<u8>) {
+    let sites = if random.one_in(3) { random.pick(&[0, 2, 3, 19, random.byte()]) } else { random.pick(&SITE_COUNTS) };
+    (sites, some_owners(random, sites))
 }
 
 /// Mostly eight, mostly below n.

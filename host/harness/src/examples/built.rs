@@ -56,7 +56,7 @@ impl Holder<'_> {
 
     /// The bytes of a block: its head, references to these places, requests.
     fn bytes(&self, head: [u8; 5], places: &[usize], requests: &[u8]) -> Vec<u8> {
-        let references: Vec<u8> = places.iter().flat_map(|&place| self.digests[place]).collect();
+        let references: Vec<u8> = places.iter().flat_map(|&place| self.digest(place)).collect();
         [&head[..], &references, requests].concat()
     }
 }

@@ -11,14 +11,15 @@ pub struct Holder<'a> {
     pub calls: &'a dyn Calls,
     pub table: Vec<u8>,
     pub records: Vec<u16>,
-    pub digests: Vec<Digest>,
+    /// The bytes of the block at each place.
+    pub blocks: Vec<Vec<u8>>,
 }
 
 impl<'a> Holder<'a> {
     pub fn new(calls: &'a dyn Calls, sites: u8) -> Holder<'a> {
         let mut table = vec![0; TABLE_BYTES];
         calls.fresh(sites, &mut [0; SLOTS], &mut table);
-        Holder { calls, table, records: vec![0; BUFFER_NUMBERS], digests: Vec::new() }
+        Holder { calls, table, records: vec![0; BUFFER_NUMBERS], blocks: Vec::new() }
     }
 
     /// For n 4, with thirteen blocks.
@@ -35,14 +36,18 @@ impl<'a> Holder<'a> {
 
     /// Admits a block and interprets it.
     pub fn block(&mut self, site: u8, sequence: u16, places: &[usize], number: Option<u16>) -> usize {
-        let references = places.iter().map(|&place| self.digests[place]).collect();
+        let references = places.iter().map(|&place| self.digest(place)).collect();
         let requests = number.map(|number| Request { slot: 0, number }).into_iter().collect();
-        let mut bytes = Draft { site, sequence, references, requests, verdict: 1 }.to_bytes();
-        self.digests.push(sha256(&bytes));
-        self.calls.admit(&mut self.table, &mut bytes, 1);
-        let place = self.digests.len() - 1;
+        let bytes = Draft { site, sequence, references, requests, verdict: 1 }.to_bytes();
+        self.calls.admit(&mut self.table, &mut bytes.clone(), 1);
+        self.blocks.push(bytes);
+        let place = self.blocks.len() - 1;
         self.interpret(place);
         place
+    }
+
+    pub fn digest(&self, place: usize) -> Digest {
+        sha256(&self.blocks[place])
     }
 
     /// "owner 0 requests 42; four blocks refer to it, four to all of those, four to all of these". The places of the
