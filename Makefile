@@ -11,7 +11,7 @@
 
 CC = gcc
 CFLAGS = -std=c11 -O2 -Wall -Wextra -Wpedantic -Werror
-BENCH_CFLAGS = -O3 -Wall -Wextra -Werror
+BENCH_CFLAGS = -std=c11 -O3 -Wall -Wextra -Wpedantic -Werror
 
 # Digest and block reading, and the core: both can be linked into one program.
 C_LIBRARY = target/staticlib/libc_interface.a
@@ -21,7 +21,18 @@ LISTING = target/bin/listing
 HEADERS = host/giangotum.h host/giangotum_core.h
 HOST = target/host
 HARNESS = target/harness/release/harness
-LISTING = target/bin/listing
+
+# The baselines of the benchmarks: the core in C and in Rust, unproved.
+C_BASELINE = $(patsubst %,bench/baseline/%.c,sha256 block table admission interpretation)
+C_BASELINE_HEADERS = $(wildcard bench/baseline/*.h)
+RUST_BASELINE = target/baseline/release/libbaseline.a
+RUST_LISTING = target/baseline/release/listing
+RUST_SOURCES = bench/baseline_rust/Cargo.toml $(wildcard bench/baseline_rust/src/*.rs bench/baseline_rust/src/bin/*.rs)
+VERSUS = $(patsubst %,bench/%.c,versus timing implementations same same_at_random campaigns) $(C_BASELINE)
+BENCH_HEADERS = $(wildcard bench/*.h bench/baseline_rust/*.h) $(C_BASELINE_HEADERS) $(HEADERS)
+
+# What the device calls.
+DEVICE_CALLS = gt_fresh gt_admit gt_interpret gt_forks gt_ancestors gt_build gt_digest gt_read_block
 
 FUZZ_SEED ?= 1
 FUZZ_CASES ?= 1000000
@@ -32,7 +43,7 @@ DESTDIR ?=
 # All that the libraries and the listing are proved and built from. Folders are among it, so that a removed file counts as a change.
 LIBRARY_SOURCES := $(shell find crates.txt crates \( -name must-fail -prune \) -o -print)
 
-.PHONY: demo test bench fuzz host install uninstall test-programs harness prerequisites clean
+.PHONY: demo test bench memory fuzz host install uninstall test-programs harness prerequisites clean
 .DELETE_ON_ERROR:
 
 # The first target, so that a plain `make` shows something working.
@@ -44,18 +55,23 @@ demo: host
 	@echo '$$ $(HOST)/dome < examples/arrivals.bin'
 	@$(HOST)/dome < examples/arrivals.bin
 
-# The gate: layout, proofs, must-fail edits, host tests. The last line is 'N passed, M failed'.
+# The gate: layout, proofs, must-fail edits, host tests, memory. The last line is 'N passed, M failed'.
 test: prerequisites
 	@tools/gate.sh
 
-# What the library costs on this machine: its SHA-256 against a baseline in C, a full table's calls against
-# a digest.
-bench: prerequisites $(HOST)/bench_sha256 $(HOST)/bench_table $(HOST)/bench_stack
+# What the library costs on this machine, against the baselines and against a digest.
+bench: prerequisites $(HOST)/bench_sha256 $(HOST)/bench_campaign $(HOST)/bench_table $(HOST)/listing_c $(RUST_LISTING) $(LISTING)
 	$(HOST)/bench_sha256
+	@echo
+	$(HOST)/bench_campaign
 	@echo
 	$(HOST)/bench_table
 	@echo
-	$(HOST)/bench_stack
+	python3 -B bench/listing.py target/streams $(LISTING) $(HOST)/listing_c $(RUST_LISTING)
+
+# What the core's calls take of the device's memory.
+memory: prerequisites $(HOST)/device $(HOST)/stack
+	python3 bench/memory.py $(HOST)/device $(HOST)/stack
 
 # The library, and then the listing program, against the harness's model. A million cases take some minutes; another seed
 # gives other cases.
@@ -92,8 +108,10 @@ prerequisites:
 $(LIBRARIES): target/staticlib/lib%.a: $(LIBRARY_SOURCES) rattle.version | prerequisites
 	rt staticlib $*
 
-# rt leaves a program as it is where nothing that it is made from has changed, so its time is set here.
+# rt leaves a program as it is where nothing that it is made from has changed, so its time is set here; and it does not see
+# that a program was removed.
 $(LISTING): $(LIBRARY_SOURCES) rattle.version | prerequisites
+	@test -e $@ || rm -f target/stamp/listing
 	rt check listing
 	@touch -c $@
 
@@ -110,14 +128,31 @@ $(HOST)/digests $(HOST)/calls: $(HOST)/%: host/tests/%.c host/tests/checks.h hos
 $(HOST)/core_calls $(HOST)/record_calls $(HOST)/watch_calls: $(HOST)/%: host/tests/%.c host/tests/campaigns.h host/tests/checks.h $(HEADERS) $(LIBRARIES) | $(HOST)
 	$(CC) $(CFLAGS) -Ihost -o $@ $< $(LIBRARIES)
 
-$(HOST)/bench_sha256: bench/sha256.c bench/sha256_baseline.c bench/timing.h host/giangotum.h $(C_LIBRARY) | $(HOST)
-	$(CC) $(BENCH_CFLAGS) -Ihost -o $@ bench/sha256.c bench/sha256_baseline.c $(C_LIBRARY)
+# Cargo leaves a file that needn't change, and its time would then be taken for old.
+$(RUST_BASELINE) $(RUST_LISTING) &: $(RUST_SOURCES) | prerequisites
+	cargo build --quiet --release --offline --manifest-path bench/baseline_rust/Cargo.toml --target-dir target/baseline
+	touch $(RUST_BASELINE) $(RUST_LISTING)
 
-$(HOST)/bench_stack: bench/stack.c $(HEADERS) $(LIBRARIES) | $(HOST)
-	$(CC) $(BENCH_CFLAGS) -Ihost -o $@ bench/stack.c $(LIBRARIES) -lpthread
+$(HOST)/listing_c: bench/baseline/listing.c $(C_BASELINE) $(C_BASELINE_HEADERS) | $(HOST)
+	$(CC) $(BENCH_CFLAGS) -o $@ $< $(C_BASELINE)
 
-$(HOST)/bench_table: bench/table.c bench/timing.h $(HEADERS) $(LIBRARIES) | $(HOST)
-	$(CC) $(BENCH_CFLAGS) -Ihost -o $@ bench/table.c $(LIBRARIES)
+$(HOST)/bench_sha256 $(HOST)/bench_campaign: $(HOST)/bench_%: bench/%.c $(VERSUS) $(BENCH_HEADERS) $(LIBRARIES) $(RUST_BASELINE) | $(HOST)
+	$(CC) $(BENCH_CFLAGS) -Ihost -o $@ $< $(VERSUS) $(LIBRARIES) $(RUST_BASELINE)
+
+$(HOST)/bench_table: bench/table.c bench/timing.c bench/campaigns.c $(BENCH_HEADERS) $(LIBRARIES) | $(HOST)
+	$(CC) $(BENCH_CFLAGS) -Ihost -o $@ $< bench/timing.c bench/campaigns.c $(LIBRARIES)
+
+# Bound before the program starts, so that no call has the loader's work on its stack.
+$(HOST)/stack: bench/stack.c bench/painted.c bench/campaigns.c $(BENCH_HEADERS) $(LIBRARIES) | $(HOST)
+	$(CC) $(BENCH_CFLAGS) -Ihost -o $@ $< bench/painted.c bench/campaigns.c $(LIBRARIES) -lpthread -Wl,-z,now
+
+# The calls by themselves: no C library, and nothing that they don't reach.
+$(HOST)/device: $(HOST)/device.o $(LIBRARIES)
+	$(CC) -nostdlib -static -Wl,--gc-sections,--build-id=none,-e,$(firstword $(DEVICE_CALLS)) $(DEVICE_CALLS:%=-Wl,-u,%) -o $@ $(LIBRARIES) $<
+
+# The loops stay loops: gcc would make calls of the very functions out of them.
+$(HOST)/device.o: bench/device.c | $(HOST)
+	$(CC) $(CFLAGS) -Os -ffreestanding -fno-tree-loop-distribute-patterns -ffunction-sections -fno-asynchronous-unwind-tables -c -o $@ $<
 
 $(HOST): | prerequisites
 	mkdir -p $@

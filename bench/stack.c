@@ -1,153 +1,373 @@
-/* The deepest stack of each call of the core, in bytes, from the caller's frame on. Each call runs on a stack of its own
- * that was painted before; the depth is where the paint begins. A call of nothing shows what ending the thread takes: no
- * call can come out below it.
+/* The deepest stack of each call, in bytes, from the caller's frame on, over many inputs: tables that are empty, partly
+ * filled, full, forked and out of form; blocks up to 16 references and 8 requests; every refusal.
  * It prints what it measures. An answer other than the expected one ends it with status 1. */
-#include <pthread.h>
-#include <stdbool.h>
-#include <stdint.h>
 #include <stdio.h>
-#include <stdlib.h>
 #include <string.h>
 
-#include "giangotum_core.h"
+#include "campaigns.h"
+#include "expect.h"
+#include "painted.h"
 
-enum { SITES = 16, STACK_BYTES = 1 << 16, PAINT = 0xa5 };
+enum { SITES = 16, ROUND = SITES, REQUEST_BYTES = 3, LIST_BYTES = REQUEST_BYTES * GT_SLOTS };
 
-/* Where the table has the mark of place 16. */
-enum { MARK = 10 + 60 * SITES + 59 };
+typedef struct {
+    uint8_t bytes[GT_TABLE_BYTES];
+} table;
 
-static _Alignas(4096) uint8_t stack[STACK_BYTES];
-static uint8_t table[GT_TABLE_BYTES];
+/* What a call is given. Each call takes what it needs of it. */
+typedef struct {
+    const table *table;   /* lent as a copy */
+    const uint8_t *bytes; /* a block, a message, owners, a request list or a list of calls */
+    size_t length;        /* of the bytes */
+    uint8_t number;       /* a verdict, a site or a number of sites */
+    size_t place;
+    size_t room;     /* numbers of the record buffer, or bytes of the output or of a fresh table */
+    uint8_t refusal; /* expected */
+} input;
+
+static table lent;
 static uint16_t records[GT_RECORDS_NUMBERS];
-static uint8_t block[GT_MAX_BLOCK_BYTES];
-static uint8_t digests[SITES][GT_DIGEST_BYTES];
-static uint8_t digest[GT_DIGEST_BYTES];
 static uint8_t output[GT_MAX_BLOCK_BYTES];
-static uint8_t list[9] = {1, SITES};
 static uint64_t answers[2];
 
-static void expect(bool holds, const char *message)
+/* ---- Tables and blocks */
+
+static campaign busy;
+static table reached[GT_MAX_PLACES + 1]; /* by count: every place interpreted */
+static table admitted[GT_MAX_PLACES];    /* by place: this one is not, all lower ones are */
+static table bare;                       /* full, and nothing interpreted */
+static table forked;                     /* two blocks of sequence number 0 of each site */
+static table out_of_form;
+
+static built_block bad_site, bad_request, repeated, unknown, orphan, another;
+
+static void admit(table *t, const built_block *b)
 {
-    if (!holds) {
-        puts(message);
-        exit(1);
+    expect(gt_admit(t->bytes, sizeof t->bytes, b->bytes, b->length, 1).refusal == 0, "a block was refused");
+}
+
+static void interpret(table *t, size_t place)
+{
+    gt_answer answer = gt_interpret(t->bytes, sizeof t->bytes, place, records, GT_RECORDS_NUMBERS);
+
+    expect(answer.refusal == 0, "a place was refused");
+}
+
+static void prepare_tables(void)
+{
+    table *empty = &reached[0];
+
+    expect(gt_fresh(busy.sites, busy.owners, GT_SLOTS, empty->bytes, sizeof empty->bytes).refusal == 0, "no setup");
+    bare = *empty;
+    for (size_t place = 0; place < GT_MAX_PLACES; place++) {
+        admitted[place] = reached[place];
+        admit(&admitted[place], &busy.blocks[place]);
+        reached[place + 1] = admitted[place];
+        interpret(&reached[place + 1], place);
+        admit(&bare, &busy.blocks[place]);
+    }
+    out_of_form = reached[GT_MAX_PLACES];
+    out_of_form.bytes[GT_TABLE_BYTES - 1] = 2; /* a mark */
+}
+
+/* A twin of each block of the first round: its last request has another number. */
+static void prepare_forks(void)
+{
+    forked = reached[ROUND];
+    for (size_t place = 0; place < ROUND; place++) {
+        built_block twin = busy.blocks[place];
+
+        twin.bytes[twin.length - 1]++;
+        admit(&forked, &twin);
     }
 }
 
-/* ---- A campaign of two rounds: 16 blocks with a request of each slot, and one of 541 bytes that refers to all of them. */
-
-static size_t write_block(uint8_t site, uint8_t references)
+/* The last block, changed so that it is refused. */
+static void prepare_blocks(void)
 {
-    size_t length = 5;
+    const built_block *last = &busy.blocks[LAST_PLACE];
+    const size_t second = 5 + GT_DIGEST_BYTES;
 
-    memcpy(block, (uint8_t[]){site, 0, references > 0, references, GT_SLOTS}, length);
-    for (uint8_t i = 0; i < references; i++, length += GT_DIGEST_BYTES)
-        memcpy(block + length, digests[i], GT_DIGEST_BYTES);
-    for (uint8_t slot = 0; slot < GT_SLOTS; slot++, length += 3)
-        memcpy(block + length, (uint8_t[]){slot, 1, site}, 3);
-    return length;
+    bad_site = bad_request = repeated = unknown = orphan = another = *last;
+    bad_site.bytes[0] = SITES;
+    memset(bad_request.bytes + bad_request.length - 2, 0, 2);
+    memcpy(repeated.bytes + second, repeated.bytes + 5, GT_DIGEST_BYTES);
+    memset(unknown.bytes + second, 0, GT_DIGEST_BYTES);
+    orphan.bytes[2]++;
+    another.bytes[another.length - 1]++;
 }
 
-static void prepare(void)
-{
-    static const uint8_t owners[GT_SLOTS] = {0, 1, 2, 3, 4, 5, 6, 7};
+/* ---- The calls. Each gives its refusal. */
 
-    expect(gt_fresh(SITES, owners, GT_SLOTS, table, GT_TABLE_BYTES).refusal == 0, "the setup was refused");
-    for (uint8_t site = 0; site < SITES; site++) {
-        size_t length = write_block(site, 0);
-        gt_digest(block, length, digests[site], GT_DIGEST_BYTES);
-        expect(gt_admit(table, GT_TABLE_BYTES, block, length, 1).refusal == 0, "a block was refused");
-        expect(gt_interpret(table, GT_TABLE_BYTES, site, records, GT_RECORDS_NUMBERS).refusal == 0, "a place was refused");
+static uint8_t call_nothing(const input *in) { return in->refusal; }
+
+static uint8_t call_digest(const input *in) { return gt_digest(in->bytes, in->length, output, in->room).refusal; }
+
+static uint8_t call_read_block(const input *in) { return gt_read_block(in->bytes, in->length).answer.refusal; }
+
+static uint8_t call_fresh(const input *in)
+{
+    return gt_fresh(in->number, in->bytes, in->length, lent.bytes, in->room).refusal;
+}
+
+static uint8_t call_in_form(const input *in)
+{
+    (void)in;
+    return gt_in_form(lent.bytes, sizeof lent.bytes) ? 0 : 2;
+}
+
+static uint8_t call_admit(const input *in)
+{
+    return gt_admit(lent.bytes, sizeof lent.bytes, in->bytes, in->length, in->number).refusal;
+}
+
+static uint8_t call_interpret(const input *in)
+{
+    return gt_interpret(lent.bytes, sizeof lent.bytes, in->place, records, in->room).refusal;
+}
+
+static uint8_t call_forks(const input *in)
+{
+    (void)in;
+    return gt_forks(lent.bytes, sizeof lent.bytes).refusal;
+}
+
+static uint8_t call_ancestors(const input *in) { return gt_ancestors(lent.bytes, sizeof lent.bytes, in->place).refusal; }
+
+static uint8_t call_build(const input *in)
+{
+    return gt_build(lent.bytes, sizeof lent.bytes, in->number, in->bytes, in->length, output, in->room).refusal;
+}
+
+/* A list of one call. */
+static uint8_t call_replay(const input *in)
+{
+    size_t ran = gt_replay(lent.bytes, sizeof lent.bytes, records, GT_RECORDS_NUMBERS, in->bytes, in->length, answers, 2);
+
+    return ran == 1 ? (uint8_t)answers[0] : UINT8_MAX;
+}
+
+/* ---- Depths */
+
+typedef uint8_t (*call)(const input *in);
+
+typedef struct {
+    call of;
+    const input *in;
+} made_call;
+
+static bool answers_as_expected(const void *context)
+{
+    const made_call *made = context;
+
+    return made->of(made->in) == made->in->refusal;
+}
+
+static void lend(const void *context)
+{
+    const made_call *made = context;
+
+    if (made->in->table != NULL)
+        lent = *made->in->table;
+}
+
+/* Writes the deepest of a call over its inputs. */
+static void measure(const char *name, call of, const input *inputs, size_t count)
+{
+    size_t deepest = 0;
+
+    for (size_t i = 0; i < count; i++) {
+        made_call made = {of, &inputs[i]};
+        size_t depth = depth_of(answers_as_expected, lend, &made);
+        deepest = depth > deepest ? depth : deepest;
     }
-    expect(write_block(0, SITES) == GT_MAX_BLOCK_BYTES, "the last block is not of 541 bytes");
+    printf("%-16s %8zu %16zu\n", name, count, deepest);
 }
 
-/* ---- The calls */
+#define MEASURE(name, of, inputs) measure(name, of, inputs, sizeof(inputs) / sizeof *(inputs))
 
-static bool call_nothing(void) { return true; }
+/* ---- What each call is given */
 
-static bool call_digest(void) { return gt_digest(block, sizeof block, digest, sizeof digest).refusal == 0; }
+#define BLOCK(block) .bytes = (block).bytes, .length = (block).length
+#define FULL &reached[GT_MAX_PLACES]
 
-static bool call_in_form(void) { return gt_in_form(table, sizeof table); }
-
-static bool call_admit(void) { return gt_admit(table, sizeof table, block, sizeof block, 1).refusal == 0; }
-
-static bool call_interpret(void)
+static void measure_digest(void)
 {
-    return gt_interpret(table, sizeof table, SITES, records, GT_RECORDS_NUMBERS).refusal == 0;
+    const built_block *last = &busy.blocks[LAST_PLACE];
+    /* On both sides of where the padding takes a block more. */
+    const input inputs[] = {
+        {.bytes = last->bytes, .length = 0, .room = GT_DIGEST_BYTES},
+        {.bytes = last->bytes, .length = 55, .room = GT_DIGEST_BYTES},
+        {.bytes = last->bytes, .length = 56, .room = GT_DIGEST_BYTES},
+        {.bytes = last->bytes, .length = 128, .room = GT_DIGEST_BYTES},
+        {BLOCK(*last), .room = sizeof output},
+        {BLOCK(*last), .room = GT_DIGEST_BYTES - 1, .refusal = 17},
+    };
+
+    MEASURE("gt_digest", call_digest, inputs);
 }
 
-static bool call_forks(void) { return gt_forks(table, sizeof table).refusal == 0; }
-
-static bool call_ancestors(void) { return gt_ancestors(table, sizeof table, SITES).count == SITES; }
-
-/* The requests are those of the block of 541 bytes, and so is the length: site 1 refers to its own block and to 15 others. */
-static bool call_build(void)
+static void measure_read_block(void)
 {
-    const uint8_t *requests = block + sizeof block - 3 * GT_SLOTS;
-    gt_answer answer = gt_build(table, sizeof table, 1, requests, 3 * GT_SLOTS, output, sizeof output);
+    const built_block *last = &busy.blocks[LAST_PLACE];
+    const input inputs[] = {
+        {BLOCK(busy.blocks[0])},
+        {BLOCK(*last)},
+        {.bytes = last->bytes, .length = last->length - 1, .refusal = 3},
+        {BLOCK(bad_request), .refusal = 6},
+        {BLOCK(repeated), .refusal = 7},
+    };
 
-    return answer.refusal == 0 && answer.value == sizeof output;
+    MEASURE("gt_read_block", call_read_block, inputs);
 }
 
-/* A list of one call, the same interpretation: its mark is taken back. */
-static bool call_replay(void)
+static void measure_fresh(void)
 {
-    table[MARK] = 0;
-    return gt_replay(table, sizeof table, records, GT_RECORDS_NUMBERS, list, sizeof list, answers, 2) == 1
-        && answers[0] == 0;
+    enum { ALL = GT_TABLE_BYTES };
+    const input inputs[] = {
+        {.bytes = busy.owners, .length = GT_SLOTS, .number = SITES, .room = ALL},
+        {.bytes = busy.owners, .length = GT_SLOTS, .number = 2, .room = ALL, .refusal = 1},
+        {.bytes = busy.owners, .length = GT_SLOTS, .number = 4, .room = ALL, .refusal = 1},
+        {.bytes = busy.owners, .length = GT_SLOTS, .number = SITES, .room = ALL - 1, .refusal = 2},
+    };
+
+    MEASURE("gt_fresh", call_fresh, inputs);
 }
 
-/* ---- Painted stacks */
-
-static uint8_t *frame; /* of the caller */
-
-static void *run(void *call)
+static void measure_in_form(void)
 {
-    bool (*of)(void) = *(bool (**)(void))call;
+    const input inputs[] = {
+        {.table = &reached[0]}, {.table = &reached[ROUND]}, {.table = FULL},
+        {.table = &bare},       {.table = &forked},         {.table = &out_of_form, .refusal = 2},
+    };
 
-    frame = __builtin_frame_address(0);
-    return of() ? call : NULL;
+    MEASURE("gt_in_form", call_in_form, inputs);
 }
 
-/* How far below the caller's frame the stack was written. */
-static size_t depth_of(bool (*call)(void))
+static void measure_admit(void)
 {
-    pthread_attr_t attributes;
-    pthread_t thread;
-    void *answer = NULL;
-    size_t untouched = 0;
+    const built_block *last = &busy.blocks[LAST_PLACE];
+    const input inputs[] = {
+        {.table = &reached[0], BLOCK(busy.blocks[0]), .number = 1},
+        {.table = &reached[ROUND], BLOCK(busy.blocks[ROUND]), .number = 1},
+        {.table = &reached[LAST_PLACE], BLOCK(*last), .number = 1},
+        {.table = &forked, BLOCK(busy.blocks[ROUND]), .number = 1},
+        {.table = &out_of_form, BLOCK(*last), .number = 1, .refusal = 2},
+        {.table = FULL, .bytes = last->bytes, .length = last->length - 1, .number = 1, .refusal = 3},
+        {.table = FULL, BLOCK(bad_site), .number = 1, .refusal = 4},
+        {.table = FULL, BLOCK(*last), .number = 0, .refusal = 5},
+        {.table = FULL, BLOCK(bad_request), .number = 1, .refusal = 6},
+        {.table = FULL, BLOCK(repeated), .number = 1, .refusal = 7},
+        {.table = FULL, BLOCK(*last), .number = 1, .refusal = 8},
+        {.table = FULL, BLOCK(unknown), .number = 1, .refusal = 9},
+        {.table = FULL, BLOCK(orphan), .number = 1, .refusal = 10},
+        {.table = FULL, BLOCK(another), .number = 1, .refusal = 11},
+    };
 
-    memset(stack, PAINT, sizeof stack);
-    pthread_attr_init(&attributes);
-    expect(pthread_attr_setstack(&attributes, stack, sizeof stack) == 0, "no stack of its own");
-    expect(pthread_create(&thread, &attributes, run, &call) == 0, "no thread");
-    pthread_join(thread, &answer);
-    pthread_attr_destroy(&attributes);
-    expect(answer != NULL, "a call was answered otherwise than expected");
-    while (untouched < sizeof stack && stack[untouched] == PAINT)
-        untouched++;
-    return (size_t)(frame - (stack + untouched));
+    MEASURE("gt_admit", call_admit, inputs);
+}
+
+static void measure_interpret(void)
+{
+    enum { ALL = GT_RECORDS_NUMBERS };
+    /* A block without references, then one that hears SEND, ECHO and READY of 16 sites. */
+    const input inputs[] = {
+        {.table = &admitted[0], .place = 0, .room = ALL},
+        {.table = &admitted[ROUND], .place = ROUND, .room = ALL},
+        {.table = &admitted[2 * ROUND], .place = 2 * ROUND, .room = ALL},
+        {.table = &admitted[3 * ROUND], .place = 3 * ROUND, .room = ALL},
+        {.table = &admitted[LAST_PLACE], .place = LAST_PLACE, .room = ALL},
+        {.table = &out_of_form, .place = LAST_PLACE, .room = ALL, .refusal = 2},
+        {.table = &admitted[LAST_PLACE], .place = LAST_PLACE, .room = ALL - 1, .refusal = 12},
+        {.table = FULL, .place = GT_MAX_PLACES, .room = ALL, .refusal = 13},
+        {.table = FULL, .place = LAST_PLACE, .room = ALL, .refusal = 14},
+        {.table = &bare, .place = LAST_PLACE, .room = ALL, .refusal = 15},
+    };
+
+    MEASURE("gt_interpret", call_interpret, inputs);
+}
+
+static void measure_forks(void)
+{
+    const input inputs[] = {
+        {.table = &reached[0]}, {.table = FULL}, {.table = &forked}, {.table = &out_of_form, .refusal = 2},
+    };
+
+    MEASURE("gt_forks", call_forks, inputs);
+}
+
+static void measure_ancestors(void)
+{
+    const input inputs[] = {
+        {.table = FULL, .place = 0},
+        {.table = FULL, .place = LAST_PLACE},
+        {.table = &out_of_form, .place = 0, .refusal = 2},
+        {.table = FULL, .place = GT_MAX_PLACES, .refusal = 13},
+    };
+
+    MEASURE("gt_ancestors", call_ancestors, inputs);
+}
+
+static void measure_build(void)
+{
+    enum { ALL = GT_MAX_BLOCK_BYTES };
+    const uint8_t *requests = busy.blocks[0].bytes + 5, *bad_requests = bad_request.bytes + ALL - LIST_BYTES;
+    /* A first block, one that refers to nothing new, one of 541 bytes, then the refusals. */
+    const input inputs[] = {
+        {.table = &reached[0], .bytes = requests, .length = 0, .number = 0, .room = ALL},
+        {.table = FULL, .bytes = requests, .length = 0, .number = SITES - 1, .room = ALL},
+        {.table = FULL, .bytes = requests, .length = LIST_BYTES, .number = 0, .room = ALL},
+        {.table = &out_of_form, .bytes = requests, .length = LIST_BYTES, .number = 0, .room = ALL, .refusal = 2},
+        {.table = FULL, .bytes = requests, .length = LIST_BYTES - 1, .number = 0, .room = ALL, .refusal = 3},
+        {.table = FULL, .bytes = requests, .length = LIST_BYTES, .number = SITES, .room = ALL, .refusal = 4},
+        {.table = FULL, .bytes = bad_requests, .length = LIST_BYTES, .number = 0, .room = ALL, .refusal = 6},
+        {.table = &forked, .bytes = requests, .length = LIST_BYTES, .number = 0, .room = ALL, .refusal = 16},
+        {.table = FULL, .bytes = requests, .length = LIST_BYTES, .number = 0, .room = ALL - 1, .refusal = 17},
+    };
+
+    MEASURE("gt_build", call_build, inputs);
+}
+
+/* An admission and an interpretation, both of the last block. */
+static void measure_replay(void)
+{
+    uint8_t admission[10 + GT_MAX_BLOCK_BYTES] = {0, 1, GT_MAX_BLOCK_BYTES % 256, GT_MAX_BLOCK_BYTES / 256};
+    const uint8_t interpretation[9] = {1, LAST_PLACE};
+    const input inputs[] = {
+        {.table = &reached[LAST_PLACE], .bytes = admission, .length = sizeof admission},
+        {.table = &admitted[LAST_PLACE], .bytes = interpretation, .length = sizeof interpretation},
+    };
+
+    memcpy(admission + 10, busy.blocks[LAST_PLACE].bytes, GT_MAX_BLOCK_BYTES);
+    MEASURE("gt_replay", call_replay, inputs);
+}
+
+/* What ending the thread takes. */
+static void measure_nothing(void)
+{
+    const input inputs[] = {{.refusal = 0}};
+
+    MEASURE("nothing", call_nothing, inputs);
 }
 
 int main(void)
 {
-    static const struct {
-        const char *name;
-        bool (*call)(void);
-    } calls[] = {{"nothing", call_nothing},
-                 {"gt_digest, 541 bytes", call_digest},
-                 {"gt_in_form", call_in_form},
-                 {"gt_admit, 16 references", call_admit},
-                 {"gt_interpret, 16 references", call_interpret},
-                 {"gt_forks", call_forks},
-                 {"gt_ancestors", call_ancestors},
-                 {"gt_build, 541 bytes", call_build},
-                 {"gt_replay", call_replay}};
+    busy = busy_campaign();
+    prepare_tables();
+    prepare_forks();
+    prepare_blocks();
 
-    prepare();
-    puts("call                          bytes of stack");
-    for (size_t i = 0; i < sizeof calls / sizeof calls[0]; i++)
-        printf("%-28s %15zu\n", calls[i].name, depth_of(calls[i].call));
+    puts("call               inputs   bytes of stack");
+    measure_nothing();
+    measure_digest();
+    measure_read_block();
+    measure_fresh();
+    measure_in_form();
+    measure_admit();
+    measure_interpret();
+    measure_forks();
+    measure_ancestors();
+    measure_build();
+    measure_replay();
     return 0;
 }

@@ -1,31 +1,26 @@
-/* How the benchmarks measure: CPU time, so that other programs on the machine count less, and medians of repetitions,
- * so that a single slow one doesn't count at all. */
+/* How the benchmarks measure: CPU time, so that other programs on the machine count less; the kinds of a comparison in
+ * turn, so that a slow phase of the machine meets all of them; and medians of repetitions, so that a single slow one
+ * doesn't count at all. */
 #ifndef TIMING_H
 #define TIMING_H
 
-#include <stdlib.h>
-#include <time.h>
+#include <stddef.h>
 
 enum { REPETITIONS = 31 };
 
-static inline double cpu_seconds(void)
-{
-    struct timespec now;
-    clock_gettime(CLOCK_PROCESS_CPUTIME_ID, &now);
-    return (double)now.tv_sec + 1e-9 * (double)now.tv_nsec;
-}
+/* What is measured of one kind: the seconds of its batch in each repetition. */
+typedef struct {
+    double seconds[REPETITIONS];
+} timing;
 
-static inline int by_size(const void *x, const void *y)
-{
-    double a = *(const double *)x, b = *(const double *)y;
-    return (a > b) - (a < b);
-}
+/* Runs a batch of this kind. */
+typedef void (*batch)(size_t kind, const void *context);
 
-/* The median of one value for each repetition; sorts them. */
-static inline double median(double values[REPETITIONS])
-{
-    qsort(values, REPETITIONS, sizeof *values, by_size);
-    return values[REPETITIONS / 2];
-}
+/* Times a batch of each kind in turn, in every repetition, after a batch of each to warm up. */
+void time_in_turn(size_t kinds, timing timings[], batch run, const void *context);
+
+/* Medians over the repetitions: of the seconds, and of how many times x took as long as y. */
+double median_seconds(const timing *x);
+double median_ratio(const timing *x, const timing *y);
 
 #endif

@@ -5,6 +5,7 @@
 #   proofs          rt ci: every proof, every must-fail edit, every program with stored output
 #   must-fail logs  each edit was refused by a fact that no longer holds
 #   host            the libraries for C, the test programs and the harness are built, and host/tests/run.py passes
+#   memory          what the core's calls take fits the device
 #
 # The last line is 'N passed, M failed', summed over the steps; the exit status is 0 only where M is 0.
 set -u
@@ -62,15 +63,16 @@ check_counted() { # TITLE COMMAND...
 }
 
 # Flags of a make around this one, as -n or -j, aren't meant for it.
-build_host() { env -u MAKEFLAGS -u MFLAGS make --no-print-directory test-programs; }
+build() { env -u MAKEFLAGS -u MFLAGS make --no-print-directory "$@"; }
 
 check 'layout' rt fmt --check
 check_counted 'proofs' rt ci
 check 'must-fail logs' tools/must_fail_logs.sh
 printf '\n== host programs\n'
-if build_host; then
+if build test-programs; then
     check_counted 'host tests' python3 host/tests/run.py
+    check 'memory' build memory
 else
-    fail 'the libraries or the host programs could not be built, so the host tests did not run'
+    fail 'the libraries or the host programs could not be built, so the host tests did not run and memory was not measured'
 fi
 finish

@@ -12,12 +12,14 @@ need() { # COMMAND PURPOSE
 }
 
 need rt 'the Rattle toolchain: proves the crates and builds the library'
-need gcc 'compiles the control program, the host tests and the benchmark'
+need gcc 'compiles the control program, the host tests and the benchmarks'
 need g++ 'compiles the header as C++, a host test'
 need make 'runs the targets of the Makefile'
-need cargo 'the test harness in Rust'
+need cargo 'the test harness in Rust, and a baseline of the benchmarks'
 need python3 'runs the host tests'
 need groff 'renders the man pages, a host test'
+need nm 'says which calls are linked, for the memory budget'
+need size 'says how much is linked, for the memory budget'
 need valgrind 'looks for memory errors in the host tests'
 
 exit "$missing"

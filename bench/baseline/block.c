@@ -1,0 +1,44 @@
+/* Reading a block. */
+#include "inner.h"
+
+enum { HEAD_BYTES = 5, REQUEST_BYTES = 3 };
+
+bool baseline_read(const uint8_t *bytes, size_t length, baseline_block *block)
+{
+    if (length < HEAD_BYTES || bytes[3] > MAX_REFERENCES || bytes[4] > MAX_REQUESTS)
+        return false;
+    size_t reference_bytes = (size_t)DIGEST_BYTES * bytes[3];
+    if (length != HEAD_BYTES + reference_bytes + (size_t)REQUEST_BYTES * bytes[4])
+        return false;
+    block->site = bytes[0];
+    block->sequence = (uint16_t)(bytes[1] << 8 | bytes[2]);
+    block->references = bytes[3];
+    block->requests = bytes[4];
+    block->request_bytes = bytes + HEAD_BYTES + reference_bytes;
+    memcpy(block->reference, bytes + HEAD_BYTES, reference_bytes);
+    return true;
+}
+
+static bool good_request(const uint8_t *request)
+{
+    return request[0] < SLOTS && (request[1] | request[2]) != 0;
+}
+
+static bool repeats(const baseline_digest *references, size_t index)
+{
+    for (size_t i = 0; i < index; i++)
+        if (same_digest(&references[i], &references[index]))
+            return true;
+    return false;
+}
+
+baseline_answer baseline_check_lists(const baseline_block *block)
+{
+    for (size_t i = 0; i < block->requests; i++)
+        if (!good_request(block->request_bytes + REQUEST_BYTES * i))
+            return answer(BAD_REQUEST, i);
+    for (size_t i = 0; i < block->references; i++)
+        if (repeats(block->reference, i))
+            return answer(REPEATED_REFERENCE, i);
+    return answer(NONE, 0);
+}

@@ -1,0 +1,85 @@
+/* The core of document 01 in plain C, unproved: what the proved library is measured against. It shares nothing with the
+ * library: not the layout of the table, not SHA-256.
+ *
+ * A caller lends a table and a record buffer, as with the library. The form check stands at the start of every call on a
+ * table, since document 01 asks for it there. */
+#ifndef BASELINE_CORE_H
+#define BASELINE_CORE_H
+
+#include <stdbool.h>
+#include <stddef.h>
+#include <stdint.h>
+
+enum {
+    DIGEST_BYTES = 32,
+    MAX_SITES = 16,
+    SLOTS = 8,
+    PLACES = 64,
+    MAX_REFERENCES = 16,
+    MAX_REQUESTS = 8,
+    MAX_BLOCK_BYTES = 541,
+    RECORD_NUMBERS = 40,
+    RECORDS_NUMBERS = PLACES * SLOTS * RECORD_NUMBERS
+};
+
+/* Document 01's refusal numbers. */
+enum {
+    NONE = 0,
+    NOT_LAWFUL = 1,
+    NOT_IN_FORM = 2,
+    NO_BLOCK = 3,
+    NO_SITE = 4,
+    BAD_VERDICT = 5,
+    BAD_REQUEST = 6,
+    REPEATED_REFERENCE = 7,
+    DIGEST_HELD = 8,
+    NOT_HELD = 9,
+    NO_PARENT = 10,
+    FULL = 11,
+    WRONG_RECORDS = 12,
+    NO_PLACE = 13,
+    INTERPRETED = 14,
+    NOT_INTERPRETED = 15
+};
+
+typedef struct {
+    uint8_t refusal;
+    size_t value;
+} baseline_answer;
+
+/* In words, so that a comparison mostly ends after one. */
+typedef struct {
+    uint64_t words[4];
+} baseline_digest;
+
+/* What a table has of one block. */
+typedef struct {
+    baseline_digest digest;
+    uint64_t references; /* bit i: the block refers to place i */
+    uint16_t requests[SLOTS];
+    uint16_t sequence;
+    uint8_t site;
+    uint8_t interpreted; /* 0 or 1 */
+} baseline_row;
+
+typedef struct {
+    baseline_row rows[PLACES];
+    uint8_t owners[SLOTS];
+    uint8_t sites;
+    uint8_t count;
+} baseline_table;
+
+void baseline_sha256(const uint8_t *m, size_t n, uint8_t out[DIGEST_BYTES]);
+
+/* Makes the empty table of a setup; all zero beside refusal 1. */
+baseline_answer baseline_fresh(baseline_table *table, uint8_t sites, const uint8_t owners[SLOTS]);
+
+bool baseline_in_form(const baseline_table *table);
+
+/* Checks 2 to 11, then the block stands at the next place; the value is that place. */
+baseline_answer baseline_admit(baseline_table *table, const uint8_t *block, size_t length, uint8_t verdict);
+
+/* Checks 2 and 12 to 15, then the place's numbers are written and the place is marked. */
+baseline_answer baseline_interpret(baseline_table *table, size_t place, uint16_t *records, size_t numbers);
+
+#endif

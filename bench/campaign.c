@@ -1,0 +1,85 @@
+/* Whole campaigns, ours against the baselines: a fresh table, then 64 blocks, each admitted and interpreted. And the form
+ * check of the full table, which begins every call on it.
+ * It prints what it measures and judges no speed. A difference between two answers or records ends it with status 1. */
+#include <stdio.h>
+
+#include "expect.h"
+#include "same.h"
+#include "versus.h"
+
+enum { CAMPAIGNS = 10, FORM_CHECKS = 2000, RANDOM_CALLS = 100000 };
+
+/* What is timed of a campaign: all its admissions, or its interpretations too. */
+typedef struct {
+    const campaign *of;
+    bool interpreted;
+} timed_campaign;
+
+/* Whether nothing was refused. */
+static bool runs(const implementation *of, const timed_campaign *timed)
+{
+    const campaign *c = timed->of;
+    bool all = of->fresh(c->sites, c->owners).refusal == 0;
+
+    for (size_t place = 0; place < GT_MAX_PLACES; place++) {
+        all = of->admit(c->blocks[place].bytes, c->blocks[place].length, 1).refusal == 0 && all;
+        if (timed->interpreted)
+            all = of->interpret(place).refusal == 0 && all;
+    }
+    return all;
+}
+
+static void run_often(const implementation *of, const void *context)
+{
+    bool all = true;
+
+    for (size_t i = 0; i < CAMPAIGNS; i++)
+        all = runs(of, context) && all;
+    expect(all, "a call of the campaign was refused");
+}
+
+static void check_form_often(const implementation *of, const void *context)
+{
+    bool all = true;
+
+    (void)context;
+    for (size_t i = 0; i < FORM_CHECKS; i++)
+        all = of->in_form() && all;
+    expect(all, "the full table is not in form");
+}
+
+static void compare_campaign(const campaign *c)
+{
+    expect_same(c);
+    comparison form = compare(check_form_often, NULL);
+    comparison admitted = compare(run_often, &(timed_campaign){c, false});
+    comparison run = compare(run_often, &(timed_campaign){c, true});
+
+    puts("");
+    print_columns(c->name, "us");
+    print_microseconds("64 blocks admitted and interpreted", &run, CAMPAIGNS);
+    print_microseconds("64 blocks admitted", &admitted, CAMPAIGNS);
+    print_microseconds("form of the full table", &form, FORM_CHECKS);
+}
+
+int main(void)
+{
+    static campaign busy, ordinary;
+
+    busy = busy_campaign();
+    ordinary = ordinary_campaign();
+    puts("Whole campaigns: the proved core (ours) against C and Rust, each with its own table and SHA-256.");
+    puts("A campaign is a fresh table and 64 blocks. Every block refers to all blocks of the round before.");
+    printf("Before timing, each of the three runs the campaign, with refused calls among it, and %d random calls; all answers\n",
+           RANDOM_CALLS);
+    puts("and all 20,480 numbers of the records are compared.");
+    printf("Measured in CPU time: medians of %d repetitions, each a batch of %d campaigns or %d form checks of each in turn,\n",
+           REPETITIONS, CAMPAIGNS, FORM_CHECKS);
+    puts("after a batch of each to warm up. Making the table fresh is in the time; the record buffers are not cleared between");
+    puts("campaigns. The last two columns are a baseline's time over ours, the median of the repetitions' ratios: above 1 ours");
+    puts("is the faster one.");
+    expect_same_at_random(RANDOM_CALLS);
+    compare_campaign(&busy);
+    compare_campaign(&ordinary);
+    return 0;
+}

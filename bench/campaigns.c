@@ -1,0 +1,79 @@
+/* Building the blocks of the campaigns. */
+#include "campaigns.h"
+
+#include <stdbool.h>
+#include <string.h>
+
+#include "expect.h"
+
+enum { BUSY_SITES = 16, ORDINARY_SITES = 4, LATER_ROUND = 4 };
+
+/* Whether the block of a place has a request of a slot. */
+typedef bool (*request_rule)(size_t place, uint8_t slot);
+
+static bool busy_rule(size_t place, uint8_t slot)
+{
+    (void)slot;
+    return place < BUSY_SITES || place == LAST_PLACE;
+}
+
+static bool ordinary_rule(size_t place, uint8_t slot)
+{
+    size_t site = place % ORDINARY_SITES, round = place / ORDINARY_SITES;
+
+    return (round == 0 && slot == site) || (round == LATER_ROUND && slot == site + ORDINARY_SITES);
+}
+
+void append(built_block *block, const void *bytes, size_t length)
+{
+    memcpy(block->bytes + block->length, bytes, length);
+    block->length += length;
+}
+
+/* The blocks of lower places are built already. */
+static void append_references(campaign *c, size_t place)
+{
+    size_t round = place / c->sites;
+
+    for (size_t i = 0; round > 0 && i < c->sites; i++) {
+        const built_block *referred = &c->blocks[c->sites * (round - 1) + i];
+        uint8_t digest[GT_DIGEST_BYTES];
+
+        gt_digest(referred->bytes, referred->length, digest, sizeof digest);
+        append(&c->blocks[place], digest, sizeof digest);
+        c->blocks[place].bytes[3]++;
+    }
+}
+
+static void append_requests(campaign *c, size_t place, request_rule requests)
+{
+    for (uint8_t slot = 0; slot < GT_SLOTS; slot++)
+        if (requests(place, slot)) {
+            append(&c->blocks[place], (uint8_t[]){slot, (uint8_t)place, 1}, 3);
+            c->blocks[place].bytes[4]++;
+        }
+}
+
+static campaign make(const char *name, uint8_t sites, request_rule requests)
+{
+    campaign c = {.name = name, .sites = sites};
+
+    for (uint8_t slot = 0; slot < GT_SLOTS; slot++)
+        c.owners[slot] = slot % sites;
+    for (size_t place = 0; place < GT_MAX_PLACES; place++) {
+        append(&c.blocks[place], (uint8_t[]){(uint8_t)(place % sites), 0, (uint8_t)(place / sites), 0, 0}, 5);
+        append_references(&c, place);
+        append_requests(&c, place, requests);
+    }
+    return c;
+}
+
+campaign busy_campaign(void)
+{
+    campaign c = make("busy: 16 sites, 16 references", BUSY_SITES, busy_rule);
+
+    expect(c.blocks[LAST_PLACE].length == GT_MAX_BLOCK_BYTES, "the last block is not of 541 bytes");
+    return c;
+}
+
+campaign ordinary_campaign(void) { return make("ordinary: 4 sites, 4 references", ORDINARY_SITES, ordinary_rule); }

@@ -1,0 +1,33 @@
+/* The campaigns that the benchmarks run: as many blocks as a table holds, in rounds. In each round every site builds one
+ * block, which refers to all blocks of the round before. */
+#ifndef BENCH_CAMPAIGNS_H
+#define BENCH_CAMPAIGNS_H
+
+#include "giangotum_core.h"
+
+typedef struct {
+    uint8_t bytes[GT_MAX_BLOCK_BYTES];
+    size_t length;
+} built_block;
+
+/* Puts bytes at the block's end. There is room for a block that is as long as a block can be. */
+void append(built_block *block, const void *bytes, size_t length);
+
+typedef struct {
+    const char *name;
+    uint8_t sites;
+    uint8_t owners[GT_SLOTS];
+    built_block blocks[GT_MAX_PLACES]; /* in the order of their places */
+} campaign;
+
+enum { LAST_PLACE = GT_MAX_PLACES - 1 };
+
+/* 16 sites in four rounds. Every block of the first round has a request of each slot, and so has the last block, which
+ * makes it as long as a block can be. */
+campaign busy_campaign(void);
+
+/* Four sites in 16 rounds. Each site owns two slots and requests a number in one of them in the first round, in the other
+ * in the fifth. */
+campaign ordinary_campaign(void);
+
+#endif

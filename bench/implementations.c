@@ -1,0 +1,89 @@
+/* The three behind one face. */
+#include "implementations.h"
+
+#include "baseline/core.h"
+#include "baseline_rust/baseline.h"
+
+/* ---- The proved one */
+
+static uint8_t our_table[GT_TABLE_BYTES];
+static uint16_t our_records[GT_RECORDS_NUMBERS];
+
+static void our_digest(const uint8_t *message, size_t length, uint8_t digest[GT_DIGEST_BYTES])
+{
+    gt_digest(message, length, digest, GT_DIGEST_BYTES);
+}
+
+static gt_answer our_fresh(uint8_t sites, const uint8_t owners[GT_SLOTS])
+{
+    return gt_fresh(sites, owners, GT_SLOTS, our_table, sizeof our_table);
+}
+
+static bool our_in_form(void) { return gt_in_form(our_table, sizeof our_table); }
+
+static gt_answer our_admit(const uint8_t *block, size_t length, uint8_t verdict)
+{
+    return gt_admit(our_table, sizeof our_table, block, length, verdict);
+}
+
+static gt_answer our_interpret(size_t place)
+{
+    return gt_interpret(our_table, sizeof our_table, place, our_records, GT_RECORDS_NUMBERS);
+}
+
+/* ---- The one in C */
+
+static baseline_table c_table;
+static uint16_t c_records[RECORDS_NUMBERS];
+
+static gt_answer from_c(baseline_answer answer) { return (gt_answer){answer.refusal, answer.value}; }
+
+static gt_answer c_fresh(uint8_t sites, const uint8_t owners[GT_SLOTS])
+{
+    return from_c(baseline_fresh(&c_table, sites, owners));
+}
+
+static bool c_in_form(void) { return baseline_in_form(&c_table); }
+
+static gt_answer c_admit(const uint8_t *block, size_t length, uint8_t verdict)
+{
+    return from_c(baseline_admit(&c_table, block, length, verdict));
+}
+
+static gt_answer c_interpret(size_t place)
+{
+    return from_c(baseline_interpret(&c_table, place, c_records, RECORDS_NUMBERS));
+}
+
+/* ---- The one in Rust */
+
+static rust_table *the_rust_table;
+static uint16_t rust_records[RECORDS_NUMBERS];
+
+static gt_answer from_rust(rust_answer answer) { return (gt_answer){answer.refusal, answer.value}; }
+
+/* Its size is not known here, so its memory is its own. */
+static gt_answer fresh_in_rust(uint8_t sites, const uint8_t owners[GT_SLOTS])
+{
+    if (the_rust_table == NULL)
+        the_rust_table = rust_table_new();
+    return from_rust(rust_fresh(the_rust_table, sites, owners));
+}
+
+static bool in_form_in_rust(void) { return rust_in_form(the_rust_table); }
+
+static gt_answer admit_in_rust(const uint8_t *block, size_t length, uint8_t verdict)
+{
+    return from_rust(rust_admit(the_rust_table, block, length, verdict));
+}
+
+static gt_answer interpret_in_rust(size_t place)
+{
+    return from_rust(rust_interpret(the_rust_table, place, rust_records, RECORDS_NUMBERS));
+}
+
+const implementation implementations[IMPLEMENTATIONS] = {
+    [OURS] = {"ours", our_digest, our_fresh, our_in_form, our_admit, our_interpret, our_records},
+    [IN_C] = {"C", baseline_sha256, c_fresh, c_in_form, c_admit, c_interpret, c_records},
+    [IN_RUST] = {"Rust", rust_digest, fresh_in_rust, in_form_in_rust, admit_in_rust, interpret_in_rust, rust_records},
+};

@@ -1,0 +1,21 @@
+/* The proved core and the two baselines behind one face. Each keeps a table and a record buffer of its own. */
+#ifndef IMPLEMENTATIONS_H
+#define IMPLEMENTATIONS_H
+
+#include "giangotum_core.h"
+
+typedef struct {
+    const char *name;
+    void (*digest)(const uint8_t *message, size_t length, uint8_t digest[GT_DIGEST_BYTES]);
+    gt_answer (*fresh)(uint8_t sites, const uint8_t owners[GT_SLOTS]);
+    bool (*in_form)(void);
+    gt_answer (*admit)(const uint8_t *block, size_t length, uint8_t verdict);
+    gt_answer (*interpret)(size_t place);
+    const uint16_t *records;
+} implementation;
+
+enum { OURS, IN_C, IN_RUST, IMPLEMENTATIONS };
+
+extern const implementation implementations[IMPLEMENTATIONS];
+
+#endif

@@ -1,0 +1,90 @@
+/* The three implementations give the same answers to a campaign, and the same records. */
+#include "same.h"
+
+#include <string.h>
+
+#include "expect.h"
+#include "implementations.h"
+
+/* What is expected of one of the three. */
+static void expect_of(const implementation *of, bool holds, const char *message)
+{
+    if (!holds)
+        printf("%s: ", of->name);
+    expect(holds, message);
+}
+
+static void expect_answer(const implementation *of, gt_answer answer, uint8_t refusal, size_t value, const char *message)
+{
+    expect_of(of, answer.refusal == refusal && answer.value == value, message);
+}
+
+/* The block of a place, first in ways that are refused, then as it is, then once more. */
+static void expect_place(const implementation *of, const built_block *b, size_t place)
+{
+    expect_answer(of, of->interpret(place), 13, 0, "a place without a block was interpreted");
+    expect_answer(of, of->admit(b->bytes, b->length - 1, 1), 3, 0, "a block without its last byte was admitted");
+    expect_answer(of, of->admit(b->bytes, b->length, 0), 5, 0, "a block with verdict 0 was admitted");
+    expect_answer(of, of->admit(b->bytes, b->length, 1), 0, place, "a block of the campaign was not admitted at its place");
+    expect_answer(of, of->interpret(place), 0, 0, "a place of the campaign was not interpreted");
+    expect_answer(of, of->admit(b->bytes, b->length, 1), 8, place, "a held block was not refused by its place");
+    expect_answer(of, of->interpret(place), 14, 0, "a place was interpreted twice");
+}
+
+/* A block whose last reference no table holds. */
+static void expect_not_held(const implementation *of, const campaign *c)
+{
+    built_block other = c->blocks[LAST_PLACE];
+    size_t index = other.bytes[3] - 1u;
+
+    memset(other.bytes + 5 + GT_DIGEST_BYTES * index, 0, GT_DIGEST_BYTES);
+    expect_answer(of, of->admit(other.bytes, other.length, 1), 9, index, "a block with an unknown reference was not refused");
+}
+
+/* The last block with another sequence number, which has no parent, and a first block that is one too many. */
+static void expect_full(const implementation *of, const campaign *c)
+{
+    built_block other = c->blocks[LAST_PLACE];
+
+    other.bytes[1]++;
+    expect_answer(of, of->admit(other.bytes, other.length, 1), 10, 0, "a block without its parent was not refused");
+    memcpy(other.bytes + 1, (uint8_t[]){0, 0}, 2);
+    expect_answer(of, of->admit(other.bytes, other.length, 1), 11, 0, "a 65th block was not refused");
+}
+
+static void expect_campaign(const implementation *of, const campaign *c)
+{
+    expect_answer(of, of->fresh(c->sites, c->owners), 0, 0, "the setup was refused");
+    for (size_t place = 0; place < GT_MAX_PLACES; place++)
+        expect_place(of, &c->blocks[place], place);
+    expect_not_held(of, c);
+    expect_full(of, c);
+    expect_of(of, of->in_form(), "the full table is not in form");
+}
+
+void expect_same_records(void)
+{
+    const uint16_t *ours = implementations[OURS].records;
+
+    for (size_t i = IN_C; i < IMPLEMENTATIONS; i++)
+        expect_of(&implementations[i], memcmp(ours, implementations[i].records, GT_RECORDS_NUMBERS * sizeof *ours) == 0,
+                  "the records differ from ours");
+}
+
+/* A campaign that delivers nothing would compare little. */
+static void expect_deliveries(void)
+{
+    size_t deliveries = 0;
+
+    for (size_t at = GT_RECORD_NUMBERS - 1; at < GT_RECORDS_NUMBERS; at += GT_RECORD_NUMBERS)
+        deliveries += implementations[OURS].records[at] != 0;
+    expect(deliveries > 0, "the campaign delivers nothing");
+}
+
+void expect_same(const campaign *c)
+{
+    for (size_t i = 0; i < IMPLEMENTATIONS; i++)
+        expect_campaign(&implementations[i], c);
+    expect_same_records();
+    expect_deliveries();
+}

@@ -1,0 +1,166 @@
+"""Streams of arrivals for the listing program: seeded, so that every run has the same bytes."""
+
+import hashlib
+import random
+from typing import NamedTuple
+
+ARRIVALS = 10000
+PLACES = 64
+MAX_REFERENCES, MAX_REQUESTS, MAX_BLOCK = 16, 8, 541
+SITES = 7
+OWNERS = [slot % SITES for slot in range(8)]
+SETUP = bytes([SITES, *OWNERS])
+
+
+class Held(NamedTuple):
+    """A block that the table holds."""
+    data: bytes
+    digest: bytes
+    site: int
+    sequence: int
+
+
+# ---- Blocks
+
+def encode(site, sequence, references, requests):
+    data = bytes([site]) + sequence.to_bytes(2, "big") + bytes([len(references), len(requests)])
+    return data + b"".join(references) + b"".join(bytes([slot]) + number.to_bytes(2, "big") for slot, number in requests)
+
+
+def some_requests(rng, site):
+    """Mostly none or one of the site's own slot; now and then as many as fit."""
+    count = rng.choices([0, 1, 2, 3, MAX_REQUESTS], weights=[60, 25, 8, 5, 2])[0]
+    slots = [site if index == 0 else rng.randrange(8) for index in range(count)]
+    return [(slot, rng.randint(1, 65535)) for slot in slots]
+
+
+def some_references(rng, held, parent):
+    """The parent, and of others one or two new blocks, the newest of each site, or as many new ones as fit."""
+    newest = {block.site: block for block in held}.values()
+    pool, count = rng.choices([(newest, 2), (newest, SITES), (held[-2 * SITES:], MAX_REFERENCES)], weights=[25, 60, 15])[0]
+    others = [block.digest for block in pool if block is not parent]
+    own = [parent.digest] if parent else []
+    references = own + rng.sample(others, min(len(others), count - len(own)))
+    rng.shuffle(references)
+    return references
+
+
+def newest_of(held, site):
+    return next((block for block in reversed(held) if block.site == site), None)
+
+
+def next_block(rng, held, site):
+    """A block that a table with room takes: the site's next."""
+    parent = newest_of(held, site)
+    sequence = parent.sequence + 1 if parent else 0
+    return encode(site, sequence, some_references(rng, held, parent), some_requests(rng, site))
+
+
+def anyones_block(rng, held):
+    return next_block(rng, held, rng.randrange(SITES))
+
+
+def hold(held, data):
+    held.append(Held(data, hashlib.sha256(data).digest(), data[0], int.from_bytes(data[1:3], "big")))
+
+
+# ---- Arrivals
+
+def arrival(data, verdict=1):
+    return len(data).to_bytes(2, "big") + bytes([verdict]) + data
+
+
+def repeated(rng, held):
+    """8: a block that came before."""
+    return arrival(rng.choice(held).data)
+
+
+def unknown(rng, held):
+    """9: a block that refers to one which never came."""
+    data = bytearray(anyones_block(rng, held))
+    if data[3] > 0:
+        at = 5 + 32 * rng.randrange(data[3])
+        data[at:at + 32] = rng.randbytes(32)
+    return arrival(bytes(data))
+
+
+def unsigned(rng, held):
+    """5"""
+    return arrival(anyones_block(rng, held), verdict=0)
+
+
+def cut_off(rng, held):
+    """3: bytes that were lost."""
+    data = anyones_block(rng, held)
+    return arrival(data[:rng.randrange(len(data))])
+
+
+def over_long(rng, _held):
+    """3: longer than a block can be."""
+    return arrival(rng.randbytes(rng.randint(MAX_BLOCK + 1, 2 * MAX_BLOCK)))
+
+
+def foreign(rng, held):
+    """4: of no site of this campaign."""
+    return arrival(bytes([rng.randint(SITES, 255)]) + anyones_block(rng, held)[1:])
+
+
+def bad_request(rng, _held):
+    """6"""
+    return arrival(encode(rng.randrange(SITES), 0, [], [(0, 7), (rng.randint(8, 255), 1)]))
+
+
+def bad_reference(rng, held):
+    """7: the same one twice."""
+    return arrival(encode(rng.randrange(SITES), 1, 2 * [rng.choice(held).digest], []))
+
+
+def orphan(rng, held):
+    """10: without its parent."""
+    return arrival(encode(rng.randrange(SITES), 60000, [rng.choice(held).digest], []))
+
+
+# Damage of every kind, none of it frequent.
+DAMAGED = [unsigned, cut_off, over_long, foreign, bad_request, bad_reference, orphan]
+
+
+def damaged(rng, held):
+    return rng.choice(DAMAGED)(rng, held)
+
+
+def one_too_many(rng, held):
+    """11: a block that a table with room would take. One without references may come before anything is held."""
+    return arrival(anyones_block(rng, held))
+
+
+# ---- Streams
+
+def stream(seed, is_new, others):
+    """Arrivals of which those where `is_new` says so are taken, of one site after the other, until 64 are; the rest are
+    drawn from `others` by weight."""
+    rng = random.Random(seed)
+    held, parts = [], [SETUP]
+    for number in range(ARRIVALS):
+        if len(held) < PLACES and (not held or is_new(number)):
+            data = next_block(rng, held, len(held) % SITES)
+            hold(held, data)
+            parts.append(arrival(data))
+        else:
+            make = rng.choices(list(others), weights=others.values())[0]
+            parts.append(make(rng, held))
+    return b"".join(parts)
+
+
+def soon_full():
+    """A table that is full after 64 arrivals, and sites that go on."""
+    return stream(1, lambda number: True, {one_too_many: 65, repeated: 15, unknown: 12, damaged: 8})
+
+
+def slowly_filled():
+    """A table that fills evenly over the whole stream, with repetitions and damage between."""
+    return stream(2, lambda number: number % (ARRIVALS // PLACES) == 0, {repeated: 70, unknown: 15, damaged: 15})
+
+
+def no_arrivals():
+    """A setup and nothing else: what starting and ending a program takes."""
+    return SETUP
