@@ -4,7 +4,7 @@
 # make memory      adds up what the core's calls take of the device's memory, and fails where it is too much
 # make fuzz        compares the library and the listing with the harness's model for long: FUZZ_SEED, FUZZ_CASES and FUZZ_LISTINGS
 #                  say where and how far
-# make host        builds the listing, the two libraries for C and the control program
+# make host        builds the listing, the library for C and the control program
 # make install     puts them, the headers and the man pages below PREFIX, or below DESTDIR and PREFIX
 # make uninstall   removes what was installed there
 # make clean       removes all that was built
@@ -13,10 +13,9 @@ CC = gcc
 CFLAGS = -std=c11 -O2 -Wall -Wextra -Wpedantic -Werror
 BENCH_CFLAGS = -std=c11 -O3 -Wall -Wextra -Wpedantic -Werror
 
-# Digest and block reading, and the core: both can be linked into one program.
-C_LIBRARY = target/staticlib/libc_interface.a
-CORE_LIBRARY = target/staticlib/libcore_interface.a
-LIBRARIES = $(CORE_LIBRARY) $(C_LIBRARY)
+# All that C can call. Each function has a section of its own, so a program needs to link only what it reaches.
+LIBRARY = target/staticlib/libc_interface.a
+ONLY_REACHED = -Wl,--gc-sections
 LISTING = target/bin/listing
 HEADERS = host/giangotum.h host/giangotum_core.h
 HOST = target/host
@@ -40,7 +39,7 @@ FUZZ_LISTINGS ?= 20000
 PREFIX ?= /usr/local
 DESTDIR ?=
 
-# All that the libraries and the listing are proved and built from. Folders are among it, so that a removed file counts as a change.
+# All that the library and the listing are proved and built from. Folders are among it, so that a removed file counts as a change.
 LIBRARY_SOURCES := $(shell find crates.txt crates \( -name must-fail -prune \) -o -print)
 
 .PHONY: demo test bench memory fuzz host install uninstall test-programs harness prerequisites clean
@@ -79,8 +78,8 @@ fuzz: harness $(LISTING)
 	$(HARNESS) --seed $(FUZZ_SEED) --cases $(FUZZ_CASES)
 	$(HARNESS) --listing $(LISTING) --seed $(FUZZ_SEED) --cases $(FUZZ_LISTINGS)
 
-# The proved libraries for C, the proved listing, and the control program.
-host: prerequisites $(LIBRARIES) $(LISTING) $(HOST)/dome
+# The proved library for C, the proved listing, and the control program.
+host: prerequisites $(LIBRARY) $(LISTING) $(HOST)/dome
 
 # A package is made with DESTDIR: the files are put below it, and know only of PREFIX.
 install: host
@@ -92,8 +91,8 @@ uninstall:
 # What the host tests run.
 test-programs: host $(HOST)/digests $(HOST)/calls $(HOST)/core_calls $(HOST)/record_calls $(HOST)/watch_calls harness
 
-# Cargo itself sees whether the harness's sources or the libraries changed.
-harness: prerequisites $(LIBRARIES)
+# Cargo itself sees whether the harness's sources or the library changed.
+harness: prerequisites $(LIBRARY)
 	@cargo build --quiet --release --offline --manifest-path host/harness/Cargo.toml --target-dir target/harness
 
 # Removes all that was built; the next proof starts from nothing.
@@ -105,8 +104,8 @@ prerequisites:
 	@tools/prerequisites.sh
 	@tools/toolchain.sh
 
-$(LIBRARIES): target/staticlib/lib%.a: $(LIBRARY_SOURCES) rattle.version | prerequisites
-	rt staticlib $*
+$(LIBRARY): $(LIBRARY_SOURCES) rattle.version | prerequisites
+	rt staticlib c_interface
 
 # rt leaves a program as it is where nothing that it is made from has changed, so its time is set here; and it does not see
 # that a program was removed.
@@ -116,17 +115,16 @@ $(LISTING): $(LIBRARY_SOURCES) rattle.version | prerequisites
 	@touch -c $@
 
 # One after the other, also under make -j: they write what they prove into the same folder.
-$(CORE_LIBRARY): | $(C_LIBRARY)
-$(LISTING): | $(LIBRARIES)
+$(LISTING): | $(LIBRARY)
 
-$(HOST)/dome: host/dome.c host/giangotum.h $(C_LIBRARY) | $(HOST)
-	$(CC) $(CFLAGS) -Ihost -o $@ $< $(C_LIBRARY)
+$(HOST)/dome: host/dome.c host/giangotum.h $(LIBRARY) | $(HOST)
+	$(CC) $(CFLAGS) $(ONLY_REACHED) -Ihost -o $@ $< $(LIBRARY)
 
-$(HOST)/digests $(HOST)/calls: $(HOST)/%: host/tests/%.c host/tests/checks.h host/giangotum.h $(C_LIBRARY) | $(HOST)
-	$(CC) $(CFLAGS) -Ihost -o $@ $< $(C_LIBRARY)
+$(HOST)/digests $(HOST)/calls: $(HOST)/%: host/tests/%.c host/tests/checks.h host/giangotum.h $(LIBRARY) | $(HOST)
+	$(CC) $(CFLAGS) -Ihost -o $@ $< $(LIBRARY)
 
-$(HOST)/core_calls $(HOST)/record_calls $(HOST)/watch_calls: $(HOST)/%: host/tests/%.c host/tests/campaigns.h host/tests/checks.h $(HEADERS) $(LIBRARIES) | $(HOST)
-	$(CC) $(CFLAGS) -Ihost -o $@ $< $(LIBRARIES)
+$(HOST)/core_calls $(HOST)/record_calls $(HOST)/watch_calls: $(HOST)/%: host/tests/%.c host/tests/campaigns.h host/tests/checks.h $(HEADERS) $(LIBRARY) | $(HOST)
+	$(CC) $(CFLAGS) -Ihost -o $@ $< $(LIBRARY)
 
 # Cargo leaves a file that needn't change, and its time would then be taken for old.
 $(RUST_BASELINE) $(RUST_LISTING) &: $(RUST_SOURCES) | prerequisites
@@ -136,19 +134,19 @@ $(RUST_BASELINE) $(RUST_LISTING) &: $(RUST_SOURCES) | prerequisites
 $(HOST)/listing_c: bench/baseline/listing.c $(C_BASELINE) $(C_BASELINE_HEADERS) | $(HOST)
 	$(CC) $(BENCH_CFLAGS) -o $@ $< $(C_BASELINE)
 
-$(HOST)/bench_sha256 $(HOST)/bench_campaign: $(HOST)/bench_%: bench/%.c $(VERSUS) $(BENCH_HEADERS) $(LIBRARIES) $(RUST_BASELINE) | $(HOST)
-	$(CC) $(BENCH_CFLAGS) -Ihost -o $@ $< $(VERSUS) $(LIBRARIES) $(RUST_BASELINE)
+$(HOST)/bench_sha256 $(HOST)/bench_campaign: $(HOST)/bench_%: bench/%.c $(VERSUS) $(BENCH_HEADERS) $(LIBRARY) $(RUST_BASELINE) | $(HOST)
+	$(CC) $(BENCH_CFLAGS) -Ihost -o $@ $< $(VERSUS) $(LIBRARY) $(RUST_BASELINE)
 
-$(HOST)/bench_table: bench/table.c bench/timing.c bench/campaigns.c $(BENCH_HEADERS) $(LIBRARIES) | $(HOST)
-	$(CC) $(BENCH_CFLAGS) -Ihost -o $@ $< bench/timing.c bench/campaigns.c $(LIBRARIES)
+$(HOST)/bench_table: bench/table.c bench/timing.c bench/campaigns.c $(BENCH_HEADERS) $(LIBRARY) | $(HOST)
+	$(CC) $(BENCH_CFLAGS) -Ihost -o $@ $< bench/timing.c bench/campaigns.c $(LIBRARY)
 
 # Bound before the program starts, so that no call has the loader's work on its stack.
-$(HOST)/stack: bench/stack.c bench/painted.c bench/campaigns.c $(BENCH_HEADERS) $(LIBRARIES) | $(HOST)
-	$(CC) $(BENCH_CFLAGS) -Ihost -o $@ $< bench/painted.c bench/campaigns.c $(LIBRARIES) -lpthread -Wl,-z,now
+$(HOST)/stack: bench/stack.c bench/painted.c bench/campaigns.c $(BENCH_HEADERS) $(LIBRARY) | $(HOST)
+	$(CC) $(BENCH_CFLAGS) -Ihost -o $@ $< bench/painted.c bench/campaigns.c $(LIBRARY) -lpthread -Wl,-z,now
 
 # The calls by themselves: no C library, and nothing that they don't reach.
-$(HOST)/device: $(HOST)/device.o $(LIBRARIES)
-	$(CC) -nostdlib -static -Wl,--gc-sections,--build-id=none,-e,$(firstword $(DEVICE_CALLS)) $(DEVICE_CALLS:%=-Wl,-u,%) -o $@ $(LIBRARIES) $<
+$(HOST)/device: $(HOST)/device.o $(LIBRARY)
+	$(CC) -nostdlib -static $(ONLY_REACHED) -Wl,--build-id=none,-e,$(firstword $(DEVICE_CALLS)) $(DEVICE_CALLS:%=-Wl,-u,%) -o $@ $(LIBRARY) $<
 
 # The loops stay loops: gcc would make calls of the very functions out of them.
 $(HOST)/device.o: bench/device.c | $(HOST)

@@ -1,11 +1,10 @@
 /* The table and the records of a campaign, for C and C++ programs that keep them: an empty table, its form, admission,
  * interpretation, the watch for forks, a site's next block, and a whole list of calls at once.
  *
- * Link with libcore_interface.a, beside libc_interface.a where the calls of giangotum.h are used too (`make host` builds
- * both), or with -lgiangotum_core -lgiangotum where they are installed. Every function here is proved to meet its contract
- * for all bytes, all lengths and all numbers: none crashes, none reads or writes outside the bytes that it is lent, and a
- * refusal changes nothing. Any buffer of any content may be lent as a table: one that isn't a table in form is refused, not
- * trusted.
+ * Link with libc_interface.a (`make host` builds it), or with -lgiangotum where it is installed. Every function here is
+ * proved to meet its contract for all bytes, all lengths and all numbers: none crashes, none reads or writes outside the
+ * bytes that it is lent, and a refusal changes nothing. Any buffer of any content may be lent as a table: one that isn't a
+ * table in form is refused, not trusted.
  *
  * What the caller answers for: a pointer points to as many bytes as the length beside it says (at length 0 it may be any
  * pointer), the buffers of a call don't overlap, and nobody else writes them while the call runs.

@@ -10,7 +10,6 @@ files='
 644 host/giangotum.h include/giangotum.h
 644 host/giangotum_core.h include/giangotum_core.h
 644 target/staticlib/libc_interface.a lib/libgiangotum.a
-644 target/staticlib/libcore_interface.a lib/libgiangotum_core.a
 755 target/bin/listing bin/giangotum-listing
 755 target/host/dome bin/giangotum-dome
 644 host/man/giangotum-listing.1 share/man/man1/giangotum-listing.1

@@ -1,9 +1,9 @@
-//! Links the library's two archives: from the folder that GT_LIBRARIES names, else from the repository's own.
+//! Links the library's archive: from the folder that GT_LIBRARIES names, else from the repository's own.
 
 use std::env;
 use std::path::{Path, PathBuf};
 
-const ARCHIVES: [&str; 2] = ["core_interface", "c_interface"];
+const ARCHIVE: &str = "c_interface";
 
 fn main() {
     let manifest = env::var("CARGO_MANIFEST_DIR").expect("cargo sets CARGO_MANIFEST_DIR");
@@ -14,9 +14,7 @@ fn main() {
     println!("cargo:rerun-if-env-changed=GT_LIBRARIES");
     println!("cargo:rerun-if-changed=build.rs");
     println!("cargo:rustc-link-search=native={}", folder.display());
-    for archive in ARCHIVES {
-        println!("cargo:rustc-link-lib=static={archive}");
-        let file = folder.join(format!("lib{archive}.a"));
-        println!("cargo:rerun-if-changed={}", file.display());
-    }
+    println!("cargo:rustc-link-lib=static={ARCHIVE}");
+    let file = folder.join(format!("lib{ARCHIVE}.a"));
+    println!("cargo:rerun-if-changed={}", file.display());
 }

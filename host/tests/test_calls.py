@@ -1,4 +1,4 @@
-"""The libraries' calls at the edges of what they take: calls.c, core_calls.c, record_calls.c and watch_calls.c here."""
+"""The library's calls at the edges of what they take: calls.c, core_calls.c, record_calls.c and watch_calls.c here."""
 
 from programs import CALLS, CORE_CALLS, RECORD_CALLS, WATCH_CALLS, expect_all_ok
 

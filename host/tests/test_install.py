@@ -13,11 +13,11 @@ from test_examples import ARRIVALS, CAMPAIGNS, EXPECTED, LISTINGS
 
 INSTALL = str(ROOT / "tools" / "install.sh")
 MODES = {"include/giangotum.h": 0o644, "include/giangotum_core.h": 0o644,
-         "lib/libgiangotum.a": 0o644, "lib/libgiangotum_core.a": 0o644, "lib/pkgconfig/giangotum.pc": 0o644,
+         "lib/libgiangotum.a": 0o644, "lib/pkgconfig/giangotum.pc": 0o644,
          "bin/giangotum-listing": 0o755, "bin/giangotum-dome": 0o755,
          "share/man/man1/giangotum-listing.1": 0o644, "share/man/man1/giangotum-dome.1": 0o644}
 
-# A block of five bytes is admitted, and refused when it comes again; 88 begins its digest. It needs both archives.
+# A block of five bytes is admitted, and refused when it comes again; 88 begins its digest. It uses both headers.
 PROGRAM = r"""
 #include <giangotum_core.h>
 #include <stdio.h>

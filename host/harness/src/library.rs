@@ -5,7 +5,7 @@ use crate::calls::Calls;
 use crate::ended::Ended;
 use crate::program::Program;
 
-// libcore_interface.a
+// As declared in giangotum_core.h.
 extern "C" {
     fn gt_fresh(sites: u8, owners: *const u8, owners_length: usize, table: *mut u8, table_length: usize) -> Answer;
     fn gt_in_form(table: *const u8, table_length: usize) -> bool;
@@ -40,7 +40,7 @@ extern "C" {
     ) -> usize;
 }
 
-// libc_interface.a
+// As declared in giangotum.h.
 extern "C" {
     fn gt_digest(message: *const u8, message_length: usize, output: *mut u8, output_length: usize) -> Answer;
     fn gt_read_block(block: *const u8, block_length: usize) -> Reading;

@@ -1,5 +1,4 @@
-// What C programs that drive the core call: the harness, the benchmarks, and a controller that keeps a campaign. Promises: each call is
-// the one that it names, for all bytes and numbers. Assumes: the C program lends what host/giangotum_core.h asks for.
+// The core, for C programs that keep a campaign: each call is the one that it names.
 use block::Answer;
 use watch::AncestorPlaces;
 use watch::ForkedSites;
