@@ -2,6 +2,7 @@
 
 import re
 
+import lines
 from programs import ROOT, expect
 from test_examples import EXPECTED, LISTINGS
 
@@ -21,3 +22,10 @@ def test_the_examples_are_shown_as_they_are_stored():
     for command, lines in [("target/bin/listing < examples/four_sites.campaign", LISTINGS["four_sites"]),
                            ("target/host/dome < examples/arrivals.bin", EXPECTED)]:
         expect(f"```\n$ {command}\n{lines}```\n" in page, command)
+
+
+def test_the_lines_to_believe_are_counted():
+    page = (ROOT / "docs" / "TRUST.md").read_text(encoding="utf-8")
+    _, (_, _, code, proofs, _) = lines.table()[-1]
+    wanted = f"{lines.believed():,} lines, comments and imports aside (`tools/lines.py` counts them), for {code:,} lines of code and {proofs:,} of"
+    expect(wanted in page, wanted)

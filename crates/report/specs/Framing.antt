@@ -1,7 +1,7 @@
 -- The listing one step at a time. A step gets the bytes that the state before it wants, or fewer where the input ends; it gives the next
 -- state and its lines, and a setup or a whole arrival changes what the site holds.
 use mathlib.Core.Bool.{cond}
-use mathlib.Core.List.{List, [], _∷_, _++_}
+use mathlib.Core.List.{[], _++_}
 use Prim.Native.Nat.{ℕ, zero, suc, _+_, _-_, _*_, _^_, _%_, min}
 use lib.Dec.{eqb, ltb, leb}
 use lib.ListN.{length, getD, take, drop, replicate}

@@ -1,5 +1,5 @@
 -- Document 01, "Listing program and C host": the lines of a listing, in ASCII.
-use mathlib.Core.Bool.{Bool, true, false, cond}
+use mathlib.Core.Bool.{true, false, cond}
 use mathlib.Core.List.{List, [], _∷_, _++_}
 use Prim.Native.Nat.{ℕ, zero, suc, _+_, _-_, _/_, _%_}
 use Prim.Native.Char.{code}
@@ -55,17 +55,21 @@ line fields = joined (listBelow (λ i. fieldText (getD fields i (Number 0)) ++ (
 unfoldable pub names : Bytes
 names = ascii "arrival place site seq slot number refusal\n"
 
+-- the line of a refusal: what was refused, and the refusal's number
+unfoldable pub refusalLine : Field → ℕ → Bytes
+refusalLine what refusal = line (what ∷ Empty ∷ Empty ∷ Empty ∷ Empty ∷ Empty ∷ Number refusal ∷ [])
+
 -- "A refused arrival's line fills only arrival and refusal"
-unfoldable pub refusedLine : ℕ → ℕ → Bytes
-refusedLine arrival refusal = line (Number arrival ∷ Empty ∷ Empty ∷ Empty ∷ Empty ∷ Empty ∷ Number refusal ∷ [])
+abbrev pub refusedLine : ℕ → ℕ → Bytes
+refusedLine arrival refusal = refusalLine (Number arrival) refusal
 
 -- an arrival without a block: "refused with 3", "gets 3"
 abbrev pub unreadLine : ℕ → Bytes
 unreadLine arrival = refusedLine arrival 3
 
 -- "A setup that is short or unlawful gives .. `- - - - - - 1`"
-unfoldable pub setupLine : ℕ → Bytes
-setupLine refusal = line (Empty ∷ Empty ∷ Empty ∷ Empty ∷ Empty ∷ Empty ∷ Number refusal ∷ [])
+abbrev pub setupLine : ℕ → Bytes
+setupLine refusal = refusalLine Empty refusal
 
 -- a delivery's line has all values: "refusal 0 is none"
 unfoldable pub deliveryLine : Delivery → Bytes

@@ -9,7 +9,7 @@ ghost use mathlib.Core.List.{[], _∷_, _++_};
 ghost use Prim.Native.Nat.{_+_, _≤_};
 ghost use lib.ListN.{length, drop};
 ghost use Rattle.base.specs.Bytes.{splice};
-ghost use Rattle.report.specs.Text.{decimal, fieldText, ending as Text·ending, line, names as Text·names, refusedLine, setupLine};
+ghost use Rattle.report.specs.Text.{decimal, fieldText, ending as Text·ending, line, refusalLine, refusedLine, setupLine, names as Text·names};
 ghost use Rattle.report.specs.Framing.{maxDigits, fieldSize, lineSize, linesOf};
 
 // The last bytes of an array, from an index on.
@@ -100,6 +100,24 @@ pub fn put_line(out: &mut [u8], at: usize, fields: [Field; FIELDS]) -> usize
     end
 }
 
+// The line of a refusal.
+fn put_refusal(out: &mut [u8], at: usize, what: Field, refusal: u8) -> usize
+    requires { ⌜ at + lineSize ≤ length (now out) ⌝ }
+    ensures { λ r. ⌜ (r ≡ at + length (refusalLine what refusal)) × (r ≤ at + lineSize) ⌝ }
+    ensures { λ _. ⌜ now (out .exit) ≡ splice (now (out .entry)) at (refusalLine what refusal) ⌝ }
+{
+    let fields = [
+        what,
+        Field::Empty,
+        Field::Empty,
+        Field::Empty,
+        Field::Empty,
+        Field::Empty,
+        Field::Number(refusal as u64),
+    ];
+    put_line(out, at, fields)
+}
+
 // The names, at the front.
 fn put_names(out: &mut [u8]) -> usize
     requires { ⌜ lineSize ≤ length (now out) ⌝ }
@@ -121,28 +139,13 @@ pub fn none() -> Lines
     }
 }
 
-// One line.
-fn one(fields: [Field; FIELDS]) -> Lines
-    ensures { λ r. ⌜ r ≡ linesOf (line fields) ⌝ }
-{
-    let mut bytes = [0u8; LINES_SIZE];
-    let length = put_line(&mut bytes, 0, fields);
-    Lines { bytes, length }
-}
-
 // A refused arrival.
 pub fn refused(arrival: u64, refusal: u8) -> Lines
     ensures { λ r. ⌜ r ≡ linesOf (refusedLine arrival refusal) ⌝ }
 {
-    one([
-        Field::Number(arrival),
-        Field::Empty,
-        Field::Empty,
-        Field::Empty,
-        Field::Empty,
-        Field::Empty,
-        Field::Number(refusal as u64),
-    ])
+    let mut bytes = [0u8; LINES_SIZE];
+    let length = put_refusal(&mut bytes, 0, Field::Number(arrival), refusal);
+    Lines { bytes, length }
 }
 
 // The line of names.
@@ -160,18 +163,6 @@ pub fn names_and_refusal(refusal: u8) -> Lines
 {
     let mut bytes = [0u8; LINES_SIZE];
     let end = put_names(&mut bytes);
-    let length = put_line(
-        &mut bytes,
-        end,
-        [
-            Field::Empty,
-            Field::Empty,
-            Field::Empty,
-            Field::Empty,
-            Field::Empty,
-            Field::Empty,
-            Field::Number(refusal as u64),
-        ],
-    );
+    let length = put_refusal(&mut bytes, end, Field::Empty, refusal);
     Lines { bytes, length }
 }

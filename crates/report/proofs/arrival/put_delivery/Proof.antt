@@ -1,5 +1,4 @@
 -- `put_delivery` meets its contract: a line, or nothing where the number is 0. Assumes nothing.
-use mathlib.Core.Path.{_≡_, sym}
 use native.Mathlib.Omega.{arith}
 use borrow.Author.Needs.{needs}
 use borrow.Author.Tests.{eq-eqb, ne-eqb}

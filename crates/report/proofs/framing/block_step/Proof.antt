@@ -1,5 +1,5 @@
 -- `block_step` meets its contract: an arrival that is cut, or one that is whole. Assumes nothing.
-use mathlib.Core.Path.{_≡_, sym, ap, _∙_}
+use mathlib.Core.Path.{sym, ap, _∙_}
 use native.Mathlib.Omega.{arith}
 use borrow.Author.Needs.{needs}
 use Rattle.base.proofs.Parts.{part-size}

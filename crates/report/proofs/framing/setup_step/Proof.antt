@@ -1,6 +1,5 @@
 -- `setup_step` meets its contract, one way out after the other. Assumes nothing.
 use mathlib.Core.Path.{_≡_, sym, ap, _∙_}
-use mathlib.Core.Bool.{false}
 use mathlib.Core.Logic.{_≢_}
 use mathlib.Core.List.{_++_}
 use Prim.Native.Nat.{ℕ, _<_}
@@ -9,7 +8,7 @@ use borrow.Author.Needs.{needs}
 use lib.ListN.{length}
 use Rattle.base.specs.Bytes.{Bytes}
 use Rattle.block.specs.declared.Answer.{Answer}
-use Rattle.table.specs.Fresh.{freshAnswer, freshIn}
+use Rattle.table.specs.Fresh.{freshAnswer}
 use Rattle.report.specs.Text.{names, setupLine}
 use Rattle.report.specs.Arrivals.{setupSize, setupIn}
 use Rattle.report.specs.Framing.{outcome, setupStep, handed}

@@ -1,7 +1,7 @@
 -- `ending` meets its contract. Assumes nothing.
 use borrow.Author.Tests.{eq-eqb, ne-eqb}
 use native.Mathlib.Omega.{arith}
-use Rattle.report.specs.Text.{fieldCount, ending}
+use Rattle.report.specs.Text.{ending}
 use Rattle.report.proofs.text.ending.Statement.{statement}
 use Rattle.report.proofs.text.ending.Tie as tie
 

@@ -2,7 +2,7 @@
 use mathlib.Core.List.{_++_}
 use native.Mathlib.Omega.{arith}
 use borrow.Author.Needs.{needs}
-use lib.ListN.{length, replicate}
+use lib.ListN.{replicate}
 use Rattle.report.specs.Text.{names, setupLine}
 use Rattle.report.specs.Framing.{linesSize}
 use Rattle.report.proofs.Behind.{put-behind, put-keeps}
@@ -10,19 +10,18 @@ use Rattle.report.proofs.Handed.{at-front, handed-lines}
 use Rattle.report.proofs.text.names_and_refusal.Statement.{statement}
 use Rattle.report.proofs.text.names_and_refusal.Tie as tie
 
-put-line-requires : tie.Need-put-line-requires
-put-line-requires c κs =
+put-refusal-requires : tie.Need-put-refusal-requires
+put-refusal-requires c κs =
     let n = c .before .before .put-names in
     omega (arith, put-keeps (replicate linesSize 0) 0 names (n .last .0) (n .result) (at-front names _ _ (n .ensures .0 .0) (n .ensures .1)) (omega arith))
 
 returns : tie.Need-returns
-unfolding setupLine
 returns c =
     let n = c .before .before .before .before .put-names in
-    let l = c .before .put-line in
+    let l = c .before .put-refusal in
     handed-lines (names ++ setupLine (c .before .before .before .before .before .before .args .refusal)) _ _
     (put-behind (replicate linesSize 0) 0 names _ (n .last .0) (l .last .0) (n .result) (l .result) (omega arith)
     (at-front names _ _ (n .ensures .0 .0) (n .ensures .1)) (record { ends = l .ensures .0 .0; holds = l .ensures .1 }))
 
 pub names-and-refusal-spec : {M : Type 1} → statement M
-names-and-refusal-spec = tie.close (tie.spec (λ c. search needs) (λ c κs. search needs) (λ c. search needs) put-line-requires returns)
+names-and-refusal-spec = tie.close (tie.spec (λ c. search needs) (λ c κs. search needs) (λ c. search needs) put-refusal-requires returns)
