@@ -35,7 +35,7 @@ use Rattle.agreement.proofs.Runs.{Together, run-together, answers-toget
 use Rattle.agreement.proofs.Worlds.{history-in, history-agree, across, Either, one-delivery}
 
 -- entry 3 of a slot in a block's meaning
-delivered-is : (s : Setup) (h : History) (slot : ℕ) → slot < slotCount
+pub delivered-is : (s : Setup) (h : History) (slot : ℕ) → slot < slotCount
     → getD (meaning s h) (recordSize * slot + deliveredEntry) 0 ≡ slotRecord s slot h .sent .delivered
 unfolding meaning flatten
 delivered-is s h slot l = entry-in (λ slot. slotRecord s slot h) (λ slot _. record-sized s slot h) slot deliveredEntry l (omega arith)

@@ -4,6 +4,7 @@ pub mod Search
 pub mod Count
 pub mod Mask
 pub mod Sets
+pub mod TopPlace
 pub mod List
 pub mod Members
 pub mod Passing

@@ -1,5 +1,5 @@
--- Laws of a mask read as a set of places: what is in it, how many, and that none stands from a place on; the full mask, and
--- what is in one of two masks. They hold at every width. Assumes nothing.
+-- Laws of a mask read as a set of places: what is in it, how many, and that none stands from a place on; the full mask,
+-- what is in one of two masks, and whether one has all of the other. They hold at every width. Assumes nothing.
 use mathlib.Core.Path.{_≡_, refl, sym, ap, _∙_}
 use mathlib.Core.Bool.{Bool, true, false, not, cond, _&&_, _||_}
 use Prim.Native.Nat.{ℕ, zero, suc, _+_, _-_, _*_, _/_, _%_, _^_, _≤_, _<_, max}
@@ -10,11 +10,11 @@ use lib.Dec.{eqb, leb, ltb}
 use lib.Pow.{pow-pos, pow-mono, split}
 use lib.Bits.{bitOr, or-lt}
 use lib.Count.{ones}
-use borrow.Author.Tests.{eq-eqb, eqb-true, le-leb, leb-true, ltb-true, ltb-false}
+use borrow.Author.Tests.{eq-eqb, eqb-true, le-leb, leb-true, ltb-true, ltb-false, not-true}
 use Rattle.base.specs.Search.{anyBelow}
 use Rattle.base.specs.Count.{countBelow}
 use Rattle.base.specs.Mask.{maskBelow, bitAt, inMask}
-use Rattle.base.proofs.Tests.{by-test, true-not-false, not-true-false, and-left, and-right}
+use Rattle.base.proofs.Tests.{by-test, true-not-false, not-true-false, and-left, and-right, same-tests}
 use Rattle.base.proofs.Search.{any-false, any-false-at}
 use Rattle.base.proofs.Mask.{mask-below, mask-bit, mask-bit-past, ones-mask, bit-lt, bit-or, bit-not, bits-ext}
 
@@ -57,7 +57,11 @@ mask-members w m h = lower-mask w m w h (omega arith) (λ p l q. absurd (omega a
 pub ones-members : (w m : ℕ) → m < 2 ^ w → ones m ≡ countBelow (inMask m) w
 ones-members w m h = ap ones (sym (mask-members w m h)) ∙ ones-mask (inMask m) w
 
--- the code's test `m >> i == 0`: no place from i on is in the mask
+-- the code's test `m >> i == 0`: the mask is that of places below i
+pub small-mask : (m i : ℕ) → m / 2 ^ i ≡ 0 → m < 2 ^ i
+small-mask m i e = let s : 0 * 2 ^ i + m % 2 ^ i ≡ m = rw e at (split m i) in omega (arith, mod-lt m (pow-pos i))
+
+-- and so no place from i on is in it
 pub none-from : (w m i : ℕ) → m < 2 ^ w → i ≤ w → eqb (m / 2 ^ i) 0 ≡ not (anyBelow (λ p. leb i p && inMask m p) w)
 none-from w m i h l = by-test (anyBelow (λ p. leb i p && inMask m p) w) some none
   where
@@ -66,13 +70,10 @@ none-from w m i h l = by-test (anyBelow (λ p. leb i p && inMask m p) w) some no
       where
         out : eqb (m / 2 ^ i) 0 ≡ true → (p : ℕ) → (leb i p && inMask m p) ≡ false
         out z p = not-true-false (leb i p && inMask m p) (λ y.
-            let low : m < 2 ^ i = small (eqb-true (m / 2 ^ i) 0 z) in
+            let low : m < 2 ^ i = small-mask m i (eqb-true (m / 2 ^ i) 0 z) in
             let high : i ≤ p = leb-true i p (and-left (leb i p) (inMask m p) y) in
             let none : bitAt m p ≡ 0 = ap (λ (x : ℕ). x % 2) (div-eq-of-lt (omega (arith, pow-mono high))) in
             true-not-false (and-right (leb i p) (inMask m p) y) (rw none))
-          where
-            small : m / 2 ^ i ≡ 0 → m < 2 ^ i
-            small e = let s : 0 * 2 ^ i + m % 2 ^ i ≡ m = rw e at (split m i) in omega (arith, mod-lt m (pow-pos i))
 
     none : anyBelow (λ p. leb i p && inMask m p) w ≡ false → eqb (m / 2 ^ i) 0 ≡ not (anyBelow (λ p. leb i p && inMask m p) w)
     none e = rw e (eq-eqb (m / 2 ^ i) 0 (div-eq-of-lt below))
@@ -119,3 +120,30 @@ mask-join w f m h =
     sym (mask-members w (bitOr (maskBelow f w) m) (or-lt w (maskBelow f w) m (mask-below f w) h))
     ∙ mask-same (inMask (bitOr (maskBelow f w) m)) (λ p. f p || inMask m p) w
     (λ p l. mask-or (maskBelow f w) m p ∙ ap (λ (t : Bool). t || inMask m p) (mask-has f w p l))
+
+-- the code's test `marked | m == marked`: no place of m fails the test that the mask was made by
+pub none-outside : (w : ℕ) (f : ℕ → Bool) (m : ℕ) → m < 2 ^ w → eqb (bitOr (maskBelow f w) m) (maskBelow f w) ≡ not (anyBelow (λ p. inMask m p && not (f p)) w)
+none-outside w f m h = ap (λ (x : ℕ). eqb x (maskBelow f w)) (mask-join w f m h) ∙ same-tests (eqb (maskBelow joined w) (maskBelow f w)) (not (anyBelow outside w)) none equal
+  where
+    joined : ℕ → Bool
+    joined p = f p || inMask m p
+
+    outside : ℕ → Bool
+    outside p = inMask m p && not (f p)
+
+    no-more : (a b : Bool) → (a || b) ≡ a → (b && not a) ≡ false
+    no-more true true e = refl
+    no-more true false e = refl
+    no-more false b e = ap (λ (x : Bool). x && true) e
+
+    no-other : (a b : Bool) → (b && not a) ≡ false → (a || b) ≡ a
+    no-other true b e = refl
+    no-other false true e = e
+    no-other false false e = refl
+
+    none : eqb (maskBelow joined w) (maskBelow f w) ≡ true → not (anyBelow outside w) ≡ true
+    none e = ap not (any-false outside w (λ p l. no-more (f p) (inMask m p)
+        (sym (mask-has joined w p l) ∙ ap (λ (x : ℕ). inMask x p) (eqb-true (maskBelow joined w) (maskBelow f w) e) ∙ mask-has f w p l)))
+
+    equal : not (anyBelow outside w) ≡ true → eqb (maskBelow joined w) (maskBelow f w) ≡ true
+    equal e = eq-eqb (maskBelow joined w) (maskBelow f w) (mask-same joined f w (λ p l. no-other (f p) (inMask m p) (any-false-at outside w (not-true _ e) p l)))

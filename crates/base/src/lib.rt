@@ -2,7 +2,7 @@
 // (proofs/), and the few functions on bytes that go with them. Promises: each function's contract. Assumes: the kit's `bytes`,
 // which is proved.
 ghost use mathlib.Core.Path.{_≡_};
-ghost use Prim.Native.Nat.{_+_, _≤_, _<_};
+ghost use Prim.Native.Nat.{suc, _+_, _^_, _≤_, _<_};
 ghost use lib.ListN.{length, replicate};
 ghost use Rattle.base.specs.Mask.{inMask};
 ghost use Rattle.base.specs.Bytes.{sameBytes, allZero, splice};
@@ -34,35 +34,52 @@ pub fn in_mask(mask: u64, p: usize) -> bool
     (mask >> p) % 2 == 1
 }
 
-// Whether the two hold the same bytes.
+// The highest place in a mask that has one.
+pub fn highest(mask: u64) -> usize
+    requires { ⌜ 0 < mask ⌝ }
+    ensures { λ r. ⌜ (r < 64) × (2 ^ r ≤ mask) × (mask < 2 ^ suc r) ⌝ }
+{
+    (63 - u64::leading_zeros(mask)) as usize
+}
+
+// Whether the two hold the same bytes. Most that differ do so in the first byte; all others are compared without an exit, so that the
+// compiler takes many a turn.
 pub fn same(a: &[u8], b: &[u8]) -> bool
     ensures { λ r. ⌜ r ≡ sameBytes (now (a .entry)) (now (b .entry)) ⌝ }
 {
     if a.len() != b.len() {
         return false;
     }
+    if a.len() == 0 {
+        return true;
+    }
+    if a[0] != b[0] {
+        return false;
+    }
+    let mut are_same = true;
     let mut i = 0;
     while i < a.len() {
         if a[i] != b[i] {
-            return false;
+            are_same = false;
         }
         i += 1;
     }
-    true
+    are_same
 }
 
-// Whether every byte is 0.
+// Whether every byte is 0. The loop has no exit but its end, so that the compiler takes many bytes a turn.
 pub fn all_zero(bytes: &[u8]) -> bool
     ensures { λ r. ⌜ r ≡ allZero (now (bytes .entry)) ⌝ }
 {
+    let mut are_zero = true;
     let mut i = 0;
     while i < bytes.len() {
         if bytes[i] != 0 {
-            return false;
+            are_zero = false;
         }
         i += 1;
     }
-    true
+    are_zero
 }
 
 // The number of at most eight bytes, the low byte first.

@@ -11,3 +11,9 @@ pub mod Taken
 pub mod Skipped
 pub mod Listed
 pub mod Promises
+pub mod Placed
+pub mod Calls
+pub mod Steady
+pub mod Stays
+pub mod Shown
+pub mod Agreed

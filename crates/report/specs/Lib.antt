@@ -1,6 +1,7 @@
--- The listing. Text, Arrivals, Listing, Framing and Promises are what a reader must believe.
+-- The listing. All that stands here is what a reader must believe.
 pub mod Text
 pub mod Arrivals
 pub mod Listing
 pub mod Framing
 pub mod Promises
+pub mod Agreed

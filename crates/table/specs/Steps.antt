@@ -2,15 +2,15 @@
 use mathlib.Core.Path.{_≡_}
 use mathlib.Core.Bool.{Bool, not, _&&_}
 use mathlib.Core.List.{[]}
-use Prim.Native.Nat.{ℕ, _≤_, _<_}
+use Prim.Native.Nat.{ℕ, _/_, _^_, _≤_, _<_}
 use lib.Dec.{eqb}
 use lib.ListN.{length}
 use Rattle.base.specs.Bytes.{Bytes}
 use Rattle.base.specs.Search.{anyBelow}
-use Rattle.base.specs.Mask.{inMask}
+use Rattle.base.specs.Mask.{maskBelow, inMask}
 use Rattle.table.specs.View.{maxPlaces, Row}
-use Rattle.table.specs.Layout.{tableSize, markAt, viewOf}
-use Rattle.table.specs.Rules.{refersUninterpreted}
+use Rattle.table.specs.Layout.{tableSize, siteAt, sequenceAt, markAt, viewOf}
+use Rattle.table.specs.Rules.{isParent, refersUninterpreted}
 
 -- a table of the right length, and a place of it
 pub record Place (t : Bytes) (i : ℕ) : Type 0 where
@@ -26,6 +26,19 @@ pub record Places (t : Bytes) (k : ℕ) : Type 0 where
 abbrev pub rowOf : ℕ → ℕ → ℕ → Row
 rowOf site sequence references =
     record { digest = []; site = site; sequence = sequence; refersTo = inMask references; request = λ slot. 0; mark = 0 }
+
+-- for a block of this site and sequence number, that at place j is a parent
+abbrev pub parentAt : Bytes → ℕ → ℕ → ℕ → Bool
+parentAt t site sequence j = isParent site sequence (siteAt t j) (sequenceAt t j)
+
+-- the mask of the interpreted places below k
+abbrev pub marksBelow : Bytes → ℕ → ℕ
+marksBelow t k = maskBelow (λ j. eqb (markAt t j) 1) k
+
+-- what the rule below asks of a caller: references to lower places only, and which of these are interpreted
+pub record Lower (t : Bytes) (i references marked : ℕ) : Type 0 where
+  pub lower : references / 2 ^ i ≡ 0
+  pub marks : marked ≡ marksBelow t i
 
 -- the rule on the references of an interpreted place
 abbrev pub marksClosed : Bytes → ℕ → ℕ → Bool

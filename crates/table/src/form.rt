@@ -6,22 +6,24 @@ ghost use lib.ListN.{length};
 ghost use Rattle.base.specs.Search.{allBelow};
 ghost use Rattle.table.specs.Layout.{tableSize, setupOf, viewOf};
 ghost use Rattle.table.specs.Rules.{rowInForm, heldInForm};
-ghost use Rattle.table.specs.Steps.{Place, Places, marksClosed};
+ghost use Rattle.table.specs.Steps.{Place, Places, Lower, marksBelow, marksClosed};
 
-// Whether all references of an interpreted place are interpreted.
-fn marks_closed(table: &[u8], i: usize, references: u64) -> bool
+// Whether all references of an interpreted place are interpreted, where `marked` is the mask of the lower places that are.
+fn marks_closed(table: &[u8], i: usize, references: u64, marked: u64) -> bool
     requires { ⌜ Place (now table) i ⌝ }
+    requires { ⌜ Lower (now table) i references marked ⌝ }
     ensures { λ r. ⌜ r ≡ marksClosed (now (table .entry)) i references ⌝ }
 {
     if rows::mark_at(table, i) != 1 {
         return true;
     }
-    i <= rules::first_uninterpreted(table, i, references)
+    (marked | references) == marked
 }
 
 // Whether the row of place i is in form.
-fn row_in_form(table: &[u8], i: usize) -> bool
+fn row_in_form(table: &[u8], i: usize, marked: u64) -> bool
     requires { ⌜ Place (now table) i ⌝ }
+    requires { ⌜ marked ≡ marksBelow (now table) i ⌝ }
     ensures { λ r. ⌜ r ≡ rowInForm (setupOf (now (table .entry))) (viewOf (now (table .entry))) i ⌝ }
 {
     let site = rows::site_at(table, i);
@@ -41,21 +43,25 @@ fn row_in_form(table: &[u8], i: usize) -> bool
     if rules::place_of(table, i, rows::digest_at(table, i)) < i {
         return false;
     }
-    if !marks_closed(table, i, references) {
+    if !marks_closed(table, i, references, marked) {
         return false;
     }
     rules::parent_rule(table, i, references, site, rows::sequence_at(table, i))
 }
 
-// Whether every row below k is.
+// Whether every row below k is. The marks met so far are kept as a mask, so that no row looks through those below it.
 fn rows_in_form(table: &[u8], k: usize) -> bool
     requires { ⌜ Places (now table) k ⌝ }
     ensures { λ r. ⌜ r ≡ allBelow (rowInForm (setupOf (now (table .entry))) (viewOf (now (table .entry)))) k ⌝ }
 {
+    let mut marked: u64 = 0;
     let mut i = 0;
     while i < k {
-        if !row_in_form(table, i) {
+        if !row_in_form(table, i, marked) {
             return false;
+        }
+        if rows::mark_at(table, i) == 1 {
+            marked = marked | (1u64 << i);
         }
         i += 1;
     }

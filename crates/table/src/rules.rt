@@ -2,11 +2,12 @@
 use crate::rows;
 ghost use mathlib.Core.Path.{_≡_};
 ghost use mathlib.Core.Bool.{_&&_};
+ghost use lib.Dec.{ltb};
 ghost use Rattle.base.specs.Search.{firstBelow};
 ghost use Rattle.base.specs.Mask.{inMask};
 ghost use Rattle.table.specs.Layout.{viewOf, rowAt};
 ghost use Rattle.table.specs.Rules.{placeOf, parentRow, parents, parentRule, refersUninterpreted};
-ghost use Rattle.table.specs.Steps.{Place, Places, rowOf};
+ghost use Rattle.table.specs.Steps.{Place, Places, rowOf, parentAt};
 
 // The place below k that holds the block of this digest, or k.
 pub fn place_of(table: &[u8], k: usize, digest: &[u8]) -> usize
@@ -23,6 +24,17 @@ pub fn place_of(table: &[u8], k: usize, digest: &[u8]) -> usize
     k
 }
 
+// Whether the block at place j is a parent for one of this site and sequence number.
+fn parent_at(table: &[u8], j: usize, site: u8, sequence: u16) -> bool
+    requires { ⌜ Place (now table) j ⌝ }
+    ensures { λ r. ⌜ r ≡ parentAt (now (table .entry)) site sequence j ⌝ }
+{
+    if rows::site_at(table, j) != site {
+        return false;
+    }
+    (rows::sequence_at(table, j) as u32) + 1 == (sequence as u32)
+}
+
 // Whether the block at place j is among the references of a block and a parent for it.
 pub fn is_parent(table: &[u8], j: usize, references: u64, site: u8, sequence: u16) -> bool
     requires { ⌜ Place (now table) j ⌝ }
@@ -31,24 +43,33 @@ pub fn is_parent(table: &[u8], j: usize, references: u64, site: u8, sequence: u1
     if !base::in_mask(references, j) {
         return false;
     }
-    if rows::site_at(table, j) != site {
-        return false;
-    }
-    (rows::sequence_at(table, j) as u32) + 1 == (sequence as u32)
+    parent_at(table, j, site, sequence)
 }
 
-// How many of the places below k are.
+// Whether place j is below k and holds a parent.
+fn parent_below(table: &[u8], k: usize, j: usize, site: u8, sequence: u16) -> bool
+    requires { ⌜ Place (now table) j ⌝ }
+    ensures { λ r. ⌜ r ≡ (ltb j k && parentAt (now (table .entry)) site sequence j) ⌝ }
+{
+    if k <= j {
+        return false;
+    }
+    parent_at(table, j, site, sequence)
+}
+
+// How many of the references below k are parents. A turn is taken for each reference, from the highest down, and for no other place.
 fn parents_among(table: &[u8], k: usize, references: u64, site: u8, sequence: u16) -> usize
     requires { ⌜ Places (now table) k ⌝ }
     ensures { λ r. ⌜ r ≡ parents (viewOf (now (table .entry))) k (rowOf site sequence references) ⌝ }
 {
     let mut count: usize = 0;
-    let mut j = 0;
-    while j < k {
-        if is_parent(table, j, references, site, sequence) {
+    let mut left = references;
+    while left != 0 {
+        let j = base::highest(left);
+        if parent_below(table, k, j, site, sequence) {
             count += 1;
         }
-        j += 1;
+        left = left - (1u64 << j);
     }
     count
 }
