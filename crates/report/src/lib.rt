@@ -1,6 +1,7 @@
 // The listing of a campaign, one step at a time. The input is a setup and then arrivals; a state says what is expected next, and `wanted`
 // how many bytes that takes. Promises: `step` does and writes what specs/Framing.antt says, for any state, table, record buffer and bytes;
-// and the steps' lines, joined, are the listing of the whole input (specs/Promises.antt). Assumes nothing.
+// the steps' lines, joined, are the listing of the whole input (specs/Promises.antt); and two listings of one setup never show two numbers
+// for a slot while at most f sites forked (specs/Agreed.antt). Assumes nothing.
 mod arrival;
 mod framing;
 mod text;
