@@ -31,6 +31,12 @@ count-le f (suc k) = go (f k) (count-le f k)
     go true h = omega arith
     go false h = omega arith
 
+-- more numbers, no fewer that pass
+pub count-grows : (f : ℕ → Bool) (k m : ℕ) → k ≤ m → countBelow f k ≤ countBelow f m
+unfolding countBelow
+count-grows f k zero h = let e : k ≡ 0 = omega arith in rw e (omega arith)
+count-grows f k (suc m) h = elim (eq-or-lt-of-le h) [ inl q ↦ rw q (omega arith) | inr l ↦ omega (arith, count-grows f k m (le-of-suc-le-suc l)) ]
+
 -- two tests that agree below k have one count
 pub count-same : (f g : ℕ → Bool) (k : ℕ) → ((j : ℕ) → j < k → f j ≡ g j) → countBelow f k ≡ countBelow g k
 unfolding countBelow

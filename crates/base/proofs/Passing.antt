@@ -11,6 +11,7 @@ use native.Mathlib.Decide.{decLt}
 use native.Mathlib.Omega.{arith}
 use lib.ListN.{length, getD, take, length-append, length-take, List·getD-append}
 use lib.Seq.{getD-take, getD-append-add}
+use Rattle.base.specs.Count.{countBelow}
 use Rattle.base.specs.List.{passing}
 use Rattle.base.proofs.Tests.{not-true-false}
 use Rattle.base.proofs.Members.{at-member}
@@ -25,6 +26,16 @@ module _ (f : ℕ → Bool) where
   pub passing-past : (k : ℕ) → f k ≡ false → passing f (k + 1) ≡ passing f k
   unfolding passing
   passing-past k n = rw (add-one k, n) (append-nil (passing f k))
+
+-- it is as long as the count
+pub passing-length : (f : ℕ → Bool) (k : ℕ) → length (passing f k) ≡ countBelow f k
+unfolding passing countBelow
+passing-length f zero = refl
+passing-length f (suc k) = length-append (passing f k) (cond (f k) (k ∷ []) []) ∙ go (f k) (passing-length f k)
+  where
+    go : (t : Bool) → length (passing f k) ≡ countBelow f k → length (passing f k) + length (cond t (k ∷ []) []) ≡ cond t 1 0 + countBelow f k
+    go true e = omega arith
+    go false e = omega arith
 
 -- tests that agree below k have one list
 pub passing-same : (f g : ℕ → Bool) (k : ℕ) → ((j : ℕ) → j < k → f j ≡ g j) → passing f k ≡ passing g k

@@ -5,10 +5,13 @@ mod record;
 
 use setup::MAX_SITES;
 ghost use mathlib.Core.Path.{_≡_};
+ghost use mathlib.Core.Bool.{_&&_};
 ghost use Prim.Native.Nat.{_≤_, _<_};
-ghost use Rattle.setup.specs.Setup.{maxSites};
+ghost use lib.Dec.{eqb, leb};
+ghost use lib.ListN.{length};
+ghost use Rattle.setup.specs.Setup.{maxSites, echoQuorum, readyAmplification, readyQuorum};
 ghost use Rattle.broadcast.specs.Record.{blank};
-ghost use Rattle.broadcast.specs.Process.{readyOnEchoes, readyOnReadies, deliverOnReadies, takeSend, takeEcho, takeReady, received, request};
+ghost use Rattle.broadcast.specs.Process.{support, takeSend, takeEcho, takeReady, received, request};
 
 // The SEND, ECHO and READY that were sent and the number that was delivered; 0 is none.
 pub struct Sent {
@@ -51,51 +54,40 @@ pub fn empty() -> SlotRecord
     }
 }
 
-// ---- what the supporters of a number bring about
+// ---- what the supporters of a number bring about: each is due where its entry is still 0. The entry and the heard come by themselves, so that
+// no record is copied to decide
 
-// READY is sent where the number has its ECHO quorum and READY was not sent.
-fn ready_on_echoes(state: SlotRecord, n: u8, number: u16) -> SlotRecord
-    requires { ⌜ n ≤ maxSites ⌝ }
-    ensures { λ r. ⌜ r ≡ readyOnEchoes n number state ⌝ }
+// READY, where the number has its ECHO quorum.
+fn ready_on_echoes(ready: u16, echoes: &[u16], n: u8, number: u16) -> bool
+    requires { ⌜ (n ≤ maxSites) × (length (now echoes) ≡ maxSites) ⌝ }
+    ensures { λ r. ⌜ r ≡ (eqb ready 0 && leb (echoQuorum n) (support n (now (echoes .entry)) number)) ⌝ }
 {
-    if state.sent.ready != 0 {
-        return state;
+    if ready != 0 {
+        return false;
     }
-    let echoes = state.echoes;
-    if heard::support(&echoes, n, number) < setup::echo_quorum(n) {
-        return state;
-    }
-    record::send_ready(state, number)
+    setup::echo_quorum(n) <= heard::support(echoes, n, number)
 }
 
-// READY is sent where enough sites sent it for the number and it was not sent here.
-fn ready_on_readies(state: SlotRecord, n: u8, number: u16) -> SlotRecord
-    requires { ⌜ n ≤ maxSites ⌝ }
-    ensures { λ r. ⌜ r ≡ readyOnReadies n number state ⌝ }
+// READY, where enough sites sent it for the number.
+fn ready_on_readies(ready: u16, readies: &[u16], n: u8, number: u16) -> bool
+    requires { ⌜ (n ≤ maxSites) × (length (now readies) ≡ maxSites) ⌝ }
+    ensures { λ r. ⌜ r ≡ (eqb ready 0 && leb (readyAmplification n) (support n (now (readies .entry)) number)) ⌝ }
 {
-    if state.sent.ready != 0 {
-        return state;
+    if ready != 0 {
+        return false;
     }
-    let readies = state.readies;
-    if heard::support(&readies, n, number) < setup::ready_amplification(n) {
-        return state;
-    }
-    record::send_ready(state, number)
+    setup::ready_amplification(n) <= heard::support(readies, n, number)
 }
 
-// The number is delivered where it has its READY quorum and nothing was delivered.
-fn deliver_on_readies(state: SlotRecord, n: u8, number: u16) -> SlotRecord
-    requires { ⌜ n ≤ maxSites ⌝ }
-    ensures { λ r. ⌜ r ≡ deliverOnReadies n number state ⌝ }
+// Delivery, where the number has its READY quorum.
+fn deliver_on_readies(delivered: u16, readies: &[u16], n: u8, number: u16) -> bool
+    requires { ⌜ (n ≤ maxSites) × (length (now readies) ≡ maxSites) ⌝ }
+    ensures { λ r. ⌜ r ≡ (eqb delivered 0 && leb (readyQuorum n) (support n (now (readies .entry)) number)) ⌝ }
 {
-    if state.sent.delivered != 0 {
-        return state;
+    if delivered != 0 {
+        return false;
     }
-    let readies = state.readies;
-    if heard::support(&readies, n, number) < setup::ready_quorum(n) {
-        return state;
-    }
-    record::deliver(state, number)
+    setup::ready_quorum(n) <= heard::support(readies, n, number)
 }
 
 // ---- one message of each kind
@@ -118,11 +110,16 @@ fn take_echo(state: SlotRecord, n: u8, sender: u8, number: u16) -> SlotRecord
     requires { ⌜ (n ≤ maxSites) × (sender < n) ⌝ }
     ensures { λ r. ⌜ r ≡ takeEcho n sender number state ⌝ }
 {
-    let echoes = state.echoes;
-    if echoes[base::wide(sender)] != 0 {
-        return state;
+    let mut s = state;
+    if s.echoes[base::wide(sender)] != 0 {
+        return s;
     }
-    ready_on_echoes(record::note_echo(state, sender, number), n, number)
+    s.echoes[base::wide(sender)] = number;
+    let echoes = s.echoes;
+    if ready_on_echoes(s.sent.ready, &echoes, n, number) {
+        return record::send_ready(s, number);
+    }
+    s
 }
 
 // A READY counts where none was heard from its sender.
@@ -130,12 +127,19 @@ fn take_ready(state: SlotRecord, n: u8, sender: u8, number: u16) -> SlotRecord
     requires { ⌜ (n ≤ maxSites) × (sender < n) ⌝ }
     ensures { λ r. ⌜ r ≡ takeReady n sender number state ⌝ }
 {
-    let readies = state.readies;
-    if readies[base::wide(sender)] != 0 {
-        return state;
+    let mut s = state;
+    if s.readies[base::wide(sender)] != 0 {
+        return s;
     }
-    let noted = record::note_ready(state, sender, number);
-    deliver_on_readies(ready_on_readies(noted, n, number), n, number)
+    s.readies[base::wide(sender)] = number;
+    let readies = s.readies;
+    if ready_on_readies(s.sent.ready, &readies, n, number) {
+        s = record::send_ready(s, number);
+    }
+    if deliver_on_readies(s.sent.delivered, &readies, n, number) {
+        return record::deliver(s, number);
+    }
+    s
 }
 
 // One message, by value. Number 0, a sender not below n, or an n above 16 changes nothing.

@@ -2,9 +2,7 @@
 use crate::Sent;
 use crate::SlotRecord;
 ghost use mathlib.Core.Path.{_≡_};
-ghost use Prim.Native.Nat.{_<_};
-ghost use Rattle.setup.specs.Setup.{maxSites};
-ghost use Rattle.broadcast.specs.Record.{withSend, withEcho, withReady, withDelivered, inBoth, noteEcho, noteReady};
+ghost use Rattle.broadcast.specs.Record.{withSend, withEcho, withReady, withDelivered, inBoth};
 
 fn with_send(sent: Sent, number: u16) -> Sent
     ensures { λ r. ⌜ r ≡ withSend number sent ⌝ }
@@ -81,23 +79,5 @@ pub fn deliver(state: SlotRecord, number: u16) -> SlotRecord
     let made = with_delivered(state.made, number);
     s.sent = sent;
     s.made = made;
-    s
-}
-
-pub fn note_echo(state: SlotRecord, sender: u8, number: u16) -> SlotRecord
-    requires { ⌜ sender < maxSites ⌝ }
-    ensures { λ r. ⌜ r ≡ noteEcho sender number state ⌝ }
-{
-    let mut s = state;
-    s.echoes[base::wide(sender)] = number;
-    s
-}
-
-pub fn note_ready(state: SlotRecord, sender: u8, number: u16) -> SlotRecord
-    requires { ⌜ sender < maxSites ⌝ }
-    ensures { λ r. ⌜ r ≡ noteReady sender number state ⌝ }
-{
-    let mut s = state;
-    s.readies[base::wide(sender)] = number;
     s
 }

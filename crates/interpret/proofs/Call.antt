@@ -59,6 +59,7 @@ module _ (t : Bytes) (buffer : List ℕ) (i : ℕ) where
               numbers = e₁₂;
               few = few;
               sites = λ j h. omega (arith, row-form (setupOf t) (viewOf t) j (f .held .rows j (omega arith)) .site);
+              fewReferences = row-form (setupOf t) (viewOf t) i (f .held .rows i e₁₃) .few;
             }
 
         pub way14 : markAt t i ≡ 1 → Leaves (refused 14 0) t buffer

@@ -5,6 +5,7 @@ pub mod Order
 pub mod Lowest
 pub mod Records
 mod Turns
+mod Places
 pub mod Parts
 mod Typed
 pub mod Causes

@@ -1,42 +1,62 @@
 -- What the contracts of inner functions cite: what an entry point has tested. Nothing here need be believed.
 use mathlib.Core.Path.{_≡_}
-use mathlib.Core.Bool.{cond, _&&_}
+use mathlib.Core.Bool.{cond}
 use mathlib.Core.List.{List, [], _∷_}
 use Prim.Native.Nat.{ℕ, zero, suc, _≤_, _<_}
 use lib.Dec.{eqb, ltb}
-use lib.ListN.{length}
-use Rattle.base.specs.List.{listBelow}
+use lib.ListN.{length, getD}
+use Rattle.base.specs.Count.{countBelow}
+use Rattle.base.specs.List.{listBelow, passing}
 use Rattle.base.specs.Bytes.{Bytes}
-use Rattle.block.specs.Limits.{slotCount}
+use Rattle.block.specs.Limits.{slotCount, maxReferences}
 use Rattle.setup.specs.Setup.{maxSites, ownerOf}
 use Rattle.broadcast.specs.declared.Kind.{Kind}
 use Rattle.broadcast.specs.declared.SlotRecord.{SlotRecord}
 use Rattle.broadcast.specs.Record.{blank}
-use Rattle.broadcast.specs.Process.{madeOf, receiveAll}
+use Rattle.broadcast.specs.Process.{madeOf, received, receiveAll}
 use Rattle.table.specs.View.{maxPlaces, Row, View}
-use Rattle.table.specs.Layout.{tableSize, setupOf, siteAt, referencesAt, rowAt, viewOf}
+use Rattle.table.specs.Layout.{tableSize, setupOf, siteAt, rowAt, viewOf}
 use Rattle.table.specs.Rules.{parentRow}
-use Rattle.interpret.specs.Slot.{Direct, messagesOf, messages}
+use Rattle.interpret.specs.Slot.{Direct, messages}
 use Rattle.interpret.specs.Buffer.{bufferSize, recordIn}
-use Rattle.interpret.specs.Interpretation.{directsBelow}
+use Rattle.interpret.specs.Interpretation.{directAt}
 
--- a table and a record buffer of the right lengths, a place, and sites that an array of sixteen has room for
+-- a table and a record buffer of the right lengths, a place, sites that an array of sixteen has room for, and references that one has room for
 pub record Ready (t : Bytes) (i : ℕ) (buffer : List ℕ) : Type 0 where
   pub size : length t ≡ tableSize
   pub place : i < maxPlaces
   pub numbers : length buffer ≡ bufferSize
   pub few : setupOf t .sites ≤ maxSites
   pub sites : (j : ℕ) → j < i → siteAt t j < maxSites
+  pub fewReferences : countBelow (rowAt t i .refersTo) maxPlaces ≤ maxReferences
 
--- the same with a slot, and the mask of the places that place i refers to
-pub record ReadySlot (t : Bytes) (i : ℕ) (buffer : List ℕ) (references slot : ℕ) : Type 0 where
+-- the places below i that place i refers to, lower ones first
+abbrev pub referredBy : Bytes → ℕ → List ℕ
+referredBy t i = passing (rowAt t i .refersTo) i
+
+-- the same with a slot, and the list of these places
+pub record ReadySlot (t : Bytes) (i : ℕ) (places buffer : List ℕ) (slot : ℕ) : Type 0 where
   pub ready : Ready t i buffer
-  pub mask : references ≡ referencesAt t i
+  pub listed : places ≡ referredBy t i
   pub below : slot < slotCount
 
--- the blocks that place i refers to, with their records in a slot
-abbrev pub directsOf : Bytes → ℕ → List ℕ → ℕ → List Direct
-directsOf t i buffer slot = directsBelow (viewOf t) buffer slot (rowAt t i) i
+-- what is asked of a list of places and a slot alone
+pub record Listed (t : Bytes) (places buffer : List ℕ) (slot : ℕ) : Type 0 where
+  pub size : length t ≡ tableSize
+  pub numbers : length buffer ≡ bufferSize
+  pub few : setupOf t .sites ≤ maxSites
+  pub below : slot < slotCount
+  pub held : (k : ℕ) → k < length places → getD places k 0 < maxPlaces
+  pub sites : (k : ℕ) → k < length places → siteAt t (getD places k 0) < maxSites
+
+-- the blocks of the first k places of a list, with their records in a slot, the last one first
+unfoldable pub directsFirst : View → List ℕ → ℕ → List ℕ → ℕ → List Direct
+directsFirst v buffer slot places zero = []
+directsFirst v buffer slot places (suc k) = directAt v buffer slot (getD places k 0) ∷ directsFirst v buffer slot places k
+
+-- of all of them
+abbrev pub directsOf : Bytes → List ℕ → List ℕ → ℕ → List Direct
+directsOf t places buffer slot = directsFirst (viewOf t) buffer slot places (length places)
 
 -- the lower of two numbers, where 0 is none
 unfoldable pub leastOf : ℕ → ℕ → ℕ
@@ -47,22 +67,31 @@ unfoldable pub lowest : Kind → ℕ → List Direct → ℕ
 lowest k p [] = 0
 lowest k p (d ∷ ds) = cond (eqb (d .site) p) (leastOf (madeOf k (d .state)) (lowest k p ds)) (lowest k p ds)
 
--- of each site, in the blocks that place i refers to
-abbrev pub lowestOf : Bytes → ℕ → List ℕ → ℕ → Kind → List ℕ
-lowestOf t i buffer slot k = listBelow (λ p. lowest k p (directsOf t i buffer slot)) maxSites
+-- of each site
+abbrev pub lowestIn : Kind → List Direct → List ℕ
+lowestIn k ds = listBelow (λ p. lowest k p ds) maxSites
 
--- a record after the messages of a kind made in those blocks
-abbrev pub heardOf : Bytes → ℕ → List ℕ → ℕ → Kind → SlotRecord → SlotRecord
-heardOf t i buffer slot k r = receiveAll (setupOf t .sites) (ownerOf (setupOf t) slot) (messagesOf k (setupOf t .sites) (directsOf t i buffer slot)) r
+-- in the blocks of a list of places
+abbrev pub lowestOf : Bytes → List ℕ → List ℕ → ℕ → Kind → List ℕ
+lowestOf t places buffer slot k = lowestIn k (directsOf t places buffer slot)
 
--- after all messages
-abbrev pub heardAll : Bytes → ℕ → List ℕ → ℕ → SlotRecord → SlotRecord
-heardAll t i buffer slot r = receiveAll (setupOf t .sites) (ownerOf (setupOf t) slot) (messages (setupOf t .sites) (directsOf t i buffer slot)) r
+-- a record after a message of a kind from each site below p, with the site's number in a list; 0 is none
+unfoldable pub heardFrom : ℕ → ℕ → Kind → List ℕ → ℕ → SlotRecord → SlotRecord
+heardFrom n owner k low zero r = r
+heardFrom n owner k low (suc p) r = received (heardFrom n owner k low p r) n owner k p (getD low p 0)
 
--- the highest place below k that r refers to and whose block is a parent for it, maxPlaces if there is none
-unfoldable pub parentBelow : View → Row → ℕ → ℕ
-parentBelow v r zero = maxPlaces
-parentBelow v r (suc j) = cond (r .refersTo j && parentRow r (v .row j)) j (parentBelow v r j)
+-- after all messages made in the blocks of a list of places
+abbrev pub heardAll : Bytes → List ℕ → List ℕ → ℕ → SlotRecord → SlotRecord
+heardAll t places buffer slot r = receiveAll (setupOf t .sites) (ownerOf (setupOf t) slot) (messages (setupOf t .sites) (directsOf t places buffer slot)) r
+
+-- the last of the first k places of a list whose block is a parent for r, maxPlaces if there is none
+unfoldable pub parentFirst : View → Row → List ℕ → ℕ → ℕ
+parentFirst v r places zero = maxPlaces
+parentFirst v r places (suc k) = cond (parentRow r (v .row (getD places k 0))) (getD places k 0) (parentFirst v r places k)
+
+-- of all of them, for place i
+abbrev pub parentOf : Bytes → ℕ → List ℕ → ℕ
+parentOf t i places = parentFirst (viewOf t) (rowAt t i) places (length places)
 
 -- the record of a slot at such a place, the blank one where there is none
 unfoldable pub stateAt : List ℕ → ℕ → ℕ → SlotRecord

@@ -8,11 +8,17 @@ use broadcast::SlotRecord;
 use setup::MAX_SITES;
 use table::rows;
 ghost use mathlib.Core.Path.{_≡_};
-ghost use Prim.Native.Nat.{_+_, _≤_};
-ghost use lib.ListN.{length};
-ghost use Rattle.broadcast.specs.Record.{recordSize, recordAt};
-ghost use Rattle.broadcast.specs.Process.{madeOf};
-ghost use Rattle.interpret.specs.Steps.{ReadySlot, leastOf, lowestOf, heardOf, heardAll};
+ghost use Prim.Native.Nat.{_≤_};
+ghost use Rattle.setup.specs.Setup.{maxSites};
+ghost use Rattle.broadcast.specs.declared.Kind.the-variants.{Send, Echo, Ready};
+ghost use Rattle.interpret.specs.Steps.{Listed, leastOf, lowestOf, heardFrom, heardAll};
+
+// For each site the lowest number of each kind made in its blocks, 0 if there is none. No other can have an effect.
+struct Lowest {
+    sends: [u16; MAX_SITES],
+    echoes: [u16; MAX_SITES],
+    readies: [u16; MAX_SITES],
+}
 
 // The lower of two numbers, where 0 is none.
 fn least(v: u16, w: u16) -> u16
@@ -27,60 +33,38 @@ fn least(v: u16, w: u16) -> u16
     if v < w { v } else { w }
 }
 
-// The number of a kind that was made in the block whose record stands at an index.
-fn made_at(records: &[u16], at: usize, kind: Kind) -> u16
-    requires { ⌜ at + recordSize ≤ length (now records) ⌝ }
-    ensures { λ r. ⌜ r ≡ madeOf kind (recordAt (now (records .entry)) at) ⌝ }
+// The lowest numbers made in the blocks of a list of places.
+fn lowest_of(table: &[u8], places: &[u8], records: &[u16], slot: usize) -> Lowest
+    requires { ⌜ Listed (now table) (now places) (now records) slot ⌝ }
+    ensures { λ r. ⌜ r .sends ≡ lowestOf (now (table .entry)) (now (places .entry)) (now (records .entry)) slot Send ⌝ }
+    ensures { λ r. ⌜ r .echoes ≡ lowestOf (now (table .entry)) (now (places .entry)) (now (records .entry)) slot Echo ⌝ }
+    ensures { λ r. ⌜ r .readies ≡ lowestOf (now (table .entry)) (now (places .entry)) (now (records .entry)) slot Ready ⌝ }
 {
-    let made = buffer::sent_at(records, at + MADE_OFFSET);
-    match kind {
-        Kind::Send => made.send,
-        Kind::Echo => made.echo,
-        Kind::Ready => made.ready,
+    let mut sends = [0u16; MAX_SITES];
+    let mut echoes = [0u16; MAX_SITES];
+    let mut readies = [0u16; MAX_SITES];
+    let mut k = 0;
+    while k < places.len() {
+        let j = base::wide(places[k]);
+        let p = base::wide(rows::site_at(table, j));
+        let made = buffer::sent_at(records, PART_SIZE * j + RECORD_SIZE * slot + MADE_OFFSET);
+        sends[p] = least(made.send, sends[p]);
+        echoes[p] = least(made.echo, echoes[p]);
+        readies[p] = least(made.ready, readies[p]);
+        k += 1;
+    }
+    Lowest {
+        sends,
+        echoes,
+        readies,
     }
 }
 
-// For each site the lowest number of a kind made in its blocks among the references, 0 if there is none. No other can have an effect.
-fn lowest_of(
-    table: &[u8],
-    place: usize,
-    references: u64,
-    records: &[u16],
-    slot: usize,
-    kind: Kind,
-) -> [u16; MAX_SITES]
-    requires { ⌜ ReadySlot (now table) place (now records) references slot ⌝ }
-    ensures { λ r. ⌜ r ≡ lowestOf (now (table .entry)) place (now (records .entry)) slot kind ⌝ }
+// The record after one message of a kind from each site that has a number, lower senders first.
+fn hear(state: SlotRecord, n: u8, owner: u8, kind: Kind, low: [u16; MAX_SITES]) -> SlotRecord
+    requires { ⌜ n ≤ maxSites ⌝ }
+    ensures { λ r. ⌜ r ≡ heardFrom n owner kind low n state ⌝ }
 {
-    let mut low = [0u16; MAX_SITES];
-    let mut j = 0;
-    while j < place {
-        if base::in_mask(references, j) {
-            let p = base::wide(rows::site_at(table, j));
-            let made = made_at(records, PART_SIZE * j + RECORD_SIZE * slot, kind);
-            low[p] = least(made, low[p]);
-        }
-        j += 1;
-    }
-    low
-}
-
-// The record after the messages of a kind, lower senders first.
-fn hear(
-    state: SlotRecord,
-    table: &[u8],
-    place: usize,
-    references: u64,
-    records: &[u16],
-    slot: usize,
-    kind: Kind,
-) -> SlotRecord
-    requires { ⌜ ReadySlot (now table) place (now records) references slot ⌝ }
-    ensures { λ r. ⌜ r ≡ heardOf (now (table .entry)) place (now (records .entry)) slot kind state ⌝ }
-{
-    let low = lowest_of(table, place, references, records, slot, kind);
-    let n = rows::sites_of(table);
-    let owner = rows::owner_of(table, slot);
     let mut s = state;
     let mut p: u8 = 0;
     while p < n {
@@ -97,15 +81,20 @@ fn hear(
 pub fn hear_all(
     state: SlotRecord,
     table: &[u8],
-    place: usize,
-    references: u64,
+    places: &[u8],
     records: &[u16],
     slot: usize,
 ) -> SlotRecord
-    requires { ⌜ ReadySlot (now table) place (now records) references slot ⌝ }
-    ensures { λ r. ⌜ r ≡ heardAll (now (table .entry)) place (now (records .entry)) slot state ⌝ }
+    requires { ⌜ Listed (now table) (now places) (now records) slot ⌝ }
+    ensures { λ r. ⌜ r ≡ heardAll (now (table .entry)) (now (places .entry)) (now (records .entry)) slot state ⌝ }
 {
-    let sent = hear(state, table, place, references, records, slot, Kind::Send);
-    let echoed = hear(sent, table, place, references, records, slot, Kind::Echo);
-    hear(echoed, table, place, references, records, slot, Kind::Ready)
+    let low = lowest_of(table, places, records, slot);
+    let n = rows::sites_of(table);
+    let owner = rows::owner_of(table, slot);
+    let sends = low.sends;
+    let echoes = low.echoes;
+    let readies = low.readies;
+    let sent = hear(state, n, owner, Kind::Send, sends);
+    let echoed = hear(sent, n, owner, Kind::Echo, echoes);
+    hear(echoed, n, owner, Kind::Ready, readies)
 }

@@ -5,6 +5,7 @@ mod buffer;
 mod hearing;
 
 use block::Answer;
+use block::MAX_REFERENCES;
 use block::SLOTS;
 use broadcast::SlotRecord;
 use setup::MAX_SITES;
@@ -15,15 +16,19 @@ use table::ROWS_OFFSET;
 use table::rows;
 use table::rules;
 ghost use mathlib.Core.Path.{_≡_};
-ghost use Prim.Native.Nat.{_<_};
-ghost use lib.ListN.{length};
-ghost use Rattle.block.specs.Limits.{slotCount};
+ghost use Prim.Native.Nat.{_≤_, _<_};
+ghost use lib.ListN.{length, take};
+ghost use Rattle.base.specs.Count.{countBelow};
+ghost use Rattle.base.specs.Mask.{inMask};
+ghost use Rattle.base.specs.List.{passing};
+ghost use Rattle.block.specs.Limits.{maxReferences, slotCount};
 ghost use Rattle.broadcast.specs.Record.{nothingMade};
-ghost use Rattle.table.specs.Layout.{setupOf, referencesAt, rowAt, viewOf};
+ghost use Rattle.table.specs.View.{maxPlaces};
+ghost use Rattle.table.specs.Layout.{setupOf, referencesAt, viewOf};
 ghost use Rattle.table.specs.Steps.{Place};
 ghost use Rattle.interpret.specs.Buffer.{bufferSize};
 ghost use Rattle.interpret.specs.Interpretation.{recordFor, written, interpretation, marked, recorded};
-ghost use Rattle.interpret.specs.Steps.{Ready, ReadySlot, parentBelow, stateAt};
+ghost use Rattle.interpret.specs.Steps.{referredBy, Ready, ReadySlot, parentOf, stateAt};
 
 // Where each part of a record's numbers stands: what was sent so far, the ECHO and the READY heard from each site, and what was made.
 pub const SENT_COUNT: usize = 4;
@@ -41,20 +46,39 @@ pub const PART_SIZE: usize = RECORD_SIZE * SLOTS;
 
 pub const BUFFER_SIZE: usize = PART_SIZE * MAX_PLACES;
 
-// The highest place below this one that is its parent's, or MAX_PLACES.
-fn parent_of(table: &[u8], place: usize, references: u64) -> usize
-    requires { ⌜ Place (now table) place × (references ≡ referencesAt (now table) place) ⌝ }
-    ensures { λ r. ⌜ r ≡ parentBelow (viewOf (now (table .entry))) (rowAt (now (table .entry)) place) place ⌝ }
+// Puts the places below this one that are in the mask to the front of the list, lower ones first; how many they are.
+fn list_places(references: u64, place: usize, list: &mut [u8]) -> usize
+    requires { ⌜ (place ≤ maxPlaces) × (length (now list) ≡ maxReferences) × (countBelow (inMask references) maxPlaces ≤ maxReferences) ⌝ }
+    ensures { λ r. ⌜ r ≤ maxReferences ⌝ }
+    ensures { λ r. ⌜ take r (now (list .exit)) ≡ passing (inMask references) place ⌝ }
+{
+    let mut count = 0;
+    let mut j = 0;
+    while j < place {
+        if base::in_mask(references, j) {
+            list[count] = j as u8;
+            count += 1;
+        }
+        j += 1;
+    }
+    count
+}
+
+// The last place of the list that is the parent's, or MAX_PLACES.
+fn parent_of(table: &[u8], place: usize, references: u64, places: &[u8]) -> usize
+    requires { ⌜ Place (now table) place × (references ≡ referencesAt (now table) place) × (now places ≡ referredBy (now table) place) ⌝ }
+    ensures { λ r. ⌜ r ≡ parentOf (now (table .entry)) place (now (places .entry)) ⌝ }
 {
     let site = rows::site_at(table, place);
     let sequence = rows::sequence_at(table, place);
     let mut parent = MAX_PLACES;
-    let mut j = 0;
-    while j < place {
+    let mut k = 0;
+    while k < places.len() {
+        let j = base::wide(places[k]);
         if rules::is_parent(table, j, references, site, sequence) {
             parent = j;
         }
-        j += 1;
+        k += 1;
     }
     parent
 }
@@ -78,12 +102,12 @@ fn start_of(records: &[u16], parent: usize, slot: usize) -> SlotRecord
 fn slot_record(
     table: &[u8],
     place: usize,
-    references: u64,
+    places: &[u8],
     parent: usize,
     records: &[u16],
     slot: usize,
 ) -> SlotRecord
-    requires { ⌜ ReadySlot (now table) place (now records) references slot × (parent ≡ parentBelow (viewOf (now table)) (rowAt (now table) place) place) ⌝ }
+    requires { ⌜ ReadySlot (now table) place (now places) (now records) slot × (parent ≡ parentOf (now table) place (now places)) ⌝ }
     ensures { λ r. ⌜ r ≡ recordFor (setupOf (now (table .entry))) (viewOf (now (table .entry))) (now (records .entry)) place slot ⌝ }
 {
     let site = rows::site_at(table, place);
@@ -91,7 +115,7 @@ fn slot_record(
     let number = rows::request_at(table, place, slot);
     let start = start_of(records, parent, slot);
     let asked = broadcast::requested(start, owner, site, number);
-    hearing::hear_all(asked, table, place, references, records, slot)
+    hearing::hear_all(asked, table, places, records, slot)
 }
 
 // The numbers of a place: its records, slot after slot.
@@ -100,11 +124,13 @@ fn place_records(table: &[u8], place: usize, records: &[u16]) -> [u16; PART_SIZE
     ensures { λ r. ⌜ r ≡ written (setupOf (now (table .entry))) (viewOf (now (table .entry))) (now (records .entry)) place ⌝ }
 {
     let references = rows::references_at(table, place);
-    let parent = parent_of(table, place, references);
+    let mut list = [0u8; MAX_REFERENCES];
+    let count = list_places(references, place, &mut list);
+    let parent = parent_of(table, place, references, &list[..count]);
     let mut out = [0u16; PART_SIZE];
     let mut slot = 0;
     while slot < SLOTS {
-        let state = slot_record(table, place, references, parent, records, slot);
+        let state = slot_record(table, place, &list[..count], parent, records, slot);
         buffer::put_record(&mut out, RECORD_SIZE * slot, state);
         slot += 1;
     }

@@ -1,51 +1,69 @@
--- `parent_of` meets its contract. The loop's invariant: `parent` is the highest of the places passed. Assumes nothing.
+-- `parent_of` meets its contract. The loop's invariant: `parent` is the last of the places passed. Assumes nothing.
 use mathlib.Core.Path.{_≡_, refl, sym, _∙_}
-use mathlib.Core.Bool.{_&&_}
+use mathlib.Core.Bool.{Bool, true, false, _&&_}
 use mathlib.Core.Logic.{⊎-elim}
-use Prim.Native.Nat.{_-_, _≤_}
+use Prim.Native.Nat.{_-_, _≤_, _<_}
 use native.Mathlib.Omega.{arith}
+use lib.ListN.{length}
 use borrow.Author.Needs.{needs}
+use Rattle.base.proofs.Tests.{true-not-false}
+use Rattle.table.specs.View.{maxPlaces}
 use Rattle.table.specs.Layout.{rowAt, viewOf}
 use Rattle.table.specs.Rules.{parentRow}
-use Rattle.table.specs.Steps.{Place}
-use Rattle.interpret.specs.Steps.{parentBelow}
+use Rattle.interpret.specs.Steps.{parentFirst}
 use Rattle.interpret.proofs.Turns.{parent-in, parent-out}
+use Rattle.interpret.proofs.Places.{place-listed}
 use Rattle.interpret.proofs.parent_of.Statement.{statement}
 use Rattle.interpret.proofs.parent_of.Tie as tie
 
 abbrev Inv-loop : tie.InvT-loop
-Inv-loop table place references site sequence parent₀ j₀ parent j = (j ≤ place) × Place table place × (parent ≡ parentBelow (viewOf table) (rowAt table place) j)
+Inv-loop table place references places site sequence parent₀ k₀ parent k = (k ≤ length places) × (parent ≡ parentFirst (viewOf table) (rowAt table place) places k)
 
 abbrev μ-loop : tie.MeasureT-loop
-μ-loop table place references site sequence parent₀ j₀ parent j = place - j
+μ-loop table place references places site sequence parent₀ k₀ parent k = length places - k
 
 loop-holds : tie.Need-loop-holds Inv-loop μ-loop
-unfolding parentBelow
-loop-holds c = (omega arith, search needs, refl)
+unfolding parentFirst
+loop-holds c = (omega arith, refl)
+
+-- of two tests the first of which passes
+both : (x y t : Bool) → x ≡ true → t ≡ (x && y) → y ≡ t
+both true y t e q = sym q
+both false y t e q = true-not-false e refl
+
+-- the place is one of the list
+held : (c : tie.After-wide Inv-loop μ-loop) → c .wide .result < maxPlaces
+held c =
+    let i = c .before .before in
+    let s = i .before .before .before .before .before .before in
+    omega (arith, c .wide .ensures, place-listed (s .args .table .now) (s .args .place) (s .args .places .now) (s .pre .2) (i .before .loop .k) (i .loop-test .taken) .0)
 
 loop-again : tie.Need-loop-again Inv-loop μ-loop
 loop-again c =
-    let m = c .before in
-    let l = m .before .before .loop in
-    let q = m .before .before .before in
-    let s = q .before .before .before in
-    let v = viewOf (s .args .table .now) in
-    let r = rowAt (s .args .table .now) (s .args .place) in
-    let e : (r .refersTo (l .j) && parentRow r (v .row (l .j))) ≡ m .is-parent .result =
-    rw (← s .pre .1, ← q .before .site-at .ensures, ← q .sequence-at .ensures) (sym (m .is-parent .ensures)) in (
+    let q = c .before in
+    let w = q .before in
+    let i = w .before .before in
+    let l = i .before .loop in
+    let n = i .before .before in
+    let s = n .before .before .before .before in
+    let a = s .args in
+    let v = viewOf (a .table .now) in
+    let r = rowAt (a .table .now) (a .place) in
+    let y = rw (← w .wide .ensures, ← s .pre .1) at (place-listed (a .table .now) (a .place) (a .places .now) (s .pre .2) (l .k) (i .loop-test .taken) .1) in
+    let e : parentRow r (v .row (w .wide .result)) ≡ q .is-parent .result =
+    rw (← n .before .site-at .ensures, ← n .sequence-at .ensures) (both _ _ (q .is-parent .result) y (q .is-parent .ensures)) in (
       omega arith,
-      search needs,
       ⊎-elim
-          (λ w. w .1 ∙ parent-in v r (l .j) (e ∙ w .0 .taken))
-          (λ w. w .1 ∙ l .inv .2 ∙ parent-out v r (l .j) (e ∙ w .0 .left))
+          (λ w₁. w₁ .1 ∙ parent-in v r (a .places .now) (l .k) _ (w .wide .ensures) (e ∙ w₁ .0 .taken))
+          (λ w₁. w₁ .1 ∙ l .inv .1 ∙ parent-out v r (a .places .now) (l .k) _ (w .wide .ensures) (e ∙ w₁ .0 .left))
           (c .if1 .came),
     )
 
 returns : tie.Need-returns Inv-loop μ-loop
 returns c =
     let l = c .before .loop in
-    let e : l .j ≡ c .before .before .before .before .before .args .place = omega arith in
-    rw e at (l .inv .2)
+    let e : l .k ≡ length (c .before .before .before .before .before .before .args .places .now) = omega arith in
+    rw e at (l .inv .1)
 
 pub parent-of-spec : {M : Type 1} → statement M
 parent-of-spec =
@@ -56,7 +74,9 @@ parent-of-spec =
     (λ c κs. search needs)
     (λ c κs. search needs)
     loop-holds
+    (λ c. search needs)
     (λ c κs. search needs)
+    (λ c κs. let h = held c in search needs)
     (λ c. search needs)
     (λ c. search needs)
     loop-again

@@ -4,7 +4,7 @@ use mathlib.Core.List.{List}
 use Prim.Native.Nat.{ℕ, _*_, _-_, _≤_}
 use native.Mathlib.Omega.{arith}
 use lib.ListN.{length, take}
-use lib.Seq.{take-all}
+use lib.Seq.{length-take-le, take-all}
 use borrow.Author.Needs.{needs}
 use Rattle.base.specs.List.{listBelow}
 use Rattle.base.specs.Bytes.{Bytes, joined}
@@ -13,6 +13,7 @@ use Rattle.broadcast.specs.Record.{recordSize, flatten}
 use Rattle.table.specs.Layout.{setupOf, viewOf}
 use Rattle.interpret.specs.Buffer.{partSize, numbersOf}
 use Rattle.interpret.specs.Interpretation.{recordFor}
+use Rattle.interpret.specs.Steps.{referredBy}
 use Rattle.interpret.proofs.Parts.{flatten-length}
 use Rattle.interpret.proofs.Typed.{held-sized, put-more}
 use Rattle.interpret.proofs.place_records.Statement.{statement}
@@ -23,11 +24,40 @@ abbrev numbersIn : Bytes → ℕ → List ℕ → ℕ → List ℕ
 numbersIn t i buffer slot = flatten (recordFor (setupOf t) (viewOf t) buffer i slot)
 
 abbrev Inv-loop : tie.InvT-loop
-Inv-loop table place records references parent out₀ slot₀ out slot =
+Inv-loop table place records references list count parent out₀ slot₀ out slot =
     (slot ≤ slotCount) × (length out ≡ partSize) × (take (recordSize * slot) out ≡ joined (listBelow (numbersIn table place records) slot))
 
 abbrev μ-loop : tie.MeasureT-loop
-μ-loop table place records references parent out₀ slot₀ out slot = slotCount - slot
+μ-loop table place records references list count parent out₀ slot₀ out slot = slotCount - slot
+
+list-places-requires : tie.Need-list-places-requires Inv-loop μ-loop
+list-places-requires c κs =
+    let p = c .before .before .before .before .pre in
+    (omega (arith, p .place), refl, rw (c .before .references-at .ensures) (p .fewReferences))
+
+-- the list has room for the places referred to
+fits : (c : tie.After-list-places Inv-loop μ-loop) → c .list-places .result ≤ length (c .list-places .last .1 .1 .0)
+fits c = let h = c .list-places .ensures .0 in search needs
+
+counted : (c : tie.After-list-places Inv-loop μ-loop) → c .list-places .result ≡ length (take (c .list-places .result) (c .list-places .last .1 .1 .0))
+counted c = sym (length-take-le _ _ (fits c))
+
+-- its front has them
+are-listed : (c : tie.After-list-places Inv-loop μ-loop) → let s = c .before .before .before .before .before in
+    take (c .list-places .result) (c .list-places .last .1 .1 .0) ≡ referredBy (s .args .table .now) (s .args .place)
+are-listed c = rw (c .before .before .references-at .ensures) at (c .list-places .ensures .1)
+
+parent-of-requires : tie.Need-parent-of-requires Inv-loop μ-loop
+parent-of-requires c κs = let r = c .before .before .before .before in
+    let p = r .before .before .before .pre in
+    (record { size = p .size; place = p .place }, r .references-at .ensures, are-listed (c .before .before))
+
+slot-record-requires : tie.Need-slot-record-requires Inv-loop μ-loop
+slot-record-requires c κs =
+    let o = c .before .before .before in
+    let m = o .before .before .before in
+    let p = m .before .before .before .before .before .pre in
+    (record { ready = p; listed = are-listed m; below = omega arith }, o .parent-of .ensures)
 
 loop-holds : tie.Need-loop-holds Inv-loop μ-loop
 unfolding joined listBelow
@@ -37,8 +67,8 @@ loop-again : tie.Need-loop-again Inv-loop μ-loop
 loop-again c =
     let p = c .before in
     let r = p .before .before in
-    let l = r .before .before .loop in
-    let a = r .before .before .before .before .before .before .before .args in (
+    let l = r .before .before .before .loop in
+    let a = r .before .before .before .before .before .before .before .before .before .before .before .before .args in (
       omega arith,
       search needs,
       put-more (numbersIn (a .table .now) (a .place) (a .records .now)) (l .out) _ _ (l .slot) (omega arith) (l .inv .2) (ap flatten (r .slot-record .ensures))
@@ -59,9 +89,15 @@ place-records-spec =
     Inv-loop
     μ-loop
     (λ c κs. search needs)
-    (λ c κs. search needs)
+    (λ c. search needs)
+    list-places-requires
+    (λ c. fits (c .before))
+    (λ c. counted (c .before .before))
+    parent-of-requires
     loop-holds
-    (λ c κs. search needs)
+    (λ c. fits (c .before .before .before .before .before))
+    (λ c. counted (c .before .before .before .before .before .before))
+    slot-record-requires
     (λ c. search needs)
     (λ c. search needs)
     (λ c κs. search needs)

@@ -1,59 +1,83 @@
--- `lowest_of` meets its contract. The loop's invariant: `low` is of the places passed. Assumes nothing.
-use mathlib.Core.Path.{_≡_, refl, sym, ap, _∙_}
-use mathlib.Core.Logic.{⊎-elim}
-use Prim.Native.Nat.{ℕ, _-_, _≤_, _<_}
+-- `lowest_of` meets its contract. The loop's invariant: each list is of the places passed. Assumes nothing.
+use mathlib.Core.Path.{_≡_, refl, ap, _∙_}
+use Prim.Native.Nat.{ℕ, _+_, _*_, _-_, _≤_, _<_}
 use native.Mathlib.Omega.{arith}
+use lib.ListN.{length, getD}
 use borrow.Author.Needs.{needs}
-use Rattle.base.specs.Mask.{inMask}
 use Rattle.base.specs.List.{listBelow}
 use Rattle.setup.specs.Setup.{maxSites}
-use Rattle.table.specs.Layout.{rowAt, viewOf}
-use Rattle.interpret.specs.Interpretation.{directsBelow}
-use Rattle.interpret.specs.Steps.{ReadySlot, lowest}
-use Rattle.interpret.proofs.Turns.{lows, low-in, low-out}
+use Rattle.broadcast.specs.declared.Kind.the-variants.{Send, Echo, Ready}
+use Rattle.broadcast.specs.declared.Sent.{Sent}
+use Rattle.broadcast.specs.Record.{recordSize, madeOffset, sentAt, recordAt}
+use Rattle.broadcast.specs.Process.{madeOf}
+use Rattle.table.specs.Layout.{siteAt, viewOf}
+use Rattle.table.specs.View.{maxPlaces}
+use Rattle.interpret.specs.Buffer.{partStart}
+use Rattle.interpret.specs.Interpretation.{directAt}
+use Rattle.interpret.specs.Steps.{directsFirst, leastOf, lowest, lowestIn}
+use Rattle.interpret.proofs.Turns.{directs-more, low-more}
 use Rattle.interpret.proofs.hearing.lowest_of.Statement.{statement}
 use Rattle.interpret.proofs.hearing.lowest_of.Tie as tie
 
 abbrev Inv-loop : tie.InvT-loop
-Inv-loop table place references records slot kind low₀ j₀ low j = (j ≤ place) × ReadySlot table place records references slot × (low ≡ lows (viewOf table) records slot (rowAt table place) kind j)
+Inv-loop table places records slot sends₀ echoes₀ readies₀ i₀ sends echoes readies i =
+    (i ≤ length places)
+    × (sends ≡ lowestIn Send (directsFirst (viewOf table) records slot places i))
+    × (echoes ≡ lowestIn Echo (directsFirst (viewOf table) records slot places i))
+    × (readies ≡ lowestIn Ready (directsFirst (viewOf table) records slot places i))
 
 abbrev μ-loop : tie.MeasureT-loop
-μ-loop table place references records slot kind low₀ j₀ low j = place - j
-
--- the site has an entry
-entered : (c : tie.After-wide Inv-loop μ-loop) → c .wide .result < maxSites
-entered c =
-    let s = c .before in
-    let i = s .before .before .before in
-    let l = i .before .loop in
-    omega (arith, l .inv .1 .ready .sites (l .j) (i .loop-test .taken), c .wide .ensures, s .site-at .ensures)
+μ-loop table places records slot sends₀ echoes₀ readies₀ i₀ sends echoes readies i = length places - i
 
 loop-holds : tie.Need-loop-holds Inv-loop μ-loop
-unfolding listBelow directsBelow lowest
-loop-holds c = (omega arith, search needs, refl)
+unfolding listBelow directsFirst lowest
+loop-holds c = (omega arith, refl, refl, refl)
+
+-- where the code starts
+abbrev start : tie.In-loop Inv-loop μ-loop → tie.Start Inv-loop μ-loop
+start c = c .before .before .before .before .before
+
+-- the place is one of the table's, and its site has an entry
+held : (c : tie.After-wide Inv-loop μ-loop) → c .wide .result < maxPlaces
+held c =
+    let i = c .before .before in
+    omega (arith, c .wide .ensures, start i .pre .held (i .before .loop .k) (i .loop-test .taken))
+
+entered : (c : tie.After-wide2 Inv-loop μ-loop) → c .wide2 .result < maxSites
+entered c =
+    let w = c .before .before in
+    let i = w .before .before in
+    let t = start i .args .table .now in
+    omega (arith, c .wide2 .ensures, c .before .site-at .ensures, ap (siteAt t) (w .wide .ensures), start i .pre .sites (i .before .loop .k) (i .loop-test .taken))
 
 loop-again : tie.Need-loop-again Inv-loop μ-loop
+unfolding recordAt madeOf
 loop-again c =
-    let m = c .before in
-    let l = m .before .before .loop in
-    let a = m .before .before .before .before .before .args in
+    let m = c .before .before .before in
+    let p = m .before in
+    let w = p .before .before in
+    let i = w .before .before in
+    let l = i .before .loop in
+    let a = start i .args in
     let v = viewOf (a .table .now) in
-    let r = rowAt (a .table .now) (a .place) in
-    let e = ap (λ (x : ℕ). inMask x (l .j)) (sym (l .inv .1 .mask)) ∙ sym (m .in-mask .ensures) in (
+    let d = directAt v (a .records .now) (a .slot) (getD (a .places .now) (l .k) 0) in
+    let h = start i .pre .sites (l .k) (i .loop-test .taken) in
+    let s : p .wide2 .result ≡ d .site = p .wide2 .ensures ∙ p .before .site-at .ensures ∙ ap (siteAt (a .table .now)) (w .wide .ensures) in
+    let e : m .sent-at .result ≡ d .state .made =
+    m .sent-at .ensures ∙ ap (λ (j : ℕ). sentAt (a .records .now) (partStart j + recordSize * a .slot + madeOffset)) (w .wide .ensures) in
+    let more = directs-more v (a .records .now) (a .slot) (a .places .now) (l .k) in (
       omega arith,
-      search needs,
-      ⊎-elim
-          (λ w. w .5 ∙ low-in v (a .records .now) (a .slot) r (a .kind) (l .j) (l .low) _ _ _ (e ∙ w .0 .taken) (l .inv .1 .ready .sites (l .j) (m .before .loop-test .taken))
-          (l .inv .2) (w .2 .ensures ∙ w .1 .ensures) (w .3 .ensures) (w .4 .ensures))
-          (λ w. w .1 ∙ l .inv .2 ∙ low-out v (a .records .now) (a .slot) r (a .kind) (l .j) (e ∙ w .0 .left))
-          (c .if1 .came),
+      rw (← more) (low-more Send d _ (l .sends) _ _ h (l .inv .1) s (c .before .before .least .ensures ∙ ap (λ (x : Sent). leastOf (x .send) (getD (l .sends) (p .wide2 .result) 0)) e)),
+      rw (← more) (low-more Echo d _ (l .echoes) _ _ h (l .inv .2) s (c .before .least2 .ensures ∙ ap (λ (x : Sent). leastOf (x .echo) (getD (l .echoes) (p .wide2 .result) 0)) e)),
+      rw (← more) (low-more Ready d _ (l .readies) _ _ h (l .inv .3) s (c .least3 .ensures ∙ ap (λ (x : Sent). leastOf (x .ready) (getD (l .readies) (p .wide2 .result) 0)) e)),
     )
 
 returns : tie.Need-returns Inv-loop μ-loop
 returns c =
     let l = c .before .loop in
-    let e : l .j ≡ c .before .before .before .before .args .place = omega arith in
-    rw e at (l .inv .2)
+    let e : l .k ≡ length (c .before .before .before .before .before .args .places .now) = omega arith in
+    let i = rw e at (l .inv) in
+    (i .1, (i .2, i .3))
 
 pub lowest-of-spec : {M : Type 1} → statement M
 lowest-of-spec =
@@ -62,18 +86,30 @@ lowest-of-spec =
     Inv-loop
     μ-loop
     loop-holds
-    (λ c κs. search needs)
-    (λ c κs. search needs)
-    (λ c κs. search needs)
-    (λ c. search needs)
-    (λ c. search needs)
     (λ c. search needs)
     (λ c κs. search needs)
+    (λ c κs. let h = held c in search needs)
+    (λ c κs. search needs)
+    (λ c. let h = held (c .before .before) in search needs)
+    (λ c. let h = held (c .before .before) in search needs)
+    (λ c. let h = held (c .before .before) in search needs)
+    (λ c. let h = held (c .before .before) in search needs)
+    (λ c κs. let h = held (c .before .before) in search needs)
     (λ c. let h = entered (c .before) in search needs)
     (λ c. let h = entered (c .before) in search needs)
     (λ c κs. search needs)
     (λ c. let h = entered (c .before .before) in search needs)
     (λ c. let h = entered (c .before .before) in search needs)
+    (λ c. let h = entered (c .before .before) in search needs)
+    (λ c. let h = entered (c .before .before) in search needs)
+    (λ c κs. search needs)
+    (λ c. let h = entered (c .before .before .before) in search needs)
+    (λ c. let h = entered (c .before .before .before) in search needs)
+    (λ c. let h = entered (c .before .before .before) in search needs)
+    (λ c. let h = entered (c .before .before .before) in search needs)
+    (λ c κs. search needs)
+    (λ c. let h = entered (c .before .before .before .before) in search needs)
+    (λ c. let h = entered (c .before .before .before .before) in search needs)
     (λ c. search needs)
     (λ c. search needs)
     loop-again
