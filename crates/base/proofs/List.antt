@@ -1,5 +1,5 @@
 -- Laws of the values at the numbers below a bound, of a list's map, of a test over a list, and of what is read after a store. Assumes nothing.
-use mathlib.Core.Path.{_≡_, refl, ap, _∙_}
+use mathlib.Core.Path.{_≡_, refl, ap, ap₂, _∙_}
 use mathlib.Core.Bool.{Bool, true, false, _||_}
 use mathlib.Core.Logic.{_⊎_, _≢_, inl, inr}
 use mathlib.Core.List.{List, [], _∷_, _++_, map, List·Memᴰ, List·Memᴰ·head, List·Memᴰ·tail, List·Memᴰ·not-nil, List·Memᴰ·cases-cons}
@@ -82,3 +82,12 @@ set-cases (x ∷ l) (suc p) (suc q) v = elim (set-cases l p q v) [ inl e ↦ inl
 -- a store over a 0 leaves every element that is not 0
 pub set-keeps : (l : List ℕ) (p v : ℕ) → getD l p 0 ≡ 0 → (q : ℕ) → getD l q 0 ≢ 0 → getD (set l p v) q 0 ≡ getD l q 0
 set-keeps l p v z q n = getD-set-other l p q v 0 (λ e. n (rw e z))
+
+-- a list of values with one value changed
+pub set-list : (f g : ℕ → ℕ) (k p v : ℕ) → p < k → v ≡ g p → ((q : ℕ) → q ≢ p → f q ≡ g q) → set (listBelow f k) p v ≡ listBelow g k
+unfolding listBelow
+set-list f g zero p v h e o = absurd (omega arith)
+set-list f g (suc k) zero v h e o =
+    ap₂ _∷_ e (list-same (λ i. f (suc i)) (λ i. g (suc i)) k (λ i l. o (suc i) (λ z. absurd (omega arith))))
+set-list f g (suc k) (suc p) v h e o =
+    ap₂ _∷_ (o 0 (λ z. absurd (omega arith))) (set-list (λ i. f (suc i)) (λ i. g (suc i)) k p v (le-of-suc-le-suc h) e (λ q n. o (suc q) (λ z. n (omega arith))))

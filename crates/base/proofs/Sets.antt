@@ -1,14 +1,14 @@
 -- Laws of a mask read as a set of places: what is in it, how many, and that none stands from a place on; the full mask,
--- what is in one of two masks, and whether one has all of the other. They hold at every width. Assumes nothing.
+-- what is in one of two masks and in both, and whether one has all of the other. They hold at every width. Assumes nothing.
 use mathlib.Core.Path.{_≡_, refl, sym, ap, _∙_}
 use mathlib.Core.Bool.{Bool, true, false, not, cond, _&&_, _||_}
-use Prim.Native.Nat.{ℕ, zero, suc, _+_, _-_, _*_, _/_, _%_, _^_, _≤_, _<_, max}
+use Prim.Native.Nat.{ℕ, zero, suc, _+_, _-_, _*_, _/_, _%_, _^_, _≤_, _<_, min, max}
 use native.Mathlib.Nat.{div-eq-of-lt, mod-lt, zero-div}
 use native.Mathlib.Decide.{decLt}
 use native.Mathlib.Omega.{arith}
 use lib.Dec.{eqb, leb, ltb}
 use lib.Pow.{pow-pos, pow-mono, split}
-use lib.Bits.{bitOr, or-lt}
+use lib.Bits.{bitOr, bitAnd, or-lt}
 use lib.Count.{ones}
 use borrow.Author.Tests.{eq-eqb, eqb-true, le-leb, leb-true, ltb-true, ltb-false, not-true}
 use Rattle.base.specs.Search.{anyBelow}
@@ -16,7 +16,7 @@ use Rattle.base.specs.Count.{countBelow}
 use Rattle.base.specs.Mask.{maskBelow, bitAt, inMask}
 use Rattle.base.proofs.Tests.{by-test, true-not-false, not-true-false, and-left, and-right, same-tests}
 use Rattle.base.proofs.Search.{any-false, any-false-at}
-use Rattle.base.proofs.Mask.{mask-below, mask-bit, mask-bit-past, ones-mask, bit-lt, bit-or, bit-not, bits-ext}
+use Rattle.base.proofs.Mask.{mask-below, mask-bit, mask-bit-past, ones-mask, bit-lt, bit-and, bit-or, bit-not, bits-ext}
 
 bit-test : (b : Bool) → eqb (cond b 1 0) 1 ≡ b
 bit-test true = refl
@@ -113,6 +113,19 @@ mask-or a b p = ap (λ (x : ℕ). eqb x 1) (bit-or a b p) ∙ either (bitAt a p)
     either (suc zero) (suc zero) h k = refl
     either (suc zero) (suc (suc y)) h k = absurd (omega arith)
     either (suc (suc x)) y h k = absurd (omega arith)
+
+-- what is in both of two masks
+pub mask-and : (a b p : ℕ) → inMask (bitAnd a b) p ≡ (inMask a p && inMask b p)
+mask-and a b p = ap (λ (x : ℕ). eqb x 1) (bit-and a b p) ∙ both (bitAt a p) (bitAt b p) (bit-lt a p) (bit-lt b p)
+  where
+    both : (x y : ℕ) → x < 2 → y < 2 → eqb (min x y) 1 ≡ (eqb x 1 && eqb y 1)
+    both zero zero h k = refl
+    both zero (suc zero) h k = refl
+    both zero (suc (suc y)) h k = absurd (omega arith)
+    both (suc zero) zero h k = refl
+    both (suc zero) (suc zero) h k = refl
+    both (suc zero) (suc (suc y)) h k = absurd (omega arith)
+    both (suc (suc x)) y h k = absurd (omega arith)
 
 -- a mask and a number of its width, joined
 pub mask-join : (w : ℕ) (f : ℕ → Bool) (m : ℕ) → m < 2 ^ w → bitOr (maskBelow f w) m ≡ maskBelow (λ p. f p || inMask m p) w

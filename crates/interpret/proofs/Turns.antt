@@ -1,16 +1,13 @@
 -- One turn of each loop, and what the loops' results make of a slot's record. Assumes nothing.
-use mathlib.Core.Path.{_≡_, refl, sym, ap, ap₂, _∙_}
-use mathlib.Core.Logic.{_≢_}
+use mathlib.Core.Path.{_≡_, refl, sym, ap, _∙_}
 use mathlib.Core.Bool.{Bool, true, false, cond}
 use mathlib.Core.List.{List, _∷_}
 use Prim.Native.Nat.{ℕ, zero, suc, _+_, _≤_, _<_}
-use native.Mathlib.Nat.{le-of-suc-le-suc}
 use native.Mathlib.Numerals.{add-one}
 use native.Mathlib.Omega.{arith}
 use lib.ListN.{getD, set}
 use borrow.Author.Tests.{eq-eqb, ne-eqb, lt-ltb}
-use Rattle.base.specs.List.{listBelow}
-use Rattle.base.proofs.List.{list-at, list-same}
+use Rattle.base.proofs.List.{list-at, set-list}
 use Rattle.setup.specs.Setup.{maxSites}
 use Rattle.broadcast.specs.declared.Kind.{Kind}
 use Rattle.broadcast.specs.declared.Kind.the-variants.{Send, Echo, Ready}
@@ -23,15 +20,6 @@ use Rattle.interpret.specs.Slot.{Direct, parentState, messagesOf, messag
 use Rattle.interpret.specs.Interpretation.{directAt}
 use Rattle.interpret.specs.Steps.{directsFirst, leastOf, lowest, lowestIn, heardFrom, parentFirst, stateAt}
 use Rattle.interpret.proofs.Lowest.{hear-sender}
-
--- a list of values with one value changed
-set-list : (f g : ℕ → ℕ) (k p v : ℕ) → p < k → v ≡ g p → ((q : ℕ) → q ≢ p → f q ≡ g q) → set (listBelow f k) p v ≡ listBelow g k
-unfolding listBelow
-set-list f g zero p v h e o = absurd (omega arith)
-set-list f g (suc k) zero v h e o =
-    ap₂ _∷_ e (list-same (λ i. f (suc i)) (λ i. g (suc i)) k (λ i l. o (suc i) (λ z. absurd (omega arith))))
-set-list f g (suc k) (suc p) v h e o =
-    ap₂ _∷_ (o 0 (λ z. absurd (omega arith))) (set-list (λ i. f (suc i)) (λ i. g (suc i)) k p v (le-of-suc-le-suc h) e (λ q n. o (suc q) (λ z. n (omega arith))))
 
 -- ---- the parent
 

@@ -1,15 +1,17 @@
 -- What the contracts of inner functions cite: what an entry point has tested. Nothing here need be believed.
 use mathlib.Core.Path.{_≡_}
 use mathlib.Core.Bool.{Bool, not, _&&_}
-use mathlib.Core.List.{[]}
+use mathlib.Core.List.{List, []}
 use Prim.Native.Nat.{ℕ, _/_, _^_, _≤_, _<_}
 use lib.Dec.{eqb}
 use lib.ListN.{length}
 use Rattle.base.specs.Bytes.{Bytes}
 use Rattle.base.specs.Search.{anyBelow}
+use Rattle.base.specs.List.{listBelow}
 use Rattle.base.specs.Mask.{maskBelow, inMask}
+use Rattle.setup.specs.Setup.{maxSites}
 use Rattle.table.specs.View.{maxPlaces, Row}
-use Rattle.table.specs.Layout.{tableSize, siteAt, sequenceAt, markAt, viewOf}
+use Rattle.table.specs.Layout.{tableSize, setupOf, siteAt, sequenceAt, markAt, viewOf}
 use Rattle.table.specs.Rules.{isParent, refersUninterpreted}
 
 -- a table of the right length, and a place of it
@@ -34,6 +36,19 @@ parentAt t site sequence j = isParent site sequence (siteAt t j) (sequenceAt t j
 -- the mask of the interpreted places below k
 abbrev pub marksBelow : Bytes → ℕ → ℕ
 marksBelow t k = maskBelow (λ j. eqb (markAt t j) 1) k
+
+-- the mask of the places below k of this site, and that of each site
+abbrev pub siteBelow : Bytes → ℕ → ℕ → ℕ
+siteBelow t site k = maskBelow (λ j. eqb (siteAt t j) site) k
+
+abbrev pub sitesBelow : Bytes → ℕ → List ℕ
+sitesBelow t k = listBelow (λ site. siteBelow t site k) maxSites
+
+-- what the check of a row asks of a caller: its site below n, and which of the lower places are interpreted and which of its own site
+pub record Met (t : Bytes) (i marked own : ℕ) : Type 0 where
+  pub site : siteAt t i < setupOf t .sites
+  pub marks : marked ≡ marksBelow t i
+  pub same : own ≡ siteBelow t (siteAt t i) i
 
 -- what the rule below asks of a caller: references to lower places only, and which of these are interpreted
 pub record Lower (t : Bytes) (i references marked : ℕ) : Type 0 where

@@ -1,12 +1,15 @@
 // Whether what a table holds is in form.
 use crate::rows;
 use crate::rules;
+use setup::MAX_SITES;
 ghost use mathlib.Core.Path.{_≡_};
+ghost use Prim.Native.Nat.{_≤_};
 ghost use lib.ListN.{length};
 ghost use Rattle.base.specs.Search.{allBelow};
+ghost use Rattle.setup.specs.Setup.{maxSites};
 ghost use Rattle.table.specs.Layout.{tableSize, setupOf, viewOf};
 ghost use Rattle.table.specs.Rules.{rowInForm, heldInForm};
-ghost use Rattle.table.specs.Steps.{Place, Places, Lower, marksBelow, marksClosed};
+ghost use Rattle.table.specs.Steps.{Place, Places, Lower, Met, marksClosed};
 
 // Whether all references of an interpreted place are interpreted, where `marked` is the mask of the lower places that are.
 fn marks_closed(table: &[u8], i: usize, references: u64, marked: u64) -> bool
@@ -20,16 +23,13 @@ fn marks_closed(table: &[u8], i: usize, references: u64, marked: u64) -> bool
     (marked | references) == marked
 }
 
-// Whether the row of place i is in form.
-fn row_in_form(table: &[u8], i: usize, marked: u64) -> bool
+// Whether the row of place i is in form, where its site is below n. Of the lower places `marked` is the mask of the interpreted ones and
+// `own` that of the row's own site: a parent is among these, so the parent rule goes over no other reference.
+fn row_in_form(table: &[u8], i: usize, marked: u64, own: u64) -> bool
     requires { ⌜ Place (now table) i ⌝ }
-    requires { ⌜ marked ≡ marksBelow (now table) i ⌝ }
+    requires { ⌜ Met (now table) i marked own ⌝ }
     ensures { λ r. ⌜ r ≡ rowInForm (setupOf (now (table .entry))) (viewOf (now (table .entry))) i ⌝ }
 {
-    let site = rows::site_at(table, i);
-    if rows::sites_of(table) <= site {
-        return false;
-    }
     if 1 < rows::mark_at(table, i) {
         return false;
     }
@@ -46,23 +46,39 @@ fn row_in_form(table: &[u8], i: usize, marked: u64) -> bool
     if !marks_closed(table, i, references, marked) {
         return false;
     }
-    rules::parent_rule(table, i, references, site, rows::sequence_at(table, i))
+    rules::parent_rule(
+        table,
+        i,
+        references & own,
+        rows::site_at(table, i),
+        rows::sequence_at(table, i),
+    )
 }
 
-// Whether every row below k is. The marks met so far are kept as a mask, so that no row looks through those below it.
+// Whether every row below k is. The marks met so far are kept as a mask, and the places met of each site as another, so that no row looks
+// through those below it.
 fn rows_in_form(table: &[u8], k: usize) -> bool
     requires { ⌜ Places (now table) k ⌝ }
+    requires { ⌜ setupOf (now table) .sites ≤ maxSites ⌝ }
     ensures { λ r. ⌜ r ≡ allBelow (rowInForm (setupOf (now (table .entry))) (viewOf (now (table .entry)))) k ⌝ }
 {
+    let n = base::wide(rows::sites_of(table));
     let mut marked: u64 = 0;
+    let mut of_site = [0u64; MAX_SITES];
     let mut i = 0;
     while i < k {
-        if !row_in_form(table, i, marked) {
+        let site = base::wide(rows::site_at(table, i));
+        if n <= site {
+            return false;
+        }
+        let own = of_site[site];
+        if !row_in_form(table, i, marked, own) {
             return false;
         }
         if rows::mark_at(table, i) == 1 {
             marked = marked | (1u64 << i);
         }
+        of_site[site] = own | (1u64 << i);
         i += 1;
     }
     true

@@ -5,6 +5,7 @@ use lib.Dec.{leb}
 use borrow.Author.Needs.{needs}
 use borrow.Author.Tests.{le-leb, lt-leb, not-true, not-false}
 use Rattle.setup.specs.Setup.{lawful}
+use Rattle.setup.proofs.Thresholds.{sites-few, sites-lawful}
 use Rattle.table.specs.View.{maxPlaces}
 use Rattle.table.specs.Layout.{setupOf, countOf}
 use Rattle.table.specs.Rules.{heldInForm}
@@ -46,5 +47,5 @@ held-in-form-spec =
     returns
     (λ c κs. search needs)
     returns-2
-    (λ c κs. search needs)
+    (λ c κs. let n = sites-few _ (sites-lawful _ (setup (c .before .before))) in search needs)
     returns-3)
