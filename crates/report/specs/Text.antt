@@ -22,16 +22,16 @@ space = 32
 abbrev pub lineFeed : ℕ
 lineFeed = 10
 
--- the digits of a number up to 9
+-- the digit of a number up to 9
 abbrev pub digit : ℕ → ℕ
 digit d = 48 + d
 
--- the decimal digits of n, the last one last; a number of at most `most` digits is whole
+-- the decimal digits of n, without leading zeros, where it has at most `most` of them
 unfoldable pub digits : ℕ → ℕ → Bytes
 digits zero n = []
 digits (suc most) n = elim (ltb n 10) [ true ↦ digit n ∷ [] | false ↦ digits most (n / 10) ++ (digit (n % 10) ∷ []) ]
 
--- no number has more digits than its successor says
+-- a number n has at most n + 1 digits
 unfoldable pub decimal : ℕ → Bytes
 decimal n = digits (suc n) n
 
@@ -48,6 +48,7 @@ fieldCount = 7
 unfoldable pub ending : ℕ → ℕ
 ending i = cond (eqb i (fieldCount - 1)) lineFeed space
 
+-- the seven values in the order of the names
 unfoldable pub line : List Field → Bytes
 line fields = joined (listBelow (λ i. fieldText (getD fields i (Number 0)) ++ (ending i ∷ [])) fieldCount)
 
