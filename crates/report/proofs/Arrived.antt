@@ -1,10 +1,12 @@
 -- One arrival, by what its two calls answer and leave: the site after it, its lines, and what a success shows of the buffers. Assumes nothing.
 use mathlib.Core.Path.{_≡_, sym, ap, ap₂, _∙_}
+use mathlib.Core.Bool.{false}
 use mathlib.Core.Logic.{_≢_}
 use mathlib.Core.List.{List}
 use Prim.Native.Nat.{ℕ, _≤_, _<_}
 use native.Mathlib.Omega.{arith}
 use borrow.Author.Tests.{eq-eqb, ne-eqb}
+use lib.Dec.{eqb}
 use lib.ListN.{length}
 use Rattle.base.specs.Bytes.{Bytes}
 use Rattle.block.specs.Limits.{headerSize}
@@ -20,62 +22,55 @@ use Rattle.admission.proofs.Promises.{sha256-promises}
 use Rattle.interpret.specs.Buffer.{bufferSize}
 use Rattle.interpret.specs.Interpretation.{interpretation, marked, recorded}
 use Rattle.interpret.proofs.Promises.{promises}
-use Rattle.agreement.specs.Run.{Site, siteAnswer, siteStep}
+use Rattle.agreement.specs.Run.{Site, siteAnswer}
+use Rattle.report.proofs.Calls.{number, second, passed-site, passed-refusal, refused-site, refused-refusal}
 use Rattle.report.specs.Text.{refusedLine}
-use Rattle.report.specs.Listing.{deliveryLines, siteArrived, arrivalRefusal, arrivalLines}
+use Rattle.report.specs.Listing.{deliveryLines, siteArrived, arrivalLines}
 
 -- the admission, its answer and the table after it
 module _ (x : Site) (b : Bytes) (verdict arrival : ℕ) (a : Answer) (t : Bytes) (first : a ≡ admission sha256 (x .table) b verdict)
-    (entered : t ≡ admitted sha256 (x .table) b verdict) where
-  abbrev first-number : ℕ
-  first-number = admission sha256 (x .table) b verdict .refusal
-
-  same-number : a .refusal ≡ first-number
+    (entering : t ≡ admitted sha256 (x .table) b verdict) where
+  same-number : a .refusal ≡ number x b verdict
   same-number = ap (λ (r : Answer). r .refusal) first
 
   module _ (refused : a .refusal ≢ 0) where
-    some : first-number ≢ 0
-    some e = refused (same-number ∙ e)
-
-    -- nothing has changed
-    stays : siteArrived sha256 x b verdict ≡ x
-    unfolding siteArrived siteAnswer
-    stays = rw (ne-eqb first-number 0 some)
+    fails : eqb (number x b verdict) 0 ≡ false
+    fails = ne-eqb (number x b verdict) 0 (λ e. refused (same-number ∙ e))
 
     pub refused-table : t ≡ siteArrived sha256 x b verdict .table
     unfolding admitted
-    refused-table = entered ∙ rw (ne-eqb first-number 0 some) (sym (ap (λ (y : Site). y .table) stays))
+    refused-table = entering ∙ rw fails (sym (ap (λ (y : Site). y .table) (refused-site x b verdict fails)))
 
     pub refused-records : x .records ≡ siteArrived sha256 x b verdict .records
-    refused-records = sym (ap (λ (y : Site). y .records) stays)
+    refused-records = sym (ap (λ (y : Site). y .records) (refused-site x b verdict fails))
 
     pub refused-lines : refusedLine arrival (a .refusal) ≡ arrivalLines sha256 x b verdict arrival
-    unfolding arrivalLines arrivalRefusal siteAnswer
-    refused-lines = rw (ne-eqb first-number 0 some, ne-eqb first-number 0 some, same-number)
+    unfolding arrivalLines
+    refused-lines = rw (refused-refusal x b verdict fails, fails, same-number)
 
   -- the interpretation, its answer and what it leaves
-  module _ (taken : a .refusal ≡ 0) (i : Answer) (u : Bytes) (r : List ℕ) (second : i ≡ interpretation t (x .records) (a .value))
+  module _ (taken : a .refusal ≡ 0) (i : Answer) (u : Bytes) (r : List ℕ) (interpreting : i ≡ interpretation t (x .records) (a .value))
       (marks : u ≡ marked t (x .records) (a .value)) (writes : r ≡ recorded t (x .records) (a .value)) where
-    none : first-number ≡ 0
+    none : number x b verdict ≡ 0
     none = sym same-number ∙ taken
 
-    abbrev second-number : ℕ
-    second-number = interpretation (admitted sha256 (x .table) b verdict) (x .records) (admission sha256 (x .table) b verdict .value) .refusal
-
-    same-second : i .refusal ≡ second-number
-    same-second = ap (λ (q : Answer). q .refusal) (second ∙ ap₂ (λ (t : Bytes) (a : Answer). interpretation t (x .records) (a .value)) entered first)
+    same-second : i .refusal ≡ second x b verdict
+    same-second = ap (λ (q : Answer). q .refusal) (interpreting ∙ ap₂ (λ (t : Bytes) (a : Answer). interpretation t (x .records) (a .value)) entering first)
 
     pub taken-table : u ≡ siteArrived sha256 x b verdict .table
-    unfolding siteArrived siteAnswer siteStep
-    taken-table = marks ∙ rw (eq-eqb first-number 0 none) (ap₂ (λ (t : Bytes) (a : Answer). marked t (x .records) (a .value)) entered first)
+    taken-table =
+        marks ∙ ap₂ (λ (t : Bytes) (a : Answer). marked t (x .records) (a .value)) entering first
+        ∙ sym (ap (λ (y : Site). y .table) (passed-site x b verdict none))
 
     pub taken-records : r ≡ siteArrived sha256 x b verdict .records
-    unfolding siteArrived siteAnswer siteStep
-    taken-records = writes ∙ rw (eq-eqb first-number 0 none) (ap₂ (λ (t : Bytes) (a : Answer). recorded t (x .records) (a .value)) entered first)
+    taken-records =
+        writes ∙ ap₂ (λ (t : Bytes) (a : Answer). recorded t (x .records) (a .value)) entering first
+        ∙ sym (ap (λ (y : Site). y .records) (passed-site x b verdict none))
 
     pub uninterpreted-lines : i .refusal ≢ 0 → refusedLine arrival (i .refusal) ≡ arrivalLines sha256 x b verdict arrival
-    unfolding arrivalLines arrivalRefusal siteAnswer siteStep
-    uninterpreted-lines refused = rw (eq-eqb first-number 0 none, ne-eqb second-number 0 (λ e. refused (same-second ∙ e)), same-second)
+    unfolding arrivalLines
+    uninterpreted-lines refused =
+        rw (passed-refusal x b verdict none, ne-eqb (second x b verdict) 0 (λ e. refused (same-second ∙ e)), same-second)
 
     -- the block that was admitted has a header, and its place that was interpreted is one of the table's
     pub header-there : headerSize ≤ length b
@@ -86,13 +81,13 @@ module _ (x : Site) (b : Bytes) (verdict arrival : ℕ) (a : Answer) (t : Bytes)
     module _ (interpreted : i .refusal ≡ 0) where
       pub place-there : (length r ≡ bufferSize) × (a .value < maxPlaces)
       place-there =
-          let h = promises .causes t (x .records) (a .value) .none .0 (ap (λ (q : Answer). q .refusal) (sym second) ∙ interpreted) .0 .isHeld in (
+          let h = promises .causes t (x .records) (a .value) .none .0 (ap (λ (q : Answer). q .refusal) (sym interpreting) ∙ interpreted) .0 .isHeld in (
             ap length writes ∙ promises .sized t (x .records) (a .value) ∙ h .isWhole .size,
             omega (arith, h .below, formed-places t (h .isWhole .formed) .bound),
           )
 
       pub delivered-lines : deliveryLines r arrival (a .value) (siteOf b) (sequenceOf b) ≡ arrivalLines sha256 x b verdict arrival
-      unfolding arrivalLines arrivalRefusal siteAnswer siteStep
+      unfolding arrivalLines siteAnswer
       delivered-lines =
-          rw (eq-eqb first-number 0 none, eq-eqb second-number 0 (sym same-second ∙ interpreted))
+          rw (passed-refusal x b verdict none, eq-eqb (second x b verdict) 0 (sym same-second ∙ interpreted))
           (ap₂ (λ (r : List ℕ) (a : Answer). deliveryLines r arrival (a .value) (siteOf b) (sequenceOf b)) taken-records first)
