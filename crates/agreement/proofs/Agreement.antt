@@ -1,5 +1,5 @@
 -- Agreement: in any collection of histories in which at most f sites forked, a slot has at most one number delivered. Assumes nothing.
-use mathlib.Core.Path.{_≡_, sym, ap, _∙_}
+use mathlib.Core.Path.{_≡_, refl, sym, _∙_, subst}
 use mathlib.Core.Logic.{_⊎_, _≢_, inl, inr}
 use mathlib.Core.Bool.{Bool, true, false}
 use mathlib.Core.List.{List·Memᴰ}
@@ -7,17 +7,17 @@ use Prim.Native.Nat.{ℕ, zero, suc, _+_, _-_, _≤_}
 use native.Mathlib.Omega.{arith}
 use lib.Dec.{leb}
 use borrow.Author.Tests.{leb-true, leb-false}
-use Rattle.base.specs.Bytes.{Bytes}
 use Rattle.base.specs.Count.{countBelow}
 use Rattle.base.proofs.Tests.{by-test, true-not-false}
 use Rattle.block.specs.Layout.{siteOf, sequenceOf}
 use Rattle.setup.specs.Setup.{Setup, lawfulSites, faults, echoQuorum}
 use Rattle.broadcast.specs.declared.SlotRecord.{SlotRecord}
 use Rattle.broadcast.specs.Process.{support}
+use Rattle.broadcast.proofs.Steps.{Entry, entryOf}
 use Rattle.broadcast.proofs.Steps.Entry.{echoEntry}
+use Rattle.broadcast.proofs.Kept.{Kept, kept-same, kept-both}
 use Rattle.broadcast.proofs.Quorum.{supporters-meet}
-use Rattle.interpret.specs.Slot.{parentState}
-use Rattle.agreement.specs.History.{History, Histories, node, blockOf, children, isParentOf, Ancestor, direct, further, slotRecord, directs}
+use Rattle.agreement.specs.History.{History, node, blockOf, children, isParentOf, Ancestor, direct, further, slotRecord}
 use Rattle.agreement.proofs.Histories.{AncestorOrSelf, parent-site, parent-sequence, parent-cases}
 use Rattle.agreement.proofs.Meanings.{record-kept}
 use Rattle.agreement.proofs.Validity.{heard-echo, delivered-quorum}
@@ -36,29 +36,34 @@ above-in world (direct m) w = world .closed _ _ w m
 above-in world (further k m) w = above-in world k (world .closed _ _ w m)
 
 module _ (s : Setup) (slot : ℕ) (W : History → Type 0) (forks : ℕ → Bool) (world : World W forks) where
-  echo-kept : (v : ℕ) → v ≢ 0 → (b : Bytes) (hs : Histories) → parentState (siteOf b) (sequenceOf b) (directs s slot hs) .sent .echo ≡ v
-      → slotRecord s slot (node b hs) .sent .echo ≡ v
-  echo-kept v n b hs e = record-kept s slot b hs .sent-kept echoEntry (λ z. n (sym e ∙ z)) ∙ e
-
-  -- the ECHO that a block of a site that has not forked has sent, its later blocks have sent
-  chain : (v : ℕ) → v ≢ 0 → (p : ℕ) → forks p ≡ false → (k : History) → W k → siteOf (blockOf k) ≡ p → slotRecord s slot k .sent .echo ≡ v
-      → (d : ℕ) (c : History) → W c → siteOf (blockOf c) ≡ p → sequenceOf (blockOf c) ≡ d + sequenceOf (blockOf k) → slotRecord s slot c .sent .echo ≡ v
-  chain v n p u k wk sk e zero c wc sc q =
-      let same : c ≡ k = world .single c k wc wk (sc ∙ sym sk) (rw sc u) (omega arith) in rw same e
-  chain v n p u k wk sk e (suc d) (node b hs) wc sc q = elim (parent-cases s slot b hs) [
-    | inl w ↦ echo-kept v n b hs (ap (λ (r : SlotRecord). r .sent .echo) (w .its) ∙ chain v n p u k wk sk e d (w .parent)
-        (world .closed _ _ wc (w .among)) (parent-site b (blockOf (w .parent)) (w .isParent) ∙ sc) (omega (arith, parent-sequence b (blockOf (w .parent)) (w .isParent))))
+  -- what a block of a site that has not forked has sent, heard or delivered stays in its later blocks
+  chain : (p : ℕ) → forks p ≡ false → (k : History) → W k → siteOf (blockOf k) ≡ p
+      → (d : ℕ) (c : History) → W c → siteOf (blockOf c) ≡ p → sequenceOf (blockOf c) ≡ d + sequenceOf (blockOf k)
+      → Kept (slotRecord s slot k) (slotRecord s slot c)
+  chain p u k wk sk zero c wc sc q =
+      let same : c ≡ k = world .single c k wc wk (sc ∙ sym sk) (rw sc u) (omega arith) in rw same (kept-same (slotRecord s slot k))
+  chain p u k wk sk (suc d) (node b hs) wc sc q = elim (parent-cases s slot b hs) [
+    | inl w ↦ kept-both (slotRecord s slot k) (slotRecord s slot (w .parent)) (slotRecord s slot (node b hs))
+        (chain p u k wk sk d (w .parent) (world .closed _ _ wc (w .among)) (parent-site b (blockOf (w .parent)) (w .isParent) ∙ sc)
+        (omega (arith, parent-sequence b (blockOf (w .parent)) (w .isParent))))
+        (subst (λ (r : SlotRecord). Kept r (slotRecord s slot (node b hs))) (w .its) (record-kept s slot b hs))
     | inr w ↦ elim (world .parented (node b hs) wc) [ inl z ↦ absurd (omega arith) | inr z ↦ true-not-false (z .2) (w .none-is (z .0) (z .1)) ]
   ]
 
-  -- so all its blocks that have sent an ECHO have sent one number
-  one-echo : (v w p : ℕ) → v ≢ 0 → w ≢ 0 → forks p ≡ false → (k c : History) → W k → W c → siteOf (blockOf k) ≡ p → siteOf (blockOf c) ≡ p
-      → slotRecord s slot k .sent .echo ≡ v → slotRecord s slot c .sent .echo ≡ w → v ≡ w
-  one-echo v w p n m u k c wk wc sk sc e g = by-test (leb (sequenceOf (blockOf k)) (sequenceOf (blockOf c)))
-      (λ t. sym (chain v n p u k wk sk e (sequenceOf (blockOf c) - sequenceOf (blockOf k)) c wc sc (omega (arith, leb-true))) ∙ g)
-      (λ t. sym e ∙ chain w m p u c wc sc g (sequenceOf (blockOf k) - sequenceOf (blockOf c)) k wk sk (omega (arith, leb-false)))
+  pub later-kept : (k c : History) → W k → W c → siteOf (blockOf k) ≡ siteOf (blockOf c) → forks (siteOf (blockOf c)) ≡ false
+      → sequenceOf (blockOf k) ≤ sequenceOf (blockOf c) → Kept (slotRecord s slot k) (slotRecord s slot c)
+  later-kept k c wk wc e u h =
+      chain (siteOf (blockOf c)) u k wk e (sequenceOf (blockOf c) - sequenceOf (blockOf k)) c wc refl (omega arith)
 
-  orSelf-in : {a h : History} → AncestorOrSelf a h → W h → W a
+  -- so all its blocks that have sent a SEND, an ECHO or a READY, or have delivered, have one number there
+  pub one-sent : (e : Entry) (v w p : ℕ) → v ≢ 0 → w ≢ 0 → forks p ≡ false → (k c : History) → W k → W c → siteOf (blockOf k) ≡ p → siteOf (blockOf c) ≡ p
+      → entryOf e (slotRecord s slot k .sent) ≡ v → entryOf e (slotRecord s slot c .sent) ≡ w → v ≡ w
+  one-sent e v w p n m u k c wk wc sk sc x y = by-test (leb (sequenceOf (blockOf k)) (sequenceOf (blockOf c)))
+      (λ t. sym x ∙ sym (later-kept k c wk wc (sk ∙ sym sc) (rw sc u) (leb-true _ _ t) .sent-kept e (λ z. n (sym x ∙ z))) ∙ y)
+      (λ t. let low : sequenceOf (blockOf c) ≤ sequenceOf (blockOf k) = omega (arith, leb-false) in
+      sym x ∙ later-kept c k wc wk (sc ∙ sym sk) (rw sk u) low .sent-kept e (λ z. m (sym y ∙ z)) ∙ y)
+
+  pub orSelf-in : {a h : History} → AncestorOrSelf a h → W h → W a
   orSelf-in (inl e) w = rw e w
   orSelf-in (inr k) w = above-in world k w
 
@@ -70,7 +75,7 @@ module _ (s : Setup) (slot : ℕ) (W : History → Type 0) (forks : ℕ → Bool
         let p = supporters-meet (s .sites) law (slotRecord s slot g .echoes) (slotRecord s slot h .echoes) v w forks qg qh few in
         let k = heard-echo s slot g (p .0) v n (p .2) in
         let c = heard-echo s slot h (p .0) w m (p .3) in
-        one-echo v w (p .0) n m (p .4) (k .sender) (c .sender) (above-in world (k .above) wg) (above-in world (c .above) wh) (k .bySite) (c .bySite) (k .sends) (c .sends)
+        one-sent echoEntry v w (p .0) n m (p .4) (k .sender) (c .sender) (above-in world (k .above) wg) (above-in world (c .above) wh) (k .bySite) (c .bySite) (k .sends) (c .sends)
 
     pub agreement : (g h : History) → W g → W h → (v w : ℕ) → v ≢ 0 → w ≢ 0
         → slotRecord s slot g .sent .delivered ≡ v → slotRecord s slot h .sent .delivered ≡ w → v ≡ w

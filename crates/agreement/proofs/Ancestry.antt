@@ -140,7 +140,7 @@ module _ (digest : Bytes → Bytes) where
   -- ---- the children of a block's history
 
   module _ (bs : List Bytes) (g : Grown bs) (b : Bytes) (m : List·Memᴰ b bs) where
-    referred-held : (r : Bytes) → List·Memᴰ r (referencesOf b) → Holds digest bs r
+    pub referred-held : (r : Bytes) → List·Memᴰ r (referencesOf b) → Holds digest bs r
     referred-held r k =
         let w = admitted-in bs g b m in
         let x = w .1 .linked r k in

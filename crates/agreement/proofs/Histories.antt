@@ -4,7 +4,9 @@ use mathlib.Core.Path.{_≡_, refl, sym, ap, _∙_, subst}
 use mathlib.Core.Logic.{_⊎_, inl, inr}
 use mathlib.Core.Bool.{true, false}
 use mathlib.Core.List.{List·Memᴰ, List·Memᴰ·head, List·Memᴰ·tail, List·Memᴰ·not-nil, List·Memᴰ·cases-cons}
-use Prim.Native.Nat.{ℕ, _+_}
+use Prim.Native.Nat.{ℕ, _+_, _≤_}
+use native.Mathlib.Nat.{le-refl}
+use native.Mathlib.Omega.{arith}
 use lib.Dec.{eqb}
 use borrow.Author.Tests.{eqb-true}
 use Rattle.base.specs.Bytes.{Bytes}
@@ -56,6 +58,23 @@ parent-site b a e = eqb-true _ _ (and-left (eqb (siteOf a) (siteOf b)) _ e)
 
 pub parent-sequence : (b a : Bytes) → isParentOf b a ≡ true → sequenceOf a + 1 ≡ sequenceOf b
 parent-sequence b a e = eqb-true _ _ (and-right (eqb (siteOf a) (siteOf b)) _ e)
+
+-- ---- a block's chain: itself, its parent and so on
+
+pub data InChain : History → History → Type 0 where
+  itself : {h : History} → InChain h h
+  earlier : {a c h : History} → InChain a c → List·Memᴰ c (children h) → isParentOf (blockOf h) (blockOf c) ≡ true → InChain a h
+
+pub chain-orSelf : {a h : History} → InChain a h → AncestorOrSelf a h
+chain-orSelf itself = inl refl
+chain-orSelf (earlier k m e) = inr (orSelf-trans (chain-orSelf k) (direct m))
+
+pub chain-sequence : {a h : History} → InChain a h → sequenceOf (blockOf a) ≤ sequenceOf (blockOf h)
+chain-sequence (itself {h = h}) = le-refl (sequenceOf (blockOf h))
+chain-sequence (earlier {a = a} {c = c} {h = h} k m e) =
+    let low : sequenceOf (blockOf a) ≤ sequenceOf (blockOf c) = chain-sequence k in
+    let next : sequenceOf (blockOf c) + 1 ≡ sequenceOf (blockOf h) = parent-sequence (blockOf h) (blockOf c) e in
+    omega arith
 
 -- ---- the blocks directly referred to
 

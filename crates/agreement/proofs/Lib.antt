@@ -6,6 +6,7 @@ pub mod Validity
 pub mod Agreement
 pub mod Found
 pub mod Ancestry
+pub mod Forks
 pub mod Worlds
 pub mod Same
 pub mod Entered

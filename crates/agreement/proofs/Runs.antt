@@ -135,11 +135,11 @@ module _ (digest : Bytes → Bytes) (sized : (b : Bytes) → length (digest b) �
             (λ n. part-other (x .records) new i new-length fits j (eqb-false j i n) ∙ t .shown j h (sym (ap (λ (z : Bool). cond z 1 (l .mark j)) n) ∙ m))
 
     -- what the call does to the ledger, and what a refused call does to the site
-    passed : (c : Call) → siteAnswer digest x c .refusal ≡ 0 → ledgerStep digest s size l c ≡ taken l c
+    pub passed : (c : Call) → siteAnswer digest x c .refusal ≡ 0 → ledgerStep digest s size l c ≡ taken l c
     unfolding ledgerStep
     passed c e = let z : ledgerAnswer digest s size l c .refusal ≡ 0 = ap (λ (a : Answer). a .refusal) (sym (same c)) ∙ e in rw (eq-eqb _ 0 z)
 
-    refused : (c : Call) → siteAnswer digest x c .refusal ≢ 0 → ledgerStep digest s size l c ≡ l
+    pub refused : (c : Call) → siteAnswer digest x c .refusal ≢ 0 → ledgerStep digest s size l c ≡ l
     unfolding ledgerStep
     refused c n = rw (ne-eqb (ledgerAnswer digest s size l c .refusal) 0 (λ z. n (ap (λ (a : Answer). a .refusal) (same c) ∙ z)))
 

@@ -47,7 +47,7 @@ module _ (digest : Bytes → Bytes) (sized : (b : Bytes) → length (digest b) �
   unfolding freshTable
   fresh-is = rw law
 
-  start : (buffer : List ℕ) → Together digest sized s (length buffer) empty (started s buffer)
+  pub start : (buffer : List ℕ) → Together digest sized s (length buffer) empty (started s buffer)
   unfolding newest
   start buffer =
       let e : Empty s (freshTable s .table) = subst (Empty s) (sym fresh-is) (table-promises .empty s law) in

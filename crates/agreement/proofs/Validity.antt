@@ -2,6 +2,7 @@
 -- an ancestor, and the slot's owner requested it in an ancestor. Assumes nothing.
 use mathlib.Core.Path.{_≡_, refl, sym, _∙_}
 use mathlib.Core.Logic.{_≢_, inl, inr}
+use mathlib.Core.Bool.{true}
 use mathlib.Core.List.{List·Memᴰ}
 use Prim.Native.Nat.{ℕ, _≤_}
 use native.Mathlib.Nat.{le-trans}
@@ -19,8 +20,8 @@ use Rattle.broadcast.proofs.Steps.Entry.{sendEntry, echoEntry, readyEntry, deli
 use Rattle.broadcast.proofs.Support.{supporter}
 use Rattle.broadcast.proofs.Sound.{Sound, blank-sound, nothingMade-sound, request-sound, receiveAll-sound, sound-more}
 use Rattle.interpret.specs.Slot.{parentState, messages, interpretSlot}
-use Rattle.agreement.specs.History.{History, Histories, node, blockOf, listOf, children, Ancestor, direct, further, slotRecord, directs}
-use Rattle.agreement.proofs.Histories.{child-ind, ancestor-ind, ancestor-trans, AncestorOrSelf, orSelf-trans, message-from, parent-cases}
+use Rattle.agreement.specs.History.{History, Histories, node, blockOf, listOf, children, isParentOf, Ancestor, direct, further, slotRecord, directs}
+use Rattle.agreement.proofs.Histories.{child-ind, ancestor-ind, ancestor-trans, AncestorOrSelf, orSelf-trans, InChain, itself, earlier, chain-orSelf, message-from, parent-cases}
 use Rattle.agreement.proofs.Meanings.{record-made}
 
 module _ (s : Setup) (slot : ℕ) where
@@ -31,12 +32,12 @@ module _ (s : Setup) (slot : ℕ) where
     bySite : siteOf (blockOf maker) ≡ p
     makes : madeOf k (slotRecord s slot maker) ≡ v
 
-  -- a request of the owner, in h or in an ancestor
-  record Requested (h : History) (v : ℕ) : Type 0 where
-    requester : History
-    above : AncestorOrSelf requester h
-    byOwner : siteOf (blockOf requester) ≡ ownerOf s slot
-    requests : requestFor (blockOf requester) slot ≡ v
+  -- a request of the owner, in h's chain
+  pub record Requested (h : History) (v : ℕ) : Type 0 where
+    pub requester : History
+    pub inChain : InChain requester h
+    pub byOwner : siteOf (blockOf requester) ≡ ownerOf s slot
+    pub requests : requestFor (blockOf requester) slot ≡ v
 
   abbrev SoundFor : History → SlotRecord → Type 0
   SoundFor h r = Sound (s .sites) (ownerOf s slot) (Made h) (Requested h) r
@@ -44,9 +45,9 @@ module _ (s : Setup) (slot : ℕ) where
   made-below : (c h : History) → List·Memᴰ c (children h) → (k : Kind) (p v : ℕ) → Made c k p v → Made h k p v
   made-below c h m k p v f = record { maker = f .maker; above = further (f .above) m; bySite = f .bySite; makes = f .makes }
 
-  requested-below : (c h : History) → List·Memᴰ c (children h) → (v : ℕ) → Requested c v → Requested h v
-  requested-below c h m v f =
-      record { requester = f .requester; above = inr (orSelf-trans (f .above) (direct m)); byOwner = f .byOwner; requests = f .requests }
+  requested-below : (c h : History) → List·Memᴰ c (children h) → isParentOf (blockOf h) (blockOf c) ≡ true → (v : ℕ) → Requested c v → Requested h v
+  requested-below c h m p v f =
+      record { requester = f .requester; inChain = earlier (f .inChain) m p; byOwner = f .byOwner; requests = f .requests }
 
   -- ---- every record is sound
 
@@ -54,7 +55,7 @@ module _ (s : Setup) (slot : ℕ) where
       → SoundFor (node b hs) (parentState (siteOf b) (sequenceOf b) (directs s slot hs))
   parent-sound b hs ih = elim (parent-cases s slot b hs) [
     | inl w ↦ rw (w .its) (sound-more (s .sites) (ownerOf s slot) _ _ _ _ (made-below (w .parent) (node b hs) (w .among))
-        (requested-below (w .parent) (node b hs) (w .among)) _ (ih (w .parent) (w .among)))
+        (requested-below (w .parent) (node b hs) (w .among) (w .isParent)) _ (ih (w .parent) (w .among)))
     | inr w ↦ rw (w .blank-is) (blank-sound (s .sites) (ownerOf s slot) _ _)
   ]
 
@@ -65,7 +66,7 @@ module _ (s : Setup) (slot : ℕ) where
       receiveAll-sound (s .sites) (ownerOf s slot) _ _ (messages (s .sites) (directs s slot hs)) _
       (λ m j. let f = message-from s slot hs m j in record { maker = f .child; above = direct (f .among); bySite = f .bySite; makes = f .makes })
       (request-sound (s .sites) (ownerOf s slot) _ _ (siteOf b) (requestFor b slot) _
-      (λ own. record { requester = node b hs; above = inl refl; byOwner = own; requests = refl })
+      (λ own. record { requester = node b hs; inChain = itself; byOwner = own; requests = refl })
       (nothingMade-sound (s .sites) (ownerOf s slot) _ _ _ (parent-sound b hs ih)))
 
   sound : (h : History) → SoundFor h (slotRecord s slot h)
@@ -139,16 +140,28 @@ module _ (s : Setup) (slot : ℕ) where
   requested-above a h v (inr k) f =
       record { requester = f .requester; above = ancestor-trans (f .above) k; byOwner = f .byOwner; requests = f .requests }
 
+  -- a SEND was requested in the chain, and an ECHO has a SEND of the owner
+  pub send-requested : (h : History) (v : ℕ) → v ≢ 0 → slotRecord s slot h .sent .send ≡ v → Requested h v
+  send-requested h v n e = rw e at (sound h .sent-backed sendEntry (λ z. n (sym e ∙ z)))
+
+  pub echo-send : (h : History) (v : ℕ) → v ≢ 0 → slotRecord s slot h .sent .echo ≡ v → SentAbove h Send (ownerOf s slot) v
+  echo-send h v n e = sent-above h Send (ownerOf s slot) v n (rw e at (sound h .sent-backed echoEntry (λ z. n (sym e ∙ z))))
+
   pub echo-requested : (h : History) (v : ℕ) → v ≢ 0 → slotRecord s slot h .sent .echo ≡ v → RequestedAbove h v
   echo-requested h v n e =
-      let f = sent-above h Send (ownerOf s slot) v n (rw e at (sound h .sent-backed echoEntry (λ z. n (sym e ∙ z)))) in
-      let g : Requested (f .sender) v = rw (f .sends) at (sound (f .sender) .sent-backed sendEntry (λ z. n (sym (f .sends) ∙ z))) in
-      record { requester = g .requester; above = orSelf-trans (g .above) (f .above); byOwner = g .byOwner; requests = g .requests }
+      let f = echo-send h v n e in
+      let g = send-requested (f .sender) v n (f .sends) in
+      record { requester = g .requester; above = orSelf-trans (chain-orSelf (g .inChain)) (f .above); byOwner = g .byOwner; requests = g .requests }
+
+  -- one of the quorum's ECHOs
+  pub quorum-echo : (h : History) (v : ℕ) → v ≢ 0 → (q : EchoQuorum h v) → (p : ℕ) × SentAbove (q .at) Echo p v
+  quorum-echo h v n q =
+      let p = supporter (s .sites) (slotRecord s slot (q .at) .echoes) v (le-trans (echo-quorum-some (s .sites)) (q .enough)) in
+      (p .0, heard-echo (q .at) (p .0) v n (p .2))
 
   quorum-requested : (h : History) (v : ℕ) → v ≢ 0 → EchoQuorum h v → RequestedAbove h v
   quorum-requested h v n q =
-      let p = supporter (s .sites) (slotRecord s slot (q .at) .echoes) v (le-trans (echo-quorum-some (s .sites)) (q .enough)) in
-      let f = heard-echo (q .at) (p .0) v n (p .2) in
+      let f = quorum-echo h v n q .1 in
       requested-above (q .at) h v (q .above) (requested-above (f .sender) (q .at) v (inr (f .above)) (echo-requested (f .sender) v n (f .sends)))
 
   -- what a block delivers the slot's owner requested in an ancestor of that block

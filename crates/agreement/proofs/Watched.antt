@@ -1,6 +1,6 @@
 -- What the watch says of a table that calls reached: its forked sites and its ancestors are the ledger's. Assumes nothing.
 use mathlib.Core.Path.{_≡_, refl, sym, ap, _∙_, subst}
-use mathlib.Core.Bool.{Bool, true, false, not, _&&_}
+use mathlib.Core.Bool.{true}
 use mathlib.Core.Logic.{_↔_, inl, inr}
 use mathlib.Core.List.{List, List·Memᴰ}
 use Prim.Native.Nat.{ℕ, _≤_, _<_}
@@ -9,12 +9,9 @@ use native.Mathlib.Omega.{arith}
 use native.Mathlib.Decide.{decLt}
 use lib.Dec.{eqb}
 use lib.ListN.{length}
-use borrow.Author.Tests.{eq-eqb, eqb-true, lt-ltb, not-true}
-use Rattle.base.specs.Bytes.{Bytes, sameBytes}
-use Rattle.base.specs.List.{someIn}
-use Rattle.base.proofs.Tests.{and-left, and-right, same-tests}
-use Rattle.base.proofs.List.{some-found, some-at}
-use Rattle.base.proofs.Bytes.{other-same, same-other}
+use borrow.Author.Tests.{eq-eqb, eqb-true, lt-ltb}
+use Rattle.base.specs.Bytes.{Bytes}
+use Rattle.base.proofs.Tests.{and-right, same-tests}
 use Rattle.block.specs.Layout.{siteOf, sequenceOf, referencesOf}
 use Rattle.setup.specs.Setup.{Setup, lawful}
 use Rattle.sha256.specs.Sha256.{sha256}
@@ -30,6 +27,7 @@ use Rattle.agreement.specs.Ledger.{Call, Ledger}
 use Rattle.agreement.specs.Run.{Site}
 use Rattle.agreement.specs.Promises.{forked, ledgerOf, siteWith}
 use Rattle.agreement.specs.Watched.{NamedAncestor, WatchKeeps}
+use Rattle.agreement.proofs.Forks.{Fork, fork-forked, forked-fork}
 use Rattle.agreement.proofs.Tied.{Tied}
 use Rattle.agreement.proofs.Standing.{Standing, standing}
 use Rattle.agreement.proofs.Theorem.{run}
@@ -43,30 +41,29 @@ module _ (digest : Bytes → Bytes) (s : Setup) (size : ℕ) (l : Ledger) (x : S
 
   -- ---- forks
 
-  of-site : (p i : ℕ) → i < l .held → siteOf (l .block i) ≡ p → ofSite (viewOf table) everywhere p i ≡ true
+  pub of-site : (p i : ℕ) → i < l .held → siteOf (l .block i) ≡ p → ofSite (viewOf table) everywhere p i ≡ true
   of-site p i h e = rw (lt-ltb i maxPlaces (stand .fits i h), eq-eqb (siteAt table i) p (t .rows i (stand .counted i h) .site ∙ e))
 
-  site-of : (p i : ℕ) → i < l .held → ofSite (viewOf table) everywhere p i ≡ true → siteOf (l .block i) ≡ p
+  pub site-of : (p i : ℕ) → i < l .held → ofSite (viewOf table) everywhere p i ≡ true → siteOf (l .block i) ≡ p
   site-of p i h e = sym (t .rows i (stand .counted i h) .site) ∙ eqb-true (siteAt table i) p (and-right (everywhere i) (eqb (siteAt table i) p) e)
 
-  -- two different blocks of a site with one sequence number
-  abbrev twice : ℕ → Bytes → Bytes → Bool
-  twice p a b = eqb (siteOf a) p && (eqb (siteOf b) p && (eqb (sequenceOf a) (sequenceOf b) && not (sameBytes a b)))
-
   shared-forked : (p : ℕ) → Shares (viewOf table) everywhere p → forked (l .blocks) p ≡ true
-  unfolding forked
   shared-forked p w =
       let i : ℕ = w .one in
       let j : ℕ = w .other in
       let hj : j < l .held = omega (arith, w .held, t .count) in
       let hi : i < l .held = omega (arith, hj, w .different) in
-      let q : sequenceOf (l .block i) ≡ sequenceOf (l .block j) =
-      sym (t .rows i (stand .counted i hi) .sequence) ∙ w .sequence ∙ t .rows j (stand .counted j hj) .sequence in
-      let n : sameBytes (l .block i) (l .block j) ≡ false = other-same (l .block i) (l .block j) (λ e.
-      stand .row j hj .new i (w .different) (t .rows i (stand .counted i hi) .digest ∙ ap digest e ∙ sym (t .rows j (stand .counted j hj) .digest))) in
-      let y : twice p (l .block i) (l .block j) ≡ true =
-      rw (eq-eqb _ p (site-of p i hi (w .oneOf)), eq-eqb _ p (site-of p j hj (w .otherOf)), eq-eqb _ _ q, n) in
-      some-at (λ a. someIn (twice p a) (l .blocks)) (l .blocks) (l .block i) (stand .among i hi) (some-at (twice p (l .block i)) (l .blocks) (l .block j) (stand .among j hj) y)
+      fork-forked (l .blocks) p (record {
+        one = l .block i;
+        other = l .block j;
+        oneAmong = stand .among i hi;
+        otherAmong = stand .among j hj;
+        oneSite = site-of p i hi (w .oneOf);
+        otherSite = site-of p j hj (w .otherOf);
+        sequence = sym (t .rows i (stand .counted i hi) .sequence) ∙ w .sequence ∙ t .rows j (stand .counted j hj) .sequence;
+        different = λ e.
+            stand .row j hj .new i (w .different) (t .rows i (stand .counted i hi) .digest ∙ ap digest e ∙ sym (t .rows j (stand .counted j hj) .digest));
+      })
 
   -- at places that rise
   sharing : (p i j : ℕ) → i < j → j < l .held → siteOf (l .block i) ≡ p → siteOf (l .block j) ≡ p → sequenceOf (l .block i) ≡ sequenceOf (l .block j)
@@ -83,30 +80,24 @@ module _ (digest : Bytes → Bytes) (s : Setup) (size : ℕ) (l : Ledger) (x : S
         sequence = t .rows i (stand .counted i hi) .sequence ∙ q ∙ sym (t .rows j (stand .counted j h) .sequence);
       }
 
-  two-places : (p : ℕ) (a b : Bytes) → (i : ℕ) × (i < l .held) × (a ≡ l .block i) → (j : ℕ) × (j < l .held) × (b ≡ l .block j) → twice p a b ≡ true
+  two-places : (p : ℕ) (f : Fork (l .blocks) p) → (i : ℕ) × (i < l .held) × (f .one ≡ l .block i) → (j : ℕ) × (j < l .held) × (f .other ≡ l .block j)
       → Shares (viewOf table) everywhere p
-  two-places p a b (i, h, u) (j, k, w) y =
-      let sa : siteOf (l .block i) ≡ p = ap siteOf (sym u) ∙ eqb-true _ _ (and-left (eqb (siteOf a) p) _ y) in
-      let y₁ = and-right (eqb (siteOf a) p) _ y in
-      let sb : siteOf (l .block j) ≡ p = ap siteOf (sym w) ∙ eqb-true _ _ (and-left (eqb (siteOf b) p) _ y₁) in
-      let y₂ = and-right (eqb (siteOf b) p) _ y₁ in
-      let q : sequenceOf (l .block i) ≡ sequenceOf (l .block j) =
-      ap sequenceOf (sym u) ∙ eqb-true _ _ (and-left (eqb (sequenceOf a) (sequenceOf b)) _ y₂) ∙ ap sequenceOf w in
-      let n : a ≡ b → ⊥ = same-other a b (not-true _ (and-right (eqb (sequenceOf a) (sequenceOf b)) _ y₂)) in
+  two-places p f (i, h, u) (j, k, w) =
+      let sa : siteOf (l .block i) ≡ p = ap siteOf (sym u) ∙ f .oneSite in
+      let sb : siteOf (l .block j) ≡ p = ap siteOf (sym w) ∙ f .otherSite in
+      let q : sequenceOf (l .block i) ≡ sequenceOf (l .block j) = ap sequenceOf (sym u) ∙ f .sequence ∙ ap sequenceOf w in
       elim (decLt i j) [
         | yes d ↦ sharing p i j d k sa sb q
         | no g ↦ let le : j ≤ i = omega arith in elim (eq-or-lt-of-le le) [
-          | inl e ↦ absurd (n (u ∙ ap (l .block) (sym e) ∙ sym w))
+          | inl e ↦ absurd (f .different (u ∙ ap (l .block) (sym e) ∙ sym w))
           | inr d ↦ sharing p j i d h sb sa (sym q)
         ]
       ]
 
   forked-shared : (p : ℕ) → forked (l .blocks) p ≡ true → Shares (viewOf table) everywhere p
-  unfolding forked
   forked-shared p e =
-      let u = some-found (λ a. someIn (twice p a) (l .blocks)) (l .blocks) e in
-      let w = some-found (twice p (u .0)) (l .blocks) (u .2) in
-      two-places p (u .0) (w .0) (stand .placed (u .0) (u .1)) (stand .placed (w .0) (w .1)) (w .2)
+      let f = forked-fork (l .blocks) p e in
+      two-places p f (stand .placed (f .one) (f .oneAmong)) (stand .placed (f .other) (f .otherAmong))
 
   -- ---- ancestors
 

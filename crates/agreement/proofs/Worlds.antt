@@ -2,29 +2,19 @@
 -- history of each sequence number, and so a slot has one number. Assumes nothing.
 use mathlib.Core.Path.{_≡_, refl, sym, ap, _∙_}
 use mathlib.Core.Logic.{_⊎_, _≢_, inl, inr}
-use mathlib.Core.Bool.{true, false}
+use mathlib.Core.Bool.{true}
 use mathlib.Core.List.{List, _++_, List·Memᴰ, Memᴰ·append-left, Memᴰ·append-right, Memᴰ·cast}
 use Prim.Native.Nat.{ℕ, _≤_}
-use borrow.Author.Tests.{eq-eqb}
-use Rattle.base.specs.Bytes.{Bytes, sameBytes}
+use Rattle.base.specs.Bytes.{Bytes}
 use Rattle.base.specs.Count.{countBelow}
-use Rattle.base.proofs.Tests.{by-test, true-not-false}
-use Rattle.base.proofs.List.{some-at}
-use Rattle.base.proofs.Bytes.{same-equal}
 use Rattle.block.specs.Layout.{siteOf, sequenceOf}
 use Rattle.setup.specs.Setup.{Setup, lawfulSites, faults}
 use Rattle.agreement.specs.History.{History, blockOf, children, isParentOf, slotRecord}
 use Rattle.agreement.specs.Ancestry.{historyOf}
 use Rattle.agreement.specs.Promises.{forked, NoCollision}
 use Rattle.agreement.proofs.Ancestry.{Grown, find-agree, history-found, child-of, child-parent}
+use Rattle.agreement.proofs.Forks.{unforked-single}
 use Rattle.agreement.proofs.Agreement.{World, agreement}
-
--- a site that has not forked has one block of each sequence number
-unforked : (bs : List Bytes) (p : ℕ) → forked bs p ≡ false → (a b : Bytes) → List·Memᴰ a bs → List·Memᴰ b bs
-    → siteOf a ≡ p → siteOf b ≡ p → sequenceOf a ≡ sequenceOf b → a ≡ b
-unfolding forked
-unforked bs p u a b ma mb sa sb q = by-test (sameBytes a b) (λ t. same-equal a b t) (λ t.
-    true-not-false (some-at _ bs a ma (some-at _ bs b mb (rw (eq-eqb _ _ sa, eq-eqb _ _ sb, eq-eqb _ _ q, t)))) u)
 
 module _ (digest : Bytes → Bytes) where
   -- the history of one of the blocks
@@ -47,6 +37,15 @@ module _ (digest : Bytes → Bytes) where
     | inl z ↦ inl z
     | inr p ↦ inr (p .0, rw (w .is) (p .1), p .2)
   ]
+
+  -- the histories of one list of blocks
+  pub one-world : (bs : List Bytes) → Grown digest bs → World (HistoryIn bs) (forked bs)
+  one-world bs g = record {
+    closed = child-in bs g;
+    parented = parent-in bs g;
+    single = λ h k x y s u q.
+        x .is ∙ ap (historyOf digest bs) (unforked-single bs (siteOf (blockOf h)) u (blockOf h) (blockOf k) (x .among) (y .among) refl (sym s) q) ∙ sym (y .is);
+  }
 
   -- the histories of one block by two lists are the same
   pub history-agree : (bs cs : List Bytes) → Grown digest bs → Grown digest cs → ((a b : Bytes) → List·Memᴰ a bs → List·Memᴰ b cs → digest a ≡ digest b → a ≡ b)
@@ -85,7 +84,7 @@ module _ (digest : Bytes → Bytes) where
     world = record {
       closed = child-either;
       parented = parent-either;
-      single = λ h k x y s u q. one-history h k x y (unforked (bs ++ cs) (siteOf (blockOf h)) u (blockOf h) (blockOf k) (among-both h x) (among-both k y) refl (sym s) q);
+      single = λ h k x y s u q. one-history h k x y (unforked-single (bs ++ cs) (siteOf (blockOf h)) u (blockOf h) (blockOf k) (among-both h x) (among-both k y) refl (sym s) q);
     }
 
     pub one-delivery : (s : Setup) → lawfulSites (s .sites) ≡ true → countBelow (forked (bs ++ cs)) (s .sites) ≤ faults (s .sites) → (slot : ℕ) (g h : History) → Either g → Either h

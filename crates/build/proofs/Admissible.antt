@@ -27,7 +27,8 @@ use Rattle.build.specs.Promises.{Asked, Admissible}
 use Rattle.build.proofs.Sequence.{greatest-site, greatest-before, greatest-only}
 use Rattle.build.proofs.Picked.{pickedAt, picked-held, picked-own, greatest-first}
 use Rattle.build.proofs.Fits.{one-place, as-many-references, reference-at, next-reads}
-use Rattle.build.proofs.Shown.{shown-site, shown-sequence, shown-count, shown-reference, listed-reference, reference-listed}
+use Rattle.build.proofs.Fields.{next-site, next-numbered}
+use Rattle.build.proofs.Shown.{shown-count, shown-reference, listed-reference, reference-listed}
 
 module _ (seen : ℕ → Bool) (t : Bytes) (p : ℕ) (requests : Bytes) (all : AllBytes t) (allRequests : AllBytes requests) (asked : Asked t p requests) where
   abbrev v : View
@@ -51,12 +52,10 @@ module _ (seen : ℕ → Bool) (t : Bytes) (p : ℕ) (requests : Bytes) (all : A
   -- ---- what its bytes show
 
   of-site : siteOf block ≡ p
-  unfolding nextContent
-  of-site = shown-site block next reads
+  of-site = next-site seen v p requests
 
   of-sequence : sequenceOf block ≡ nextSequence seen v p
-  unfolding nextContent
-  of-sequence = shown-sequence block next reads
+  of-sequence = next-numbered seen v p requests
 
   count-picked : referenceCount block ≡ length (picked seen v p)
   count-picked = shown-count block next reads ∙ as-many-references seen t p requests

@@ -1,10 +1,12 @@
 -- The places that the next block refers to: at most 16, all held, all different. Those of the site itself are its greatest, and where it has
--- a held block, a greatest one comes first. Assumes nothing.
+-- a held block, a greatest one comes first. The others come in place order: where one is picked, so is each that stands lower.
+-- Assumes nothing.
 use mathlib.Core.Path.{_≡_, sym, ap, _∙_}
 use mathlib.Core.Bool.{Bool, true, not, _&&_}
 use mathlib.Core.Logic.{_≢_, _⊎_, inl, inr}
-use mathlib.Core.List.{List, _++_, List·Memᴰ, List·Memᴰ·append-cases, Memᴰ·cast}
+use mathlib.Core.List.{List, _++_, List·Memᴰ, List·Memᴰ·append-cases, Memᴰ·append-right, Memᴰ·cast}
 use Prim.Native.Nat.{ℕ, _≤_, _<_}
+use native.Mathlib.Decide.{decLt}
 use native.Mathlib.Omega.{arith}
 use lib.Dec.{eqb}
 use lib.ListN.{length, getD, length-append, length-take, List·getD-append}
@@ -82,3 +84,49 @@ module _ (seen : ℕ → Bool) (v : View) (p : ℕ) where
         omega (arith, length-append greatest others, length-take maxReferences (greatest ++ others)),
         ap (isGreatest seen v p) first ∙ passing-from (isGreatest seen v p) (v .held) _ (at-member greatest 0 0 some) .1,
       )
+
+  -- ---- "in place order"
+
+  -- of two others the lower one comes first
+  abbrev InOrder : ℕ → ℕ → Type 0
+  InOrder x y = isOther seen v p x ≡ true → isOther seen v p y ≡ true → x < y
+
+  greatest-no-other : (x : ℕ) → List·Memᴰ x greatest → isOther seen v p x ≡ true → ⊥
+  greatest-no-other x m y = other-site x y (greatest-site seen v p x (passing-from (isGreatest seen v p) (v .held) x m .1))
+
+  in-order : Pairwise InOrder (greatest ++ others)
+  in-order =
+      pairwise-append InOrder greatest others
+      (λ i j h l x y. absurd (greatest-no-other _ (at-member greatest i 0 l) y))
+      (λ i j h l x y. passing-rises (isOther seen v p) (v .held) i j h l)
+      (λ x y m n z. absurd (greatest-no-other x m z))
+
+  -- entry k of the front is entry k of the two lists
+  front-at : (k : ℕ) → k < length (picked seen v p) → pickedAt k ≡ getD (greatest ++ others) k 0
+  unfolding picked
+  front-at k h = getD-take maxReferences (greatest ++ others) k 0 (omega (arith, length-take maxReferences (greatest ++ others)))
+
+  -- where one of the others is picked, so is each that stands lower
+  pub picked-lower : (i j : ℕ) → List·Memᴰ i (picked seen v p) → v .row i .site ≢ p → j < i → isOther seen v p j ≡ true → List·Memᴰ j (picked seen v p)
+  picked-lower i j m other h y = go (member-at (picked seen v p) i 0 m)
+    where
+      is-other : (k : ℕ) → k < length (picked seen v p) → pickedAt k ≡ i → (i < v .held) × (isOther seen v p i ≡ true)
+      is-other k l e = elim (picked-cases k l) [
+        | inl g ↦ absurd (other (greatest-site seen v p i (passing-from (isGreatest seen v p) (v .held) i (Memᴰ·cast (sym e) g) .1)))
+        | inr o ↦ passing-from (isOther seen v p) (v .held) i (Memᴰ·cast (sym e) o)
+      ]
+
+      go : (k : ℕ) × (k < length (picked seen v p)) × (pickedAt k ≡ i) → List·Memᴰ j (picked seen v p)
+      go (k, l, e) =
+          let o = is-other k l e in
+          let u = member-at (greatest ++ others) j 0 (Memᴰ·append-right greatest (passing-has (isOther seen v p) (v .held) j (omega (arith, o .0)) y)) in
+          let here : getD (greatest ++ others) k 0 ≡ i = sym (front-at k l) ∙ e in
+          elim (decLt (u .0) k) [
+            | yes d ↦ let low : u .0 < length (picked seen v p) = omega arith in
+                Memᴰ·cast (sym (u .2) ∙ sym (front-at (u .0) low)) (at-member (picked seen v p) (u .0) 0 low)
+            | no n ↦ elim (decLt k (u .0)) [
+              | yes d ↦ let rises : i < j = rw (here, u .2) at (in-order (u .0) k d (u .1) (rw here (o .1)) (rw (u .2) y)) in absurd (omega arith)
+              | no q ↦ let same : u .0 ≡ k = omega arith in
+                  let equal : i ≡ j = sym here ∙ ap (λ (x : ℕ). getD (greatest ++ others) x 0) (sym same) ∙ u .2 in absurd (omega arith)
+            ]
+          ]

@@ -1,6 +1,7 @@
 -- Building keeps its promises, whichever places are looked at. Assumes nothing.
 use mathlib.Core.Path.{_≡_, sym, ap, _∙_, subst}
 use mathlib.Core.Bool.{Bool}
+use mathlib.Core.Logic.{inl}
 use Prim.Native.Nat.{ℕ, _+_}
 use native.Mathlib.Omega.{arith}
 use lib.ListN.{length, take, drop}
@@ -24,6 +25,10 @@ module _ (seen : ℕ → Bool) (t : Bytes) (p : ℕ) (requests output : Bytes) (
 
   front : take (length block) (after seen t p requests output) ≡ block
   front = ap (take (length block)) written ∙ splice-part-in output 0 block (omega arith)
+
+  -- the block that building hands out
+  pub built-block : take (answer seen t p requests output .value) (after seen t p requests output) ≡ block
+  built-block = ap (λ (n : ℕ). take n (after seen t p requests output)) (value seen t p requests output (inl done)) ∙ front
 
   rest : drop (length block) (after seen t p requests output) ≡ drop (length block) output
   rest =

@@ -1,6 +1,6 @@
 -- The sequence number of a site's next block. In a table in form a block's sequence number is at most its place, for its parent stands lower
--- with the number one less; so the next one is at most the count. Where it is not 0, a held block of the site is the greatest, and only one
--- is where the site did not fork. Assumes nothing.
+-- with the number one less; so the next one is at most the count. It is above that of every held block of the site; where it is not 0, a held
+-- block of the site is the greatest, and only one is where the site did not fork. Assumes nothing.
 use mathlib.Core.Path.{_≡_, sym}
 use mathlib.Core.Bool.{Bool, true, false, cond, _&&_}
 use mathlib.Core.Logic.{_≢_, _⊎_, inl, inr}
@@ -17,7 +17,7 @@ use Rattle.table.proofs.Views.{Held, row-form}
 use Rattle.watch.specs.Forks.{ofSite}
 use Rattle.watch.specs.Promises.{Shares}
 use Rattle.build.specs.Building.{sequenceAfter, nextSequence, isGreatest}
-use Rattle.build.proofs.Greatest.{greatest-within, greatest-reached}
+use Rattle.build.proofs.Greatest.{greatest-bounds, greatest-within, greatest-reached}
 
 -- ---- in a table in form
 
@@ -67,6 +67,13 @@ module _ (seen : ℕ → Bool) (v : View) (p : ℕ) where
 
   pub greatest-before : (i : ℕ) → isGreatest seen v p i ≡ true → v .row i .sequence + 1 ≡ nextSequence seen v p
   greatest-before i y = eqb-true _ _ (and-right (ofSite v seen p i) (eqb (v .row i .sequence + 1) (nextSequence seen v p)) y)
+
+  -- every held block of the site has a lower one
+  pub next-above : (i : ℕ) → i < v .held → ofSite v seen p i ≡ true → v .row i .sequence < nextSequence seen v p
+  unfolding nextSequence
+  next-above i h y =
+      let own : sequenceAfter seen v p i ≡ v .row i .sequence + 1 = rw y in
+      omega (arith, own, greatest-bounds (sequenceAfter seen v p) (v .held) i h)
 
   pub some-greatest : nextSequence seen v p ≢ 0 → (i : ℕ) × (i < v .held) × (isGreatest seen v p i ≡ true)
   unfolding nextSequence

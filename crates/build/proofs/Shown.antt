@@ -1,5 +1,5 @@
--- What the bytes of a block show, where they read to a content: its site, its sequence number and its references in their order, and so when
--- a digest is among them. Assumes nothing.
+-- What the bytes of a block show, where they read to a content: its references in their order, and so when a digest is among them.
+-- Assumes nothing.
 use mathlib.Core.Path.{_≡_, sym, ap, _∙_, subst}
 use mathlib.Core.Bool.{true}
 use mathlib.Core.List.{[], List·Memᴰ}
@@ -8,7 +8,7 @@ use native.Mathlib.Omega.{arith}
 use lib.ListN.{length, getD}
 use Rattle.base.specs.Bytes.{Bytes}
 use Rattle.base.proofs.Members.{at-member, member-at}
-use Rattle.block.specs.Layout.{Content, siteOf, sequenceOf, referenceCount, referenceList, referenceAt, content, contentOf}
+use Rattle.block.specs.Layout.{Content, referenceCount, referenceList, referenceAt, content, contentOf}
 use Rattle.block.specs.Reading.{fieldsOf}
 use Rattle.block.specs.Codec.{Reads}
 use Rattle.block.specs.Steps.{Shaped}
@@ -21,14 +21,6 @@ use Rattle.admission.proofs.Listed.{lists-member, member-lists}
 module _ (b : Bytes) (c : Content) (r : Reads b c) where
   shape : Shaped b
   shape = reading-accepted b (fieldsOf b) (r .accepted) .accepted .shape
-
-  pub shown-site : siteOf b ≡ c .site
-  unfolding contentOf content
-  shown-site = ap (λ (x : Content). x .site) (r .content)
-
-  pub shown-sequence : sequenceOf b ≡ c .sequence
-  unfolding contentOf content
-  shown-sequence = ap (λ (x : Content). x .sequence) (r .content)
 
   pub shown-count : referenceCount b ≡ length (c .references)
   unfolding contentOf content

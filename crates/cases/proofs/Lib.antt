@@ -12,3 +12,6 @@ pub mod Starred
 pub mod Thresholds
 pub mod Traps
 pub mod Premises
+mod Covered
+pub mod Arrival
+pub mod Builders

@@ -29,10 +29,11 @@ use Rattle.agreement.specs.Run.{siteAnswer, siteStep, siteAfter, siteAnswers}
 use Rattle.cases.specs.Toy.{seen, toy, block}
 use Rattle.cases.specs.Run.{tableAfter, answers, arriving}
 use Rattle.cases.specs.Blocks.{fresh, unlawful, first, fork, second, both, stranger, third, fourth, later, echoing, readying, delivering, numbered, four, holding}
-use Rattle.cases.specs.Starred.{chained, twoEchoes, twoReadies, thirdReady}
+use Rattle.cases.specs.Starred.{chained, twoEchoes, twoReadies, thirdReady, thirteen}
 use Rattle.cases.specs.Thresholds.{oneReady, oneMoreReady, threeReadies, fourOfFiveEchoes, twoReadiesOfFive, thirdReadyOfFive, ownReady, fiveReadies}
 use Rattle.cases.specs.Traps.{echoingTwin, readyingTwin, otherEchoing, otherReadying, twinEchoes, oneSender, sameSender, idle, afterIdle, besideIdle, bothReversed, mixedEchoes, readyingThree, twoSlots}
 use Rattle.cases.specs.Premises.{forkEchoing, turning, turned, firstTurns, secondTurns}
+use Rattle.cases.specs.Arrival.{branch, echoingBeside, readyingBeside, deliveringBeside, newcomer}
 use Rattle.cases.proofs.Told.{claimed, answerInForm, told, ledgerFrom, allMarked, madeBy}
 
 -- `unfolding openedBlocks` opens what this line names: the blocks of the cases
@@ -40,7 +41,7 @@ unfoldable pub openedBlocks : Bool
 unfolding joined encode seen toy block first fork second both stranger third fourth later echoing readying delivering numbered chained twoEchoes
     twoReadies thirdReady oneReady oneMoreReady threeReadies fourOfFiveEchoes twoReadiesOfFive thirdReadyOfFive ownReady fiveReadies echoingTwin
     readyingTwin otherEchoing otherReadying twinEchoes oneSender sameSender idle afterIdle besideIdle bothReversed mixedEchoes readyingThree
-    twoSlots forkEchoing turning turned
+    twoSlots forkEchoing turning turned branch echoingBeside readyingBeside deliveringBeside newcomer
 openedBlocks = true
 
 -- what a ledger's answers and its blocks' meanings are computed by
@@ -49,7 +50,7 @@ unfolding openedBlocks firstBelow anyBelow allBelow countBelow maskBelow listBel
     ownersBelow lawful faults echoQuorum readyAmplification readyQuorum ones onesIn madeOf support onlyIf readyOnEchoes readyOnReadies
     deliverOnReadies takeSend takeEcho takeReady take receive receiveAll request parents parentRule answerTo parentState insert insertIf numbers
     messagesOf messages interpretSlot taken slotRecord directs found gather find historyOf fresh arriving claimed answerInForm told ledgerFrom
-    allMarked madeBy firstTurns secondTurns
+    allMarked madeBy firstTurns secondTurns thirteen
 openedLedger = true
 
 -- what a table's answers are computed by

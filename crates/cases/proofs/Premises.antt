@@ -25,10 +25,10 @@ use Rattle.cases.proofs.Opened.{openedLedger}
 
 -- ---- a test of all pairs shows that no two different blocks share a digest
 
-unfoldable collision : List Bytes → Bool
+unfoldable pub collision : List Bytes → Bool
 collision blocks = someIn (λ a. someIn (λ b. sameBytes (toy a) (toy b) && not (sameBytes a b)) blocks) blocks
 
-no-collision : (blocks : List Bytes) → collision blocks ≡ false → NoCollision toy blocks
+pub no-collision : (blocks : List Bytes) → collision blocks ≡ false → NoCollision toy blocks
 unfolding collision
 no-collision blocks n a b m k e = by-test (sameBytes a b) (λ y. same-equal a b y)
     (λ z. true-not-false (some-at _ blocks a m (some-at _ blocks b k (rw (equal-same (toy a) (toy b) e, z)))) n)
@@ -60,7 +60,7 @@ second-told : told (sites 4) empty (callsOf secondTurns) (answersOf secondTurns)
 unfolding openedLedger
 second-told = refl
 
-lawful-setup : lawful (sites 4) ≡ true
+pub lawful-setup : lawful (sites 4) ≡ true
 unfolding openedLedger
 lawful-setup = refl
 

@@ -33,7 +33,7 @@ use Rattle.agreement.specs.Promises.{Interpreted, historyAt, ledgerOf, siteWith
 use Rattle.agreement.proofs.Meanings.{record-sized}
 use Rattle.agreement.proofs.Theorem.{promised}
 use Rattle.cases.specs.Toy.{toy}
-use Rattle.cases.specs.Run.{at, answers, Turn, callsOf, answersOf, Session, Step, arriving, Campaign}
+use Rattle.cases.specs.Run.{zeros, at, answers, Turn, callsOf, answersOf, ledgerLeft, Session, Step, arriving, Campaign}
 use Rattle.cases.proofs.Toy.{toyDigest}
 
 -- ---- the ledger, told by answers
@@ -128,12 +128,30 @@ site-answers s law calls ys e = ap (λ (x : Site). siteAnswers toy x calls) (sym
 pub session : (s : Setup) (turns : List Turn) → lawful s ≡ true → told s empty (callsOf turns) (answersOf turns) ≡ answersOf turns → Session s turns
 session s turns law e = record { answered = site-answers s law (callsOf turns) (answersOf turns) e }
 
--- the ledger that the turns leave, and whether it has k places, all of them marked
+-- the ledger that the turns leave
 unfoldable pub ledgerFrom : List Turn → Ledger
 ledgerFrom turns = claimed empty (callsOf turns) (answersOf turns)
 
+pub ledger-left : (s : Setup) (turns : List Turn) → lawful s ≡ true → told s empty (callsOf turns) (answersOf turns) ≡ answersOf turns
+    → ledgerLeft s turns ≡ ledgerFrom turns
+unfolding ledgerFrom
+ledger-left s turns law e = ledger-told s law zeros (whole 0) (callsOf turns) (answersOf turns) e
+
+-- a ledger has k places, all of them marked
 unfoldable pub allMarked : Ledger → ℕ → Bool
 allMarked l k = eqb (l .held) k && allBelow (λ i. eqb (l .mark i) 1) k
+
+module _ (l : Ledger) (k : ℕ) (e : allMarked l k ≡ true) where
+  pub marked-held : l .held ≡ k
+  unfolding allMarked
+  marked-held = eqb-true (l .held) k (search and-left)
+
+  pub marked-interpreted : (i : ℕ) → i < k → Interpreted l i
+  unfolding allMarked
+  marked-interpreted i h = record {
+    below = rw marked-held h;
+    mark = eqb-true (l .mark i) 1 (all-true-at (λ j. eqb (l .mark j) 1) k (search and-right) i h);
+  }
 
 -- what the meanings of the blocks at the first k places have as made
 unfoldable pub madeBy : Setup → ℕ → Ledger → ℕ → List Sent
@@ -145,23 +163,15 @@ pub campaign : (s : Setup) (slot : ℕ) (steps : List Step) → lawful s ≡ tru
     → allMarked (ledgerFrom (arriving 0 steps)) (length steps) ≡ true
     → madeBy s slot (ledgerFrom (arriving 0 steps)) (length steps) ≡ map (λ x. x .makes) steps
     → Campaign s slot steps
-unfolding ledgerFrom allMarked madeBy
+unfolding ledgerFrom madeBy
 campaign s slot steps law h e marks made =
     record {
       taken = session s turns law e;
       recorded = list-same _ _ (length steps) (λ i l. ap (λ (r : SlotRecord). r .made)
           (ap (λ (x : Site). recordIn (siteAfter toy x (callsOf turns) .records) i slot) (sym (start s law))
-          ∙ record-told s law _ (whole 0) (callsOf turns) (answersOf turns) e i slot h (interpreted i l))) ∙ made;
+          ∙ record-told s law _ (whole 0) (callsOf turns) (answersOf turns) e i slot h
+          (marked-interpreted (ledgerFrom turns) (length steps) marks i l))) ∙ made;
     }
   where
     turns : List Turn
     turns = arriving 0 steps
-
-    held : ledgerFrom turns .held ≡ length steps
-    held = eqb-true (ledgerFrom turns .held) (length steps) (search and-left)
-
-    interpreted : (i : ℕ) → i < length steps → Interpreted (ledgerFrom turns) i
-    interpreted i l = record {
-      below = omega (arith, held);
-      mark = eqb-true (ledgerFrom turns .mark i) 1 (all-true-at (λ j. eqb (ledgerFrom turns .mark j) 1) (length steps) (search and-right) i l);
-    }

@@ -11,3 +11,5 @@ pub mod Starred
 pub mod Thresholds
 pub mod Traps
 pub mod Premises
+pub mod Arrival
+pub mod Builders

@@ -13,9 +13,10 @@ use Rattle.broadcast.specs.Record.{none, withSend, withEcho, withReady, withDel
 use Rattle.table.specs.Fresh.{emptyTable}
 use Rattle.table.specs.Checks.{success}
 use Rattle.interpret.specs.Buffer.{bufferSize, recordIn}
-use Rattle.agreement.specs.Ledger.{Call}
+use Rattle.agreement.specs.Ledger.{Call, Ledger}
 use Rattle.agreement.specs.Ledger.Call.{admit, interpret}
 use Rattle.agreement.specs.Run.{Site, siteAfter, siteAnswers}
+use Rattle.agreement.specs.Promises.{ledgerOf, siteWith}
 use Rattle.cases.specs.Toy.{toy}
 
 -- ---- calls and answers
@@ -37,9 +38,13 @@ done = success 0
 
 -- ---- runs
 
--- a table, with a record buffer of zeros
+-- a record buffer of zeros
+abbrev pub zeros : List ℕ
+zeros = replicate bufferSize 0
+
+-- a table, with such a buffer
 abbrev pub at : Bytes → Site
-at t = record { table = t; records = replicate bufferSize 0 }
+at t = record { table = t; records = zeros }
 
 module _ (digest : Bytes → Bytes) where
   -- the table that a run leaves
@@ -65,6 +70,13 @@ callsOf turns = map (λ t. t .call) turns
 
 abbrev pub answersOf : List Turn → List Answer
 answersOf turns = map (λ t. t .answer) turns
+
+-- what the calls leave in a ledger, and at a site of this setup
+abbrev pub ledgerLeft : Setup → List Turn → Ledger
+ledgerLeft s turns = ledgerOf toy s zeros (callsOf turns)
+
+abbrev pub siteLeft : Setup → List Turn → Site
+siteLeft s turns = siteWith toy s zeros (callsOf turns)
 
 -- at a site of this setup each call gets its answer
 pub record Session (s : Setup) (turns : List Turn) : Type 0 where

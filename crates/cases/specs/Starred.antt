@@ -1,13 +1,13 @@
 -- Document 01, "Small skies to try": those marked *, in its order. The digest is the toy one.
 use mathlib.Core.Path.{_≡_}
-use mathlib.Core.List.{[], _∷_}
+use mathlib.Core.List.{List, [], _∷_}
 use Prim.Native.Nat.{ℕ, zero, suc}
 use Rattle.base.specs.Bytes.{Bytes}
 use Rattle.broadcast.specs.Record.{none}
 use Rattle.table.specs.Checks.{refused}
 use Rattle.agreement.specs.Ledger.Call.{interpret}
 use Rattle.cases.specs.Toy.{toy, request, block}
-use Rattle.cases.specs.Run.{good, placed, answers, Campaign, _making_, sends, echoes, readies, delivers}
+use Rattle.cases.specs.Run.{good, placed, answers, Campaign, Step, _making_, sends, echoes, readies, delivers}
 use Rattle.cases.specs.Blocks.{sites, fresh, first, fork, both, threeSites, fourSites, echoing, readying, delivering}
 
 -- each refers to the one before, and the first requests 7 in slot 0
@@ -26,6 +26,24 @@ twoReadies = block 3 0 (toy (readying threeSites 0) ∷ toy (readying threeSites
 unfoldable pub thirdReady : Bytes
 thirdReady = block 3 1 (toy twoReadies ∷ toy (readying threeSites 2) ∷ []) []
 
+-- all four sites go from the first block's request to delivery
+unfoldable pub thirteen : List Step
+thirteen =
+    first making sends 42
+    ∷ echoing 0 making echoes 42
+    ∷ echoing 1 making echoes 42
+    ∷ echoing 2 making echoes 42
+    ∷ echoing 3 making echoes 42
+    ∷ readying fourSites 0 making readies 42
+    ∷ readying fourSites 1 making readies 42
+    ∷ readying fourSites 2 making readies 42
+    ∷ readying fourSites 3 making readies 42
+    ∷ delivering fourSites 0 making delivers 42
+    ∷ delivering fourSites 1 making delivers 42
+    ∷ delivering fourSites 2 making delivers 42
+    ∷ delivering fourSites 3 making delivers 42
+    ∷ []
+
 pub record StarredCases : Type 0 where
   -- "Empty table, interpret place 0: 13"
   pub nothingHeld : answers toy fresh (interpret 0 ∷ []) ≡ refused 13 0 ∷ []
@@ -37,21 +55,7 @@ pub record StarredCases : Type 0 where
       ∷ chained 3 making delivers 7
       ∷ [])
   -- "n 4, owner 0 requests 42; four blocks refer to it, four to all of those, four to all of these: ECHO, READY, delivery; 13 blocks"
-  pub thirteenBlocks : Campaign (sites 4) 0
-      (first making sends 42
-      ∷ echoing 0 making echoes 42
-      ∷ echoing 1 making echoes 42
-      ∷ echoing 2 making echoes 42
-      ∷ echoing 3 making echoes 42
-      ∷ readying fourSites 0 making readies 42
-      ∷ readying fourSites 1 making readies 42
-      ∷ readying fourSites 2 making readies 42
-      ∷ readying fourSites 3 making readies 42
-      ∷ delivering fourSites 0 making delivers 42
-      ∷ delivering fourSites 1 making delivers 42
-      ∷ delivering fourSites 2 making delivers 42
-      ∷ delivering fourSites 3 making delivers 42
-      ∷ [])
+  pub thirteenBlocks : Campaign (sites 4) 0 thirteen
   -- "n 4, two ECHOs heard: no READY; three: READY"
   pub echoesHeard : Campaign (sites 4) 0
       (first making sends 42

@@ -1,14 +1,17 @@
--- What a block's record takes over from its parent's, that each entry is made at most once in the blocks of a chain, that every message is
--- heard, and that the rules by which the heard are counted have been followed. Assumes nothing.
-use mathlib.Core.Path.{_≡_, refl, _∙_}
+-- What a block's record takes over from its parent's, that each entry is made at most once in the blocks of a chain, that the owner's first
+-- counted request is sent, that every message is heard, and that the rules by which the heard are counted have been followed.
+-- Assumes nothing.
+use mathlib.Core.Path.{_≡_, refl, sym, ap, _∙_}
 use mathlib.Core.Logic.{_≢_, inl, inr}
 use mathlib.Core.List.{List, List·Memᴰ}
 use Prim.Native.Nat.{ℕ, _≤_, _<_}
+use lib.Dec.{eqb}
+use borrow.Author.Tests.{eq-eqb, ne-eqb}
 use Rattle.setup.specs.Setup.{maxSites, Setup, ownerOf}
 use Rattle.broadcast.specs.declared.Kind.{Kind}
 use Rattle.broadcast.specs.declared.SlotRecord.{SlotRecord}
-use Rattle.broadcast.specs.Record.{none, nothingMade}
-use Rattle.broadcast.specs.Process.{message, madeOf, request}
+use Rattle.broadcast.specs.Record.{none, nothingMade, withSend, inBoth}
+use Rattle.broadcast.specs.Process.{message, madeOf, onlyIf, request}
 use Rattle.broadcast.proofs.Steps.{Entry, entryOf, Sized, blank-sized, nothingMade-sized, request-sized}
 use Rattle.broadcast.proofs.Steps.Entry.{sendEntry, echoEntry, readyEntry, deliveryEntry}
 use Rattle.broadcast.proofs.Kept.{Kept, kept-both, nothingMade-kept, request-kept, receiveAll-kept, MadeOnce, once-both, request-once, receiveAll-once}
@@ -18,7 +21,7 @@ use Rattle.interpret.specs.Slot.{Direct, parentState, messages, interpre
 use Rattle.interpret.proofs.Messages.{messages-has}
 use Rattle.interpret.proofs.Order.{parentState-keeps}
 
-none-made : (e : Entry) → entryOf e none ≡ 0
+pub none-made : (e : Entry) → entryOf e none ≡ 0
 none-made sendEntry = refl
 none-made echoEntry = refl
 none-made readyEntry = refl
@@ -50,6 +53,17 @@ module _ (s : Setup) (slot site sequence v : ℕ) (ds : List Direct) where
     | inl a ↦ absurd (n (a .made-same ∙ none-made e))
     | inr a ↦ (a .made-sent, a .none-before)
   ]
+
+  -- a counted request of the owner is sent where none was before
+  pub interpretSlot-sends : site ≡ ownerOf s slot → v ≢ 0 → parentState site sequence ds .sent .send ≡ 0
+      → interpretSlot s slot site sequence v ds .made .send ≡ v
+  unfolding interpretSlot request onlyIf
+  interpretSlot-sends own some z =
+      let started : start ≡ inBoth (withSend v) (nothingMade (parentState site sequence ds)) = rw (ne-eqb v 0 some, eq-eqb site (ownerOf s slot) own, eq-eqb _ 0 z) in
+      elim (receiveAll-once (s .sites) (ownerOf s slot) (messages (s .sites) ds) start sendEntry) [
+        | inl a ↦ a .made-same ∙ ap (λ (r : SlotRecord). r .made .send) started
+        | inr a ↦ absurd (some (sym (ap (λ (r : SlotRecord). r .sent .send) started) ∙ a .none-before))
+      ]
 
   -- what a block referred to made is heard
   pub interpretSlot-heard : s .sites ≤ maxSites → ((d : Direct) → List·Memᴰ d ds → Sized (d .state)) → (k : Kind) (d : Direct) → List·Memᴰ d ds

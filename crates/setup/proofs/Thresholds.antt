@@ -36,6 +36,22 @@ pub echo-quorums-meet : (n : ℕ) → lawfulSites n ≡ true → n + faults n < 
 unfolding faults echoQuorum
 echo-quorums-meet n e = ltb-true _ _ (at-each (λ n. ltb (n + faults n) (2 * echoQuorum n)) refl refl refl refl refl refl n e)
 
+sites-some : (n : ℕ) → lawfulSites n ≡ true → 0 < n
+sites-some n e = ltb-true _ _ (at-each (λ n. ltb 0 n) refl refl refl refl refl refl n e)
+
+-- f is less than a third of the sites, so the n - f others are enough for either quorum
+faults-few : (n : ℕ) → lawfulSites n ≡ true → 3 * faults n < n
+unfolding faults
+faults-few n e = omega (arith, sites-some n e)
+
+pub echo-quorum-reached : (n : ℕ) → lawfulSites n ≡ true → echoQuorum n ≤ n - faults n
+unfolding echoQuorum
+echo-quorum-reached n e = omega (arith, faults-few n e)
+
+pub ready-quorum-reached : (n : ℕ) → lawfulSites n ≡ true → readyQuorum n ≤ n - faults n
+unfolding readyQuorum
+ready-quorum-reached n e = omega (arith, faults-few n e)
+
 pub sites-few : (n : ℕ) → lawfulSites n ≡ true → n ≤ maxSites
 sites-few n e = leb-true _ _ (at-each (λ n. leb n maxSites) refl refl refl refl refl refl n e)
 

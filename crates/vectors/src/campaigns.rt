@@ -545,6 +545,33 @@ fn show_second_site() {
     );
 }
 
+// Blocks 1 and 2 are a fork of site 3. Blocks 3 to 5 of sites 0 to 2 send ECHO, and that of site 2 refers to a branch too; 6 to 8 send READY.
+fn show_beside_fork() {
+    show(
+        b"n 4, delivery beside a fork of site 3",
+        4,
+        b"a00*.0 a30.\x010 a30.\x020 a01..10 a10..10 a20..201 a02..3345 a11..3345 a21..3345 a12..3678 f00..0",
+    );
+}
+
+// Sites 0 and 1 alone build: blocks 3 and 4 hear of two ECHOs, and block 5 of no READY.
+fn show_one_site_fewer() {
+    show(
+        b"n 4, one site fewer than n - f",
+        4,
+        b"a00*.0 a01..10 a10..10 a02..212 a11..212 a12..234",
+    );
+}
+
+// Block 7 of site 0 delivers; block 8, site 3's only one, is above all of them and refers to block 7 alone.
+fn show_last_not_full() {
+    show(
+        b"n 4, a last block of a site that is not full",
+        4,
+        b"a00*.0 a01..10 a10..10 a20..10 a02..3123 a11..3123 a21..3123 a03..3456 a30..17",
+    );
+}
+
 // Interpretation of a place that is not there, with a buffer of one number too few, then with a whole one.
 fn show_lengths() {
     let fresh = table::fresh(4, [0; SLOTS]);
@@ -592,9 +619,17 @@ fn show_sites() {
     show_second_site();
 }
 
+// Runs that the promise of arrival is about, beside the one of 13 blocks.
+fn show_arrivals() {
+    show_beside_fork();
+    show_one_site_fewer();
+    show_last_not_full();
+}
+
 pub fn show_all() {
     show_campaigns();
     show_more_campaigns();
     show_traps();
     show_sites();
+    show_arrivals();
 }

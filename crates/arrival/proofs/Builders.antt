@@ -1,0 +1,188 @@
+-- A site whose every block has a higher sequence number than its blocks before, and picks what the building rule picks: its chain refers to
+-- every ancestor of its blocks, whoever built it. So the site is full, where its blocks were built and wherever else they are held.
+-- Assumes nothing.
+use mathlib.Core.Path.{_≡_, sym, ap, _∙_, subst}
+use mathlib.Core.Logic.{_⊎_, _≢_, inl, inr}
+use mathlib.Core.List.{List, [], _∷_, List·Memᴰ, List·Memᴰ·tail, List·Memᴰ·not-nil, List·Memᴰ·cases-cons, Memᴰ·cast}
+use Prim.Native.Nat.{ℕ, zero, suc, _+_, _-_, _≤_, _<_}
+use native.Mathlib.Omega.{arith}
+use lib.Dec.{eqb}
+use borrow.Author.Tests.{eqb-true, eqb-false}
+use Rattle.base.specs.Bytes.{Bytes}
+use Rattle.base.proofs.Tests.{by-test}
+use Rattle.block.specs.Layout.{siteOf, sequenceOf}
+use Rattle.agreement.specs.Ancestry.{AncestorIn, refers, through}
+use Rattle.agreement.proofs.Histories.{parent-site, parent-sequence}
+use Rattle.agreement.proofs.Found.{Holds}
+use Rattle.agreement.proofs.Ancestry.{Admitted, Grown, grown-distinct, admitted-in, referred-held}
+use Rattle.agreement.proofs.Forks.{Single, single-unforked}
+use Rattle.arrival.specs.Full.{BlockBy, RefersTo, Parent, InChain, itself, earlier, Above, ReferredInChain, Full}
+use Rattle.arrival.proofs.Chains.{chain-held, chain-site, chain-sequence, chain-refers}
+
+module _ (digest : Bytes → Bytes) where
+  -- a block whose digest is held is held, where no other of the blocks has that digest
+  held-by-digest : (bs : List Bytes) (c : Bytes) → ((d : Bytes) → List·Memᴰ d bs → digest d ≡ digest c → d ≡ c) → Holds digest bs (digest c) → List·Memᴰ c bs
+  held-by-digest bs c same h = Memᴰ·cast (sym (same (h .0) (h .1) (h .2))) (h .1)
+
+module _ (digest : Bytes → Bytes) (p : ℕ) where
+  -- ---- what the rule says of a block of the site, and the blocks held when it was built
+
+  pub record Picks (older : List Bytes) (b : Bytes) : Type 0 where
+    pub rises : (d : Bytes) → BlockBy older p d → sequenceOf d < sequenceOf b
+    -- where it refers to another site's block, and that one to another site's block, this one was referred to before, or it is here
+    pub closed : (c a : Bytes) → List·Memᴰ c older → List·Memᴰ a older → siteOf c ≢ p → siteOf a ≢ p → RefersTo digest b c → RefersTo digest c a
+        → RefersTo digest b a ⊎ ((d : Bytes) × BlockBy older p d × RefersTo digest d a)
+
+  -- so for every block of the site in a list, the newest first
+  abbrev pub Built : List Bytes → Type 0
+  Built [] = Unit {0}
+  Built (b ∷ older) = (siteOf b ≡ p → Picks older b) × Built older
+
+  -- a block of the list, and the blocks held when it was admitted
+  record Since (bs : List Bytes) (b : Bytes) : Type 0 where
+    older : List Bytes
+    grown : Grown digest older
+    admitted : Admitted digest older b
+    picks : siteOf b ≡ p → Picks older b
+    inside : (c : Bytes) → List·Memᴰ c older → List·Memᴰ c bs
+
+  since : (bs : List Bytes) → Grown digest bs → Built bs → (b : Bytes) → List·Memᴰ b bs → Since bs b
+  since [] g k b m = absurd (List·Memᴰ·not-nil m)
+  since (x ∷ older) g k b m = elim (List·Memᴰ·cases-cons m) [
+    | inl q ↦ record { older = older; grown = g .1; admitted = rw q (g .0); picks = rw q (k .0); inside = λ c n. List·Memᴰ·tail n }
+    | inr n ↦ let w = since older (g .1) (k .1) b n in
+        record { older = w .older; grown = w .grown; admitted = w .admitted; picks = w .picks; inside = λ c j. List·Memᴰ·tail (w .inside c j) }
+  ]
+
+  -- one block of each sequence number
+  single : (bs : List Bytes) → Built bs → Single bs p
+  single [] k a b ma mb sa sb q = absurd (List·Memᴰ·not-nil ma)
+  single (x ∷ older) k a b ma mb sa sb q = go (List·Memᴰ·cases-cons ma) (List·Memᴰ·cases-cons mb) (λ i j. single older (k .1) a b i j sa sb q)
+    where
+      below : (d : Bytes) → List·Memᴰ d older → siteOf d ≡ p → siteOf x ≡ p → sequenceOf d < sequenceOf x
+      below d m sd sx = k .0 sx .rises d (record { held = m; bySite = sd })
+
+      go : (a ≡ x) ⊎ List·Memᴰ a older → (b ≡ x) ⊎ List·Memᴰ b older → (List·Memᴰ a older → List·Memᴰ b older → a ≡ b) → a ≡ b
+      go (inl e) (inl f) ih = e ∙ sym f
+      go (inl e) (inr j) ih = absurd (omega (arith, below b j sb (ap siteOf (sym e) ∙ sa), ap sequenceOf e))
+      go (inr i) (inl f) ih = absurd (omega (arith, below a i sa (ap siteOf (sym f) ∙ sb), ap sequenceOf f))
+      go (inr i) (inr j) ih = ih i j
+
+  module _ (bs : List Bytes) (g : Grown digest bs) (k : Built bs) where
+    -- ---- the site's blocks are one chain
+
+    chain-below : (d : ℕ) (a b : Bytes) → BlockBy bs p a → BlockBy bs p b → sequenceOf b ≡ d + sequenceOf a → InChain digest bs a b
+    chain-below zero a b x y q =
+        subst (InChain digest bs a) (single bs k a b (x .held) (y .held) (x .bySite) (y .bySite) (omega arith)) itself
+    chain-below (suc d) a b x y q = go (admitted-in digest bs g b (y .held)) (chain-below d a)
+      where
+        go : (older : List Bytes) × Admitted digest older b × ((c : Bytes) → List·Memᴰ c older → List·Memᴰ c bs)
+            → ((c : Bytes) → BlockBy bs p a → BlockBy bs p c → sequenceOf c ≡ d + sequenceOf a → InChain digest bs a c) → InChain digest bs a b
+        go w ih = elim (w .1 .parented) [
+          | inl z ↦ absurd (omega arith)
+          | inr c ↦
+              let held : List·Memᴰ (c .0) bs = w .2 (c .0) (c .1 .among) in
+              earlier (ih (c .0) x (record { held = held; bySite = parent-site b (c .0) (c .1 .isParent) ∙ y .bySite })
+              (omega (arith, parent-sequence b (c .0) (c .1 .isParent))))
+              (record { held = held; referred = c .1 .referred; isParent = c .1 .isParent })
+        ]
+
+    one-chain : (a b : Bytes) → BlockBy bs p a → BlockBy bs p b → sequenceOf a ≤ sequenceOf b → InChain digest bs a b
+    one-chain a b x y h = chain-below (sequenceOf b - sequenceOf a) a b x y (omega arith)
+
+    -- ---- what the chain refers to is closed under references
+
+    -- a block whose digest was held when block e was admitted was held then
+    held-since : (e : Bytes) (w : Since bs e) (c : Bytes) → List·Memᴰ c bs → Holds digest (w .older) (digest c) → List·Memᴰ c (w .older)
+    held-since e w c m = held-by-digest digest (w .older) c (λ d n. grown-distinct digest bs g d c (w .inside d n) m)
+
+    closed-under : (b c a : Bytes) → BlockBy bs p b → List·Memᴰ c bs → List·Memᴰ a bs → ReferredInChain digest bs b c → RefersTo digest c a
+        → ReferredInChain digest bs b a
+    closed-under b c a y mc ma r ca =
+        by-test (eqb (siteOf c) p) (λ z. own (eqb-true _ _ z)) (λ z. by-test (eqb (siteOf a) p)
+        (λ u. owned (eqb-true _ _ u))
+        (λ u. others (eqb-false _ _ z) (eqb-false _ _ u)))
+      where
+        e : Bytes
+        e = r .by
+
+        at : BlockBy bs p e
+        at = record { held = chain-held digest bs (r .inChain) (y .held); bySite = chain-site digest bs (r .inChain) ∙ y .bySite }
+
+        w : Since bs e
+        w = since bs g k e (at .held)
+
+        picks : Picks (w .older) e
+        picks = w .picks (at .bySite)
+
+        c-older : List·Memᴰ c (w .older)
+        c-older = held-since e w c mc (w .admitted .linked (digest c) (r .refers))
+
+        a-older : List·Memᴰ a (w .older)
+        a-older = held-since e w a ma (referred-held digest (w .older) (w .grown) c c-older (digest a) ca)
+
+        -- a block of the site that was held when e was built is in the chain
+        in-chain : (d : Bytes) → BlockBy (w .older) p d → InChain digest bs d b
+        in-chain d x = one-chain d b (record { held = w .inside d (x .held); bySite = x .bySite }) y
+            (omega (arith, picks .rises d x, chain-sequence digest bs (r .inChain)))
+
+        own : siteOf c ≡ p → ReferredInChain digest bs b a
+        own s = record { by = c; inChain = in-chain c (record { held = c-older; bySite = s }); refers = ca }
+
+        owned : siteOf a ≡ p → ReferredInChain digest bs b a
+        owned s =
+            let x : BlockBy (w .older) p a = record { held = a-older; bySite = s } in
+            elim (chain-refers digest bs (in-chain a x)) [
+              | inl q ↦ absurd (omega (arith, picks .rises a x, chain-sequence digest bs (r .inChain), ap sequenceOf q))
+              | inr z ↦ z
+            ]
+
+        others : siteOf c ≢ p → siteOf a ≢ p → ReferredInChain digest bs b a
+        others n m = elim (picks .closed c a c-older a-older n m (r .refers) ca) [
+          | inl z ↦ record { by = e; inChain = r .inChain; refers = z }
+          | inr d ↦ record { by = d .0; inChain = in-chain (d .0) (d .1); refers = d .2 }
+        ]
+
+    down : (b : Bytes) → BlockBy bs p b → {c a : Bytes} → ReferredInChain digest bs b c → List·Memᴰ c bs → AncestorIn digest bs a c → ReferredInChain digest bs b a
+    down b y {c} {a} r mc (refers m z) = closed-under b c a y mc m r z
+    down b y {c} {a} r mc (through {c = d} u m z) = down b y (closed-under b c d y mc m r z) m u
+
+    -- every ancestor is referred to in the chain
+    all-referred : (b a : Bytes) → BlockBy bs p b → Above digest bs b a → ReferredInChain digest bs b a
+    all-referred b a y (refers m r) = record { by = b; inChain = itself; refers = r }
+    all-referred b a y (through {c = c} u m r) = down b y (record { by = b; inChain = itself; refers = r }) m u
+
+    pub built-full : Full digest bs p
+    built-full = record { unforked = single-unforked bs p (single bs k); refersToAll = λ b a y above u. all-referred b a y above }
+
+    -- ---- and at another site, where blocks of one digest are the same and no further block of the site is held
+
+    module _ (cs : List Bytes) (gc : Grown digest cs) (same : (a b : Bytes) → List·Memᴰ a bs → List·Memᴰ b cs → digest a ≡ digest b → a ≡ b)
+        (known : (b : Bytes) → BlockBy cs p b → List·Memᴰ b bs) where
+      -- what a block held at both refers to is held at both
+      held-here : (b c : Bytes) → List·Memᴰ b bs → List·Memᴰ c cs → RefersTo digest b c → List·Memᴰ c bs
+      held-here b c mb mc r = held-by-digest digest bs c (λ d n. same d c n mc) (referred-held digest bs g b mb (digest c) r)
+
+      held-there : (b c : Bytes) → List·Memᴰ b cs → List·Memᴰ c bs → RefersTo digest b c → List·Memᴰ c cs
+      held-there b c mb mc r = held-by-digest digest cs c (λ d n e. sym (same c d mc n (sym e))) (referred-held digest cs gc b mb (digest c) r)
+
+      above-here : {a b : Bytes} → List·Memᴰ b bs → Above digest cs b a → Above digest bs b a
+      above-here {a} {b} mb (refers m r) = refers (held-here b a mb m r) r
+      above-here {a} {b} mb (through {c = c} u m r) = let mc = held-here b c mb m r in through (above-here mc u) mc r
+
+      chain-there : {a b : Bytes} → List·Memᴰ b cs → InChain digest bs a b → InChain digest cs a b
+      chain-there mb itself = itself
+      chain-there {a} {b} mb (earlier {c = c} i q) =
+          let mc = held-there b c mb (q .held) (q .referred) in
+          earlier (chain-there mc i) (record { held = mc; referred = q .referred; isParent = q .isParent })
+
+      pub full-elsewhere : Full digest cs p
+      full-elsewhere =
+          record {
+            unforked = single-unforked cs p (λ a b ma mb sa sb q.
+                single bs k a b (known a (record { held = ma; bySite = sa })) (known b (record { held = mb; bySite = sb })) sa sb q);
+            refersToAll = λ b a y above u.
+                let mb = known b y in
+                let r = all-referred b a (record { held = mb; bySite = y .bySite }) (above-here mb above) in
+                record { by = r .by; inChain = chain-there (y .held) (r .inChain); refers = r .refers };
+          }

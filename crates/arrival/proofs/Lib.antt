@@ -1,0 +1,11 @@
+-- The promise of arrival, from the ground up: chains of blocks; the one number of a slot whose owner has not forked; what a full site hears;
+-- ECHO, READY and delivery; every list of calls. Then full sites: what the building rule gives a list of blocks, that building keeps to it,
+-- and every list of calls.
+pub mod Chains
+pub mod Numbers
+pub mod Hearing
+pub mod Delivery
+pub mod Theorem
+pub mod Builders
+pub mod Picking
+pub mod Building

@@ -1,0 +1,101 @@
+-- Change request fourteen: the premises, and what is promised of a ledger and of a site's record buffer.
+use mathlib.Core.Path.{_≡_}
+use mathlib.Core.Bool.{Bool, true}
+use mathlib.Core.Logic.{_≢_}
+use mathlib.Core.List.{List}
+use Prim.Native.Nat.{ℕ, _+_, _-_, _*_, _≤_, _<_}
+use lib.ListN.{getD}
+use Rattle.base.specs.Bytes.{Bytes}
+use Rattle.base.specs.Count.{countBelow}
+use Rattle.block.specs.Limits.{slotCount}
+use Rattle.block.specs.Layout.{siteOf, sequenceOf, requestFor}
+use Rattle.setup.specs.Setup.{Setup, ownerOf, faults}
+use Rattle.broadcast.specs.Record.{madeOffset, recordSize}
+use Rattle.interpret.specs.Buffer.{partOf}
+use Rattle.agreement.specs.History.{meaning}
+use Rattle.agreement.specs.Ancestry.{historyOf}
+use Rattle.agreement.specs.Ledger.{Call, Ledger}
+use Rattle.agreement.specs.Run.{Site}
+use Rattle.agreement.specs.Promises.{Interpreted, deliveredEntry, ledgerOf, siteWith}
+use Rattle.arrival.specs.Full.{BlockBy, InChain, Above, Full}
+
+-- "block A hold the owner's first counted request v of the slot": no block of the owner with a lower sequence number has one
+pub record FirstRequest (s : Setup) (blocks : List Bytes) (slot v : ℕ) (A : Bytes) : Type 0 where
+  pub byOwner : BlockBy blocks (ownerOf s slot) A
+  pub requests : requestFor A slot ≡ v
+  pub notZero : v ≢ 0
+  pub noneBefore : (b : Bytes) → BlockBy blocks (ownerOf s slot) b → sequenceOf b < sequenceOf A → requestFor b slot ≡ 0
+
+-- a site of the set
+pub record InSet (s : Setup) (set : ℕ → Bool) (p : ℕ) : Type 0 where
+  pub below : p < s .sites
+  pub isIn : set p ≡ true
+
+-- "with every held block interpreted"
+abbrev pub AllInterpreted : Ledger → Type 0
+AllInterpreted l = (place : ℕ) → place < l .held → Interpreted l place
+
+module _ (digest : Bytes → Bytes) where
+  -- the blocks of a set of sites: two of each, and last
+  pub record Rounds (s : Setup) (blocks : List Bytes) (A : Bytes) (set : ℕ → Bool) (last : Bytes) : Type 0 where
+    -- "each site of a set .. has a block above A"
+    pub first : ℕ → Bytes
+    pub firstBy : (p : ℕ) → InSet s set p → BlockBy blocks p (first p)
+    pub firstAbove : (p : ℕ) → InSet s set p → Above digest blocks (first p) A
+    -- "each of them has a block above all of those"
+    pub second : ℕ → Bytes
+    pub secondBy : (p : ℕ) → InSet s set p → BlockBy blocks p (second p)
+    pub secondAbove : (p q : ℕ) → InSet s set p → InSet s set q → Above digest blocks (second p) (first q)
+    -- "a block above all of these"
+    pub lastBy : BlockBy blocks (siteOf last) last
+    pub lastAbove : (p : ℕ) → InSet s set p → Above digest blocks last (second p)
+
+  -- an entry of a slot's record in a block's meaning
+  abbrev pub entryIn : Setup → List Bytes → ℕ → Bytes → ℕ → ℕ
+  entryIn s blocks slot b k = getD (meaning s (historyOf digest blocks b)) (recordSize * slot + k) 0
+
+  module _ (s : Setup) (blocks : List Bytes) (slot v : ℕ) where
+    -- the premises
+    pub record Premises (last : Bytes) : Type 0 where
+      -- "Let at least n - f sites be full, the owner among them": the set below has as many
+      pub ownerFull : Full digest blocks (ownerOf s slot)
+      -- "and let block A hold the owner's first counted request v of the slot"
+      pub A : Bytes
+      pub isFirst : FirstRequest s blocks slot v A
+      -- "If each site of a set of n - f full sites .."
+      pub set : ℕ → Bool
+      pub enough : s .sites - faults (s .sites) ≤ countBelow set (s .sites)
+      pub setFull : (p : ℕ) → InSet s set p → Full digest blocks p
+      pub rounds : Rounds s blocks A set last
+      -- "and a full site has" the last one
+      pub lastFull : Full digest blocks (siteOf last)
+
+    -- "then v is delivered at that block or earlier in its chain"
+    pub record DeliveredInChain (last : Bytes) : Type 0 where
+      -- a block of the chain makes the delivery: entry 39
+      pub by : Bytes
+      pub inChain : InChain digest blocks by last
+      pub made : entryIn s blocks slot by (madeOffset + deliveredEntry) ≡ v
+      -- and the block itself has it as delivered: entry 3
+      pub stays : entryIn s blocks slot last deliveredEntry ≡ v
+
+  -- the same two numbers in the site's record buffer
+  pub record ShownInChain (l : Ledger) (x : Site) (slot v : ℕ) (last : Bytes) : Type 0 where
+    -- at the place of a block of the chain: entry 39
+    pub place : ℕ
+    pub held : place < l .held
+    pub inChain : InChain digest (l .blocks) (l .block place) last
+    pub made : getD (partOf (x .records) place) (recordSize * slot + (madeOffset + deliveredEntry)) 0 ≡ v
+    -- and at the block's own place: entry 3
+    pub stays : (i : ℕ) → i < l .held → l .block i ≡ last → getD (partOf (x .records) i) (recordSize * slot + deliveredEntry) 0 ≡ v
+
+  -- the promise, for every list of calls, refused ones included, and a record buffer of any length and content
+  module _ (s : Setup) (buffer : List ℕ) (calls : List Call) where
+    abbrev ledger : Ledger
+    ledger = ledgerOf digest s buffer calls
+
+    pub record Arrival : Type 0 where
+      pub arrives : (slot v : ℕ) (last : Bytes) → slot < slotCount → Premises s (ledger .blocks) slot v last
+          → DeliveredInChain s (ledger .blocks) slot v last
+      pub shown : AllInterpreted ledger → (slot v : ℕ) (last : Bytes) → slot < slotCount → Premises s (ledger .blocks) slot v last
+          → ShownInChain ledger (siteWith digest s buffer calls) slot v last

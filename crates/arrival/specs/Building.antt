@@ -1,0 +1,46 @@
+-- Document 01, "Building", and change request fourteen, "Call a site full": a site that only builds by the building rule, whose every block
+-- was built from its table as it stood and admitted there, is full with respect to what its table holds; and it is so at every other site
+-- that holds no further block of it.
+use mathlib.Core.Path.{_≡_}
+use mathlib.Core.List.{List, [], _∷_, _++_, List·Memᴰ}
+use Prim.Native.Nat.{ℕ}
+use lib.ListN.{take}
+use Rattle.base.specs.Bytes.{Bytes}
+use Rattle.block.specs.Layout.{siteOf}
+use Rattle.setup.specs.Setup.{Setup}
+use Rattle.build.specs.Building.{building, built}
+use Rattle.agreement.specs.Ledger.{Call, admit, interpret, Ledger}
+use Rattle.agreement.specs.Run.{Site, started, siteAnswer, siteStep}
+use Rattle.agreement.specs.Promises.{NoCollision, ledgerOf}
+use Rattle.arrival.specs.Full.{BlockBy, Full}
+
+-- block b is what building writes for site p from this table, with some requests, to an output that has room
+pub record BuiltFrom (t : Bytes) (p : ℕ) (b : Bytes) : Type 0 where
+  pub requests : Bytes
+  pub output : Bytes
+  pub success : building t p requests output .refusal ≡ 0
+  pub writes : take (building t p requests output .value) (built t p requests output) ≡ b
+
+module _ (digest : Bytes → Bytes) (p : ℕ) where
+  -- if the call admits a block of site p, this block was built from the table as it stands
+  unfoldable pub OwnIsBuilt : Site → Call → Type 0
+  OwnIsBuilt x (admit b verdict) = siteOf b ≡ p → siteAnswer digest x (admit b verdict) .refusal ≡ 0 → BuiltFrom (x .table) p b
+  OwnIsBuilt x (interpret place) = Unit {0}
+
+  -- and so for every call of a list
+  unfoldable pub BuildsByRule : Site → List Call → Type 0
+  BuildsByRule x [] = Unit {0}
+  BuildsByRule x (c ∷ cs) = OwnIsBuilt x c × BuildsByRule (siteStep digest x c) cs
+
+-- the calls at site p's own table, and those at another site of the setup
+module _ (digest : Bytes → Bytes) (s : Setup) (buffer₁ buffer₂ : List ℕ) (calls₁ calls₂ : List Call) where
+  abbrev ledger₁ : Ledger
+  ledger₁ = ledgerOf digest s buffer₁ calls₁
+
+  abbrev ledger₂ : Ledger
+  ledger₂ = ledgerOf digest s buffer₂ calls₂
+
+  pub record BuildersFull (p : ℕ) : Type 0 where
+    pub here : BuildsByRule digest p (started s buffer₁) calls₁ → Full digest (ledger₁ .blocks) p
+    pub elsewhere : BuildsByRule digest p (started s buffer₁) calls₁ → NoCollision digest (ledger₁ .blocks ++ ledger₂ .blocks)
+        → ((b : Bytes) → BlockBy (ledger₂ .blocks) p b → List·Memᴰ b (ledger₁ .blocks)) → Full digest (ledger₂ .blocks) p

@@ -1,0 +1,57 @@
+-- A site that builds by the building rule is full (crates/arrival, specs/Building.antt), on a run. n 4, owner 0. Site 1's table holds a fork of
+-- site 0 and two blocks of site 3; site 1 builds and admits what it built, a block of site 2 arrives, and site 1 builds again. Another site holds
+-- its first block, and one that site 1 does not hold. The digest is the toy one.
+use mathlib.Core.List.{List, [], _∷_, _++_, List·Memᴰ}
+use Rattle.base.specs.Bytes.{Bytes}
+use Rattle.agreement.specs.Run.{started}
+use Rattle.agreement.specs.Promises.{NoCollision}
+use Rattle.arrival.specs.Full.{BlockBy, Full}
+use Rattle.arrival.specs.Building.{BuildsByRule}
+use Rattle.cases.specs.Toy.{toy, block}
+use Rattle.cases.specs.Run.{good, placed, zeros, Turn, _giving_, callsOf, ledgerLeft, Session}
+use Rattle.cases.specs.Blocks.{sites, first, fork, third, fourth, echoing}
+
+-- site 1's blocks: one refers to all four blocks that it holds, the next to that one and to the block that arrived since
+unfoldable pub firstBuilt : Bytes
+firstBuilt = block 1 0 (toy first ∷ toy fork ∷ toy third ∷ toy fourth ∷ []) []
+
+unfoldable pub nextBuilt : Bytes
+nextBuilt = block 1 1 (toy firstBuilt ∷ toy (echoing 2) ∷ []) []
+
+unfoldable pub ownTurns : List Turn
+ownTurns =
+    good first giving placed 0
+    ∷ good fork giving placed 1
+    ∷ good third giving placed 2
+    ∷ good fourth giving placed 3
+    ∷ good firstBuilt giving placed 4
+    ∷ good (echoing 2) giving placed 5
+    ∷ good nextBuilt giving placed 6
+    ∷ []
+
+unfoldable pub otherTurns : List Turn
+otherTurns =
+    good fork giving placed 0
+    ∷ good third giving placed 1
+    ∷ good first giving placed 2
+    ∷ good fourth giving placed 3
+    ∷ good firstBuilt giving placed 4
+    ∷ good (block 3 2 (toy fourth ∷ toy firstBuilt ∷ []) []) giving placed 5
+    ∷ []
+
+-- site 1 builds both of its blocks by the rule, and so it is full
+pub record BuilderFull : Type 0 where
+  pub taken : Session (sites 4) ownTurns
+  pub byRule : BuildsByRule toy 1 (started (sites 4) zeros) (callsOf ownTurns)
+  pub full : Full toy (ledgerLeft (sites 4) ownTurns .blocks) 1
+
+-- and so it is at the other site
+pub record FullElsewhere : Type 0 where
+  pub taken : Session (sites 4) otherTurns
+  pub noCollision : NoCollision toy (ledgerLeft (sites 4) ownTurns .blocks ++ ledgerLeft (sites 4) otherTurns .blocks)
+  pub known : (b : Bytes) → BlockBy (ledgerLeft (sites 4) otherTurns .blocks) 1 b → List·Memᴰ b (ledgerLeft (sites 4) ownTurns .blocks)
+  pub full : Full toy (ledgerLeft (sites 4) otherTurns .blocks) 1
+
+pub record BuilderCases : Type 0 where
+  pub builderFull : BuilderFull
+  pub fullElsewhere : FullElsewhere
