@@ -20,6 +20,10 @@
 extern "C" {
 #endif
 
+/* The version. A program that was written for a lower second number goes on working, but for what CHANGELOG.md says. */
+#define GT_VERSION_MAJOR 1
+#define GT_VERSION_MINOR 1
+
 /* Bytes of a digest, and so of a reference. */
 #define GT_DIGEST_BYTES 32
 /* The most references, requests and bytes that a block has. */

@@ -6,7 +6,8 @@ from programs import DOME, HARNESS, LISTING, expect, output_of, run
 
 CASES = 10_000
 STREAMS = 1_500
-FEWEST_MUTANTS = 600
+GROUPS = 4_000
+FEWEST_MUTANTS = 660
 # 1 is no answer of admission: it is for a setup.
 ANSWERS = {"gt_admit": {0, *range(2, 12)}, "gt_interpret": {0, 2, 12, 13, 14, 15}, "gt_forks": {0, 2},
            "gt_ancestors": {0, 2, 13}, "gt_build": {0, 2, 3, 4, 6, 16, 17}}
@@ -19,7 +20,10 @@ MET = ["campaigns with a slot delivered at both sites", "up to f forked: two num
        "blocks built with one more left than fit", "blocks built of 541 bytes", "blocks built on a full table",
        "blocks built into an output of their length", "blocks built into a longer output", "outputs too short by one byte",
        "sites forked below their greatest number alone", "built blocks admitted", "built blocks refused with 8",
-       "built blocks refused with 11"]
+       "built blocks refused with 11", "groups with the premises met at some site", "met with forked sites held there"]
+# How often groups must have met the premises of arrival: else little is shown of the promise.
+FEWEST_MET = {"groups with the premises met at some site": 3_000, "met with forked sites held there": 1_200,
+              "met with just n - f full sites": 1_500}
 # The same of listings. Their tables are in form, so that no arrival is answered 2.
 LISTED = [*(f"arrivals answered {number}" for number in (0, *range(3, 12))),
           "listings of no bytes", "listings of a short setup", "listings of an unlawful setup", "listings without an arrival",
@@ -36,10 +40,15 @@ def last_line(text):
     return text.splitlines()[-1]
 
 
-def expect_met(text, names):
+def expect_met(text, names, fewest=1):
     counts = dict(re.findall(r"^ *(\S.*?) +(\d+)$", text, re.MULTILINE))
     for name in names:
-        expect(int(counts.get(name, "0")) > 0, f"{name}\n{text}")
+        expect(int(counts.get(name, "0")) >= fewest, f"{name}: fewer than {fewest}\n{text}")
+
+
+def site_counts(text, what):
+    """For which n something was met, if only once."""
+    return set(re.findall(rf"^  n (\d+): {what} +[1-9]\d*$", text, re.MULTILINE))
 
 
 def test_no_difference():
@@ -56,8 +65,17 @@ def test_listing_program():
     text = output_of([HARNESS, "--listing", LISTING, "--seed", "1", "--cases", str(STREAMS)])
     expect(last_line(text) == f"{STREAMS} cases, 0 differences", text)
     expect_met(text, LISTED)
-    delivering = set(re.findall(r"^  n (\d+): with a delivery of \d+ +[1-9]\d*$", text, re.MULTILINE))
-    expect(delivering == SITE_COUNTS, text)
+    expect(site_counts(text, r"with a delivery of \d+") == SITE_COUNTS, text)
+
+
+def test_promise_of_arrival():
+    """Where its premises are met, the promise is kept; and they are met often, for every n. With n 1 no site may fork."""
+    text = output_of([HARNESS, "--kind", "groups", "--seed", "1", "--cases", str(GROUPS)])
+    expect(last_line(text) == f"{GROUPS} cases, 0 differences", text)
+    for name, fewest in FEWEST_MET.items():
+        expect_met(text, [name], fewest)
+    expect(site_counts(text, r"met of \d+") == SITE_COUNTS, text)
+    expect(site_counts(text, "met with forked sites held there") == SITE_COUNTS - {"1"}, text)
 
 
 def test_another_program_is_found():

@@ -88,6 +88,14 @@ def test_the_package_has_what_pkg_config_asks_for():
         expect(not any("@" in value or "$" in value for value in package.values()), f"{package}")
 
 
+def test_the_version_has_one_home():
+    header = (ROOT / "host" / "giangotum.h").read_text(encoding="ascii")
+    numbers = re.findall(r"^#define GT_VERSION_(?:MAJOR|MINOR) (\d+)$", header, re.MULTILINE)
+    newest = re.search(r"^## (\d+\.\d+)$", (ROOT / "CHANGELOG.md").read_text(encoding="utf-8"), re.MULTILINE)
+    with installed() as prefix:
+        expect(package_of(prefix)["Version"] == ".".join(numbers) == newest[1], f"{package_of(prefix)}, {numbers}, {newest}")
+
+
 def test_the_programs():
     with installed() as prefix:
         expect_same_lines(output_of([str(prefix / "bin/giangotum-listing")], CAMPAIGNS["chain"]), LISTINGS["chain"])

@@ -170,7 +170,7 @@ impl Builder<'_> {
             site: plan.site,
             sequence: plan.sequence,
             references: references.iter().map(|&block| blocks[block].digest).collect(),
-            requests: self.requests(plan),
+            requests: requests_of(self.random, &self.campaign.owners, &self.habits.numbers, plan.site, plan.round),
             verdict: 1,
         };
         let bytes = draft.to_bytes();
@@ -219,23 +219,23 @@ impl Builder<'_> {
             references.extend(heads);
         }
     }
+}
 
-    /// Owners ask early; now and then again, or twice in one block. Others ask too, in vain.
-    fn requests(&self, plan: &Plan) -> Vec<Request> {
-        let random = self.random;
-        let request = |slot: u8| Request { slot, number: random.pick(&self.habits.numbers) };
-        let asks = |slot: &u8| match (self.campaign.owners[usize::from(*slot)] == plan.site, plan.round) {
-            (true, 0) => !random.one_in(4),
-            (true, 1) => random.one_in(3),
-            (true, _) => random.one_in(8),
-            (false, _) => random.one_in(16),
-        };
-        let mut requests: Vec<Request> = (0..SLOTS as u8).filter(asks).map(request).collect();
-        random.shuffle(&mut requests);
-        if !requests.is_empty() && random.one_in(4) {
-            requests.push(request(random.pick(&requests).slot));
-        }
-        requests.truncate(MAX_REQUESTS);
-        requests
+/// What a site asks for in a round. Owners ask early; now and then again, or twice in one block. Others ask too, in
+/// vain.
+pub fn requests_of(random: &Random, owners: &[u8; SLOTS], numbers: &[u16], site: u8, round: usize) -> Vec<Request> {
+    let request = |slot: u8| Request { slot, number: random.pick(numbers) };
+    let asks = |slot: &u8| match (owners[usize::from(*slot)] == site, round) {
+        (true, 0) => !random.one_in(4),
+        (true, 1) => random.one_in(3),
+        (true, _) => random.one_in(8),
+        (false, _) => random.one_in(16),
+    };
+    let mut requests: Vec<Request> = (0..SLOTS as u8).filter(asks).map(request).collect();
+    random.shuffle(&mut requests);
+    if !requests.is_empty() && random.one_in(4) {
+        requests.push(request(random.pick(&requests).slot));
     }
+    requests.truncate(MAX_REQUESTS);
+    requests
 }

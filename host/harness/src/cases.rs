@@ -3,6 +3,7 @@
 mod admissions;
 mod builds;
 mod campaigns;
+mod groups;
 mod interpretations;
 mod listings;
 mod replays;
@@ -24,7 +25,7 @@ pub struct Kind {
     run: fn(&Random, &mut Compare) -> Result<(), Difference>,
 }
 
-pub static KINDS: [Kind; 9] = [
+pub static KINDS: [Kind; 10] = [
     Kind { name: "setups", shares: 1, run: setups::run },
     Kind { name: "arrivals", shares: 2, run: admissions::arrivals },
     Kind { name: "tables", shares: 2, run: admissions::tables_in_form },
@@ -34,7 +35,11 @@ pub static KINDS: [Kind; 9] = [
     Kind { name: "replays", shares: 2, run: replays::run },
     Kind { name: "watches", shares: 2, run: watches::run },
     Kind { name: "builds", shares: 2, run: builds::run },
+    GROUPS,
 ];
+
+/// Its cases are few, since they take long.
+pub const GROUPS: Kind = Kind { name: "groups", shares: 1, run: groups::run };
 
 /// It is run only where it is named: its cases take a process each, of a program that not every run has.
 pub static LISTINGS: Kind = Kind { name: "listings", shares: 0, run: listings::run };

@@ -2,6 +2,7 @@
 
 mod built;
 mod campaigns;
+mod groups;
 mod listings;
 mod watched;
 
@@ -10,8 +11,11 @@ use std::fmt::{self, Display, Formatter};
 use crate::answer::{AncestorPlaces, Answer, ForkedSites};
 use built::BuiltBlocks;
 use campaigns::Campaigns;
+use groups::Groups;
 use listings::Listings;
 use watched::Watched;
+
+pub use groups::Met;
 
 /// How often a call gave each answer, by its refusal number: these end at 17.
 #[derive(Default)]
@@ -46,6 +50,7 @@ pub struct Counts {
     pub reading: u64,
     pub digest: u64,
     pub campaigns: Campaigns,
+    pub groups: Groups,
     pub watched: Watched,
     pub built: BuiltBlocks,
     pub listings: Listings,
@@ -124,6 +129,6 @@ impl Display for Counts {
         }
         writeln!(to, "tables in form     {:>8}", self.in_form)?;
         writeln!(to, "tables not in form {:>8}", self.not_in_form)?;
-        write!(to, "{}{}{}", self.campaigns, self.watched, self.built)
+        write!(to, "{}{}{}{}", self.campaigns, self.watched, self.built, self.groups)
     }
 }

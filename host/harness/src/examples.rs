@@ -1,11 +1,13 @@
-//! Document 01's own examples, as far as these calls go, further small ones worked out from it by hand, and published
-//! vectors of the digest. The self-test asks them of the model, which nothing else there would contradict.
+//! Document 01's own examples, as far as these calls go, further small ones worked out by hand from it and from
+//! document 02, and published vectors of the digest. The self-test asks them of the model, which nothing else there
+//! would contradict.
 
 mod built;
 mod holder;
 mod interpreted;
 mod listed;
 mod lists;
+mod promised;
 mod watched;
 
 use crate::block::Request;
@@ -40,6 +42,7 @@ pub fn failed(calls: &dyn Calls) -> Vec<&'static str> {
     examples.extend(watched::all(calls));
     examples.extend(built::all(calls));
     examples.extend(listed::all(calls));
+    examples.extend(promised::all(calls));
     examples.into_iter().filter(|(_, holds)| !holds).map(|(name, _)| name).collect()
 }
 

@@ -3,6 +3,7 @@
 
 mod built;
 mod ends;
+mod promised;
 mod seen;
 
 use crate::compare::{shown, Difference};
@@ -11,6 +12,7 @@ use crate::seen::Seen;
 
 pub use built::{Built, LET_IN, READS_BACK, REFERS, REST_STAYS};
 pub use ends::{EQUAL_PARTS, ONE_NUMBER, REQUESTED, WATCHED};
+pub use promised::{Promised, DELIVERED, FULL, PASSED_ON};
 pub use seen::{CLOSED, LOWER, MORE_BLOCKS, NAMED, ONES, THIRD};
 
 /// A law says where it is broken, if it is.
@@ -42,4 +44,9 @@ pub fn check_seen(seen: &Seen) -> Result<(), Difference> {
 /// A block that was built.
 pub fn check_built(built: &Built) -> Result<(), Difference> {
     check(&built::laws(), built, || vec![shown("table", built.next.table), shown("block", built.block)])
+}
+
+/// What one site of a group holds.
+pub fn check_promised(promised: &Promised) -> Result<(), Difference> {
+    check(&promised::laws(), promised, || vec![shown("table", &promised.held.table().to_bytes())])
 }

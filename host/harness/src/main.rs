@@ -1,4 +1,5 @@
-//! Compares the library with an implementation of document 01 of its own, on seeded random and damaged input.
+//! Compares the library with an implementation of document 01 of its own, on seeded random and damaged input, and looks
+//! whether what the library leaves keeps what the documents promise.
 //!
 //!     harness [--seed S] [--cases N] [--only K] [--kind NAME]   compares the library with the model
 //!     harness --listing PATH [--seed S] [--cases N] [--only K]  compares a listing program with the model
@@ -26,6 +27,7 @@ mod ends;
 mod examples;
 mod forked;
 mod form;
+mod group;
 mod interpretation;
 mod keeper;
 mod laws;
@@ -38,6 +40,7 @@ mod options;
 mod parts;
 mod process;
 mod program;
+mod promise;
 mod random;
 mod record;
 mod replay;

@@ -89,7 +89,7 @@ fn mistaken(mistakes: &[Mistake]) -> Vec<Mutant> {
 
 /// Mutants that break a law when they stand on both sides, where no call differs, each with the law.
 pub fn lawless() -> Vec<(Mutant, &'static str)> {
-    let names: [(&[&str], &str); 20] = [
+    with_laws(&[
         (&[meaning::ARRIVAL_ORDER], EQUAL_PARTS),
         (&[meaning::STATE_OF_HIGHEST], EQUAL_PARTS),
         (&[meaning::STATE_OF_OTHER_BRANCH], EQUAL_PARTS),
@@ -110,8 +110,48 @@ pub fn lawless() -> Vec<(Mutant, &'static str)> {
         (&[building::REST_CLEARED], REST_STAYS),
         (&[building::WITHOUT_GREATEST], LET_IN),
         (&[building::SEVENTEEN_REFERENCES], LET_IN),
-    ];
-    names.into_iter().map(|(names, law)| (Mutant::of(names), law)).collect()
+    ])
+}
+
+/// The same of laws about groups.
+pub fn lawless_in_groups() -> Vec<(Mutant, &'static str)> {
+    with_laws(&[
+        (&[process::ECHO_QUORUM_2F_PLUS_2], DELIVERED),
+        (&[process::ECHO_QUORUM_N_MINUS_1], DELIVERED),
+        (&[process::DELIVERY_AT_2F_PLUS_2], DELIVERED),
+        (&[process::NO_DELIVERY_WITH_READY], DELIVERED),
+        (&[process::ECHOS_NOT_NOTED], DELIVERED),
+        (&[process::LAST_SITE_NOT_COUNTED], DELIVERED),
+        (&[process::SENDER_NOT_COUNTED], DELIVERED),
+        (&[process::DELIVERY_NOT_MADE], DELIVERED),
+        (&[process::SEND_FROM_ANYONE, meaning::REQUEST_OF_ANYONE], DELIVERED),
+        (&[meaning::READYS_NOT_PASSED_ON], DELIVERED),
+        (&[meaning::SECOND_SEND], DELIVERED),
+        (&[meaning::SEND_OF_FIRST_BLOCK], DELIVERED),
+        (&[meaning::ONLY_PARENT_HEARD], DELIVERED),
+        (&[meaning::OWN_NOT_HEARD], DELIVERED),
+        (&[meaning::LAST_REFERENCE_NOT_HEARD], DELIVERED),
+        (&[meaning::PLACES_FROM_32_NOT_HEARD], DELIVERED),
+        (&[meaning::SIXTEENTH_NOT_HEARD], DELIVERED),
+        (&[meaning::ONE_BLOCK_OF_A_SENDER], DELIVERED),
+        (&[meaning::LAST_MESSAGE_NOT_HEARD], DELIVERED),
+        (&[meaning::DELIVERY_NOT_PASSED_ON], PASSED_ON),
+        (&[building::PLACE_0_LEFT_OUT], FULL),
+        (&[building::ONE_BLOCK_OF_A_SITE], FULL),
+        (&[building::BELOW_PICKED_LEFT_OUT], FULL),
+        (&[building::REFERRED_BY_ANYONE], FULL),
+        (&[building::FORKED_LEFT_OUT], FULL),
+        (&[building::DESCENDING], FULL),
+        (&[building::HIGHEST_PICKED], FULL),
+        (&[building::OTHERS_BY_SITE], FULL),
+        (&[building::OTHERS_BY_SEQUENCE], FULL),
+        (&[building::OTHERS_BY_DIGEST], FULL),
+    ])
+}
+
+/// Mutants by the names of their mistakes.
+fn with_laws(names: &[(&[&str], &'static str)]) -> Vec<(Mutant, &'static str)> {
+    names.iter().map(|(names, law)| (Mutant::of(names), *law)).collect()
 }
 
 fn mistakes() -> Vec<Mistake> {

@@ -4,7 +4,7 @@
 use std::ops::Range;
 
 use crate::calls::Calls;
-use crate::cases::{first_difference, Cases, Found, LISTINGS};
+use crate::cases::{first_difference, Cases, Found, Kind, GROUPS, LISTINGS};
 use crate::counts::Counts;
 use crate::examples;
 use crate::model::Model;
@@ -19,7 +19,8 @@ pub fn run(options: &Options) -> bool {
         println!("the model fails the document's examples: {}", failed.join("; "));
         return false;
     }
-    let listings = listings(&options.cases);
+    let listings = first(MOST_LISTINGS, &options.cases, &LISTINGS);
+    let groups = first(MOST_GROUPS, &options.cases, &GROUPS);
     // The other way round: what follows the rules must not be found to differ.
     for cases in [&options.cases, &listings] {
         if let Some(found) = find(&model, &model, &mut cases.clone()) {
@@ -34,21 +35,24 @@ pub fn run(options: &Options) -> bool {
             tally.note(cases, found.map(|found| found.case), &mutant.name);
         }
     }
-    for (mutant, law) in mutants::lawless() {
-        let name = format!("{law}: broken by {}", mutant.name);
-        tally.note(&options.cases, find_law(mutant.model(), law, &options.cases), &name);
+    for (lawless, cases) in [(mutants::lawless(), &options.cases), (mutants::lawless_in_groups(), &groups)] {
+        for (mutant, law) in lawless {
+            let name = format!("{law}: broken by {}", mutant.name);
+            tally.note(cases, find_law(mutant.model(), law, cases), &name);
+        }
     }
     println!("{} mutants found, {} survived", tally.found, tally.survived);
     tally.survived == 0
 }
 
-/// Listings take longer than other cases, and their mutants are found sooner.
+// These take longer than other cases, and their mutants are found sooner.
 const MOST_LISTINGS: u64 = 400;
+const MOST_GROUPS: u64 = 1000;
 
-/// The first of the cases, as listings.
-fn listings(cases: &Cases) -> Cases {
+/// The first of the cases, so many at most, all of one kind.
+fn first(most: u64, cases: &Cases, kind: &'static Kind) -> Cases {
     let Range { start, end } = cases.numbers;
-    Cases { seed: cases.seed, numbers: start..end.min(start.saturating_add(MOST_LISTINGS)), kind: Some(&LISTINGS) }
+    Cases { seed: cases.seed, numbers: start..end.min(start.saturating_add(most)), kind: Some(kind) }
 }
 
 #[derive(Default)]

@@ -217,14 +217,14 @@ pub const MISTAKES: &[Mistake] = &[
     ("building: all ancestors of own blocks count as referred to", |m| {
         m.model.building.referred = |table, site| table.own(site).fold(0, |set, place| set | table.ancestors(place))
     }),
-    ("building: what any site refers to counts", |m| {
+    (REFERRED_BY_ANYONE, |m| {
         m.model.building.referred = |table, _| table.held().iter().fold(0, |set, row| set | row.references)
     }),
     ("building: only what interpreted blocks refer to counts", |m| {
         m.model.building.referred =
             |table, site| own_rows(table, site).filter(|row| row.mark == 1).fold(0, |set, row| set | row.references)
     }),
-    ("building: what is picked already shows to a later one", |m| {
+    (BELOW_PICKED_LEFT_OUT, |m| {
         // What a picked block refers to isn't picked any more.
         m.model.building.others = |table, site, referred| {
             let all = others(table, site, referred);
@@ -239,28 +239,28 @@ pub const MISTAKES: &[Mistake] = &[
     (DESCENDING, |m| {
         m.model.building.others = |table, site, referred| others(table, site, referred).into_iter().rev().collect()
     }),
-    ("building: the highest places are picked", |m| {
+    (HIGHEST_PICKED, |m| {
         m.model.building.others = |table, site, referred| {
             let all = others(table, site, referred);
             let room = MAX_REFERENCES - usize::from(greatest(table, site).is_some());
             all[all.len().saturating_sub(room)..].to_vec()
         }
     }),
-    ("building: others by site, then by place", |m| {
+    (OTHERS_BY_SITE, |m| {
         m.model.building.others = |table, site, referred| {
             let mut all = others(table, site, referred);
             all.sort_by_key(|&place| table.rows[place].site);
             all
         }
     }),
-    ("building: others by sequence number, then by place", |m| {
+    (OTHERS_BY_SEQUENCE, |m| {
         m.model.building.others = |table, site, referred| {
             let mut all = others(table, site, referred);
             all.sort_by_key(|&place| table.rows[place].sequence);
             all
         }
     }),
-    ("building: others by digest", |m| {
+    (OTHERS_BY_DIGEST, |m| {
         m.model.building.others = |table, site, referred| {
             let mut all = others(table, site, referred);
             all.sort_by_key(|&place| table.rows[place].digest);
@@ -273,17 +273,17 @@ pub const MISTAKES: &[Mistake] = &[
     ("building: only uninterpreted blocks are picked", |m| {
         m.model.building.others = |table, site, referred| picked(table, site, referred, |_, row| row.mark == 0)
     }),
-    ("building: blocks of forked sites aren't picked", |m| {
+    (FORKED_LEFT_OUT, |m| {
         m.model.building.others =
             |table, site, referred| picked(table, site, referred, |table, row| !shared_sequence(table, row.site))
     }),
-    ("building: only the greatest block of another site is picked", |m| {
+    (ONE_BLOCK_OF_A_SITE, |m| {
         m.model.building.others = |table, site, referred| {
             let greatest = |table: &Table, row: &Row| own_rows(table, row.site).all(|own| own.sequence <= row.sequence);
             picked(table, site, referred, greatest)
         }
     }),
-    ("building: place 0 isn't picked", |m| m.model.building.others = |table, site, set| others(table, site, set | 1)),
+    (PLACE_0_LEFT_OUT, |m| m.model.building.others = |table, site, set| others(table, site, set | 1)),
     ("building: the last place isn't picked", |m| {
         m.model.building.others = |table, site, set| {
             let mut all = others(table, site, set);
@@ -457,6 +457,15 @@ pub const DESCENDING: &str = "building: others in descending place order";
 pub const REQUESTS_IN_REVERSE: &str = "building: requests in reverse";
 pub const EMPTY_BLOCK: &str = "building: the block is always empty";
 pub const REST_CLEARED: &str = "building: the bytes after the block are cleared";
+pub const REFERRED_BY_ANYONE: &str = "building: what any site refers to counts";
+pub const BELOW_PICKED_LEFT_OUT: &str = "building: what is picked already shows to a later one";
+pub const HIGHEST_PICKED: &str = "building: the highest places are picked";
+pub const OTHERS_BY_SITE: &str = "building: others by site, then by place";
+pub const OTHERS_BY_SEQUENCE: &str = "building: others by sequence number, then by place";
+pub const OTHERS_BY_DIGEST: &str = "building: others by digest";
+pub const FORKED_LEFT_OUT: &str = "building: blocks of forked sites aren't picked";
+pub const ONE_BLOCK_OF_A_SITE: &str = "building: only the greatest block of another site is picked";
+pub const PLACE_0_LEFT_OUT: &str = "building: place 0 isn't picked";
 
 /// Check 3 with another limit.
 fn most(task: &Task, requests: usize) -> Option<usize> {

@@ -46,10 +46,10 @@ pub const MISTAKES: &[Mistake] = &[
             }
         }
     }),
-    ("interpretation: READYs heard aren't passed on", |m| m.model.interpretation.passed_on = MADE - MAX_SITES),
+    (READYS_NOT_PASSED_ON, |m| m.model.interpretation.passed_on = MADE - MAX_SITES),
     ("interpretation: the last READY heard isn't passed on", |m| m.model.interpretation.passed_on = MADE - 1),
     ("interpretation: only what is sent so far is passed on", |m| m.model.interpretation.passed_on = 4),
-    ("interpretation: the delivery isn't passed on", |m| m.model.interpretation.passed_on = 3),
+    (DELIVERY_NOT_PASSED_ON, |m| m.model.interpretation.passed_on = 3),
     // The block's own request
     (REQUEST_OF_ANYONE, |m| m.model.interpretation.request = |table, place, slot| table.rows[place].requests[slot]),
     ("interpretation: requests of others than the owner are honoured only", |m| {
@@ -72,13 +72,17 @@ pub const MISTAKES: &[Mistake] = &[
             }
         }
     }),
-    ("interpretation: a second SEND", |m| m.model.interpretation.send = send_again),
+    (SECOND_SEND, |m| m.model.interpretation.send = send_again),
     ("interpretation: a second SEND, if the number is another", |m| {
         m.model.interpretation.send = |record, number, process| {
             if record[Act::Send.so_far()] != number {
                 send_again(record, number, process);
             }
         }
+    }),
+    (SEND_OF_FIRST_BLOCK, |m| {
+        m.model.interpretation.request =
+            |table, place, slot| if table.rows[place].sequence == 0 { request(table, place, slot) } else { 0 }
     }),
     ("interpretation: no SEND after a delivery", |m| {
         m.model.interpretation.send = |record, number, process| {
@@ -115,7 +119,7 @@ pub const MISTAKES: &[Mistake] = &[
             table.rows[place].references & !parent
         }
     }),
-    ("interpretation: only the parent is heard", |m| {
+    (ONLY_PARENT_HEARD, |m| {
         m.model.interpretation.heard = |table, place| parent(table, place).map_or(0, |parent| 1 << parent)
     }),
     ("interpretation: own blocks but the parent aren't heard", |m| {
@@ -126,22 +130,28 @@ pub const MISTAKES: &[Mistake] = &[
             set(places(table.rows[place].references).filter(other))
         }
     }),
-    ("interpretation: own blocks aren't heard", |m| {
+    (OWN_NOT_HEARD, |m| {
         m.model.interpretation.heard = |table, place| {
             let other = |lower: &usize| table.rows[*lower].site != table.rows[place].site;
             set(places(table.rows[place].references).filter(other))
         }
     }),
+    (LAST_REFERENCE_NOT_HEARD, |m| {
+        m.model.interpretation.heard = |table, place| {
+            let references = table.rows[place].references;
+            references & !places(references).last().map_or(0, |last| 1 << last)
+        }
+    }),
     ("interpretation: place 0 isn't heard", |m| {
         m.model.interpretation.heard = |table, place| table.rows[place].references & !1
     }),
-    ("interpretation: places from 32 on aren't heard", |m| {
+    (PLACES_FROM_32_NOT_HEARD, |m| {
         m.model.interpretation.heard = |table, place| table.rows[place].references & 0xffff_ffff
     }),
-    ("interpretation: the 16th reference isn't heard", |m| {
+    (SIXTEENTH_NOT_HEARD, |m| {
         m.model.interpretation.heard = |table, place| set(places(table.rows[place].references).take(15))
     }),
-    ("interpretation: of a forked sender only the first block is heard", |m| {
+    (ONE_BLOCK_OF_A_SENDER, |m| {
         m.model.interpretation.heard = |table, place| {
             let references = table.rows[place].references;
             let site = |place: usize| table.rows[place].site;
@@ -199,7 +209,7 @@ pub const MISTAKES: &[Mistake] = &[
     ("interpretation: one's own message is heard in the block that makes it", |m| {
         m.model.interpretation.hear = hear_own_too
     }),
-    ("interpretation: the last message isn't heard", |m| {
+    (LAST_MESSAGE_NOT_HEARD, |m| {
         m.model.interpretation.hear =
             |process, record, slot, messages| hear(process, record, slot, &messages[..messages.len().saturating_sub(1)])
     }),
@@ -209,6 +219,17 @@ pub const STATE_OF_HIGHEST: &str = "interpretation: the state is that of the sit
 pub const STATE_OF_OTHER_BRANCH: &str = "interpretation: the state may be that of a fork's other branch";
 pub const REQUEST_OF_ANYONE: &str = "interpretation: requests of others than the owner are honoured too";
 pub const ARRIVAL_ORDER: &str = "interpretation: messages are heard in arrival order";
+pub const READYS_NOT_PASSED_ON: &str = "interpretation: READYs heard aren't passed on";
+pub const DELIVERY_NOT_PASSED_ON: &str = "interpretation: the delivery isn't passed on";
+pub const SECOND_SEND: &str = "interpretation: a second SEND";
+pub const SEND_OF_FIRST_BLOCK: &str = "interpretation: no SEND after sequence 0";
+pub const ONLY_PARENT_HEARD: &str = "interpretation: only the parent is heard";
+pub const OWN_NOT_HEARD: &str = "interpretation: own blocks aren't heard";
+pub const LAST_REFERENCE_NOT_HEARD: &str = "interpretation: the highest reference isn't heard";
+pub const PLACES_FROM_32_NOT_HEARD: &str = "interpretation: places from 32 on aren't heard";
+pub const SIXTEENTH_NOT_HEARD: &str = "interpretation: the 16th reference isn't heard";
+pub const ONE_BLOCK_OF_A_SENDER: &str = "interpretation: of a forked sender only the first block is heard";
+pub const LAST_MESSAGE_NOT_HEARD: &str = "interpretation: the last message isn't heard";
 
 fn set(places: impl Iterator<Item = usize>) -> u64 {
     places.fold(0, |set, place| set | 1 << place)

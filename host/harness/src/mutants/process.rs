@@ -8,11 +8,9 @@ use crate::sizes::MAX_SITES;
 pub const MISTAKES: &[Mistake] = &[
     // Quorums
     ("process: ECHO quorum 2f", |m| m.reaction(Act::Echo, Act::Ready, |heard| heard.supporters >= 2 * faults(heard))),
-    ("process: ECHO quorum 2f + 2", |m| {
-        m.reaction(Act::Echo, Act::Ready, |heard| heard.supporters >= 2 * faults(heard) + 2)
-    }),
+    (ECHO_QUORUM_2F_PLUS_2, |m| m.reaction(Act::Echo, Act::Ready, |heard| heard.supporters >= 2 * faults(heard) + 2)),
     (ECHO_QUORUM_F_PLUS_1, |m| m.reaction(Act::Echo, Act::Ready, |heard| heard.supporters >= heard.slot.one_honest())),
-    ("process: ECHO quorum n - 1", |m| {
+    (ECHO_QUORUM_N_MINUS_1, |m| {
         m.reaction(Act::Echo, Act::Ready, |heard| heard.supporters + 1 >= heard.slot.sites.into())
     }),
     ("process: READY amplification at f", |m| {
@@ -31,7 +29,7 @@ pub const MISTAKES: &[Mistake] = &[
     ("process: delivery at 2f READYs", |m| {
         m.reaction(Act::Ready, Act::Deliver, |heard| heard.supporters >= 2 * faults(heard))
     }),
-    ("process: delivery at 2f + 2 READYs", |m| {
+    (DELIVERY_AT_2F_PLUS_2, |m| {
         m.reaction(Act::Ready, Act::Deliver, |heard| heard.supporters >= 2 * faults(heard) + 2)
     }),
     ("process: a quorum must be reached exactly", |m| {
@@ -67,7 +65,7 @@ pub const MISTAKES: &[Mistake] = &[
             }
         }
     }),
-    ("process: a READY that brings about a READY delivers nothing", |m| {
+    (NO_DELIVERY_WITH_READY, |m| {
         m.process().act = |record, what, number| {
             if what != Act::Deliver || record[Act::Ready.made()] != number {
                 act(record, what, number);
@@ -90,12 +88,12 @@ pub const MISTAKES: &[Mistake] = &[
             true
         }
     }),
-    ("process: ECHOs aren't noted", |m| m.process().note = |record, slot, message| unless_echo(record, slot, message)),
+    (ECHOS_NOT_NOTED, |m| m.process().note = |record, slot, message| unless_echo(record, slot, message)),
     ("process: sites from n on are counted", |m| {
         m.process().supporters =
             |record, slot, message| supporters(record, &Slot { sites: MAX_SITES as u8, ..*slot }, message)
     }),
-    ("process: the last site isn't counted", |m| {
+    (LAST_SITE_NOT_COUNTED, |m| {
         m.process().supporters =
             |record, slot, message| supporters(record, &Slot { sites: slot.sites - 1, ..*slot }, message)
     }),
@@ -105,7 +103,7 @@ pub const MISTAKES: &[Mistake] = &[
     ("process: only eight sites are counted", |m| {
         m.process().supporters = |record, slot, message| supporters(record, slot, message) & 0xff
     }),
-    ("process: a sender's own support isn't counted", |m| {
+    (SENDER_NOT_COUNTED, |m| {
         m.process().supporters = |record, slot, message| supporters(record, slot, message) & !(1 << message.sender)
     }),
     ("process: ECHOs and READYs are counted together", |m| {
@@ -156,7 +154,7 @@ pub const MISTAKES: &[Mistake] = &[
             }
         }
     }),
-    ("process: a delivery isn't noted as made", |m| {
+    (DELIVERY_NOT_MADE, |m| {
         m.process().act = |record, what, number| {
             act(record, what, number);
             record[Act::Deliver.made()] = 0;
@@ -176,6 +174,14 @@ pub const SEND_FROM_ANYONE: &str = "process: SEND accepted from anyone";
 pub const DELIVERING_AT_SEND: &str = "process: delivering when the request is seen";
 pub const ECHO_QUORUM_F_PLUS_1: &str = "process: ECHO quorum f + 1";
 pub const DELIVERY_AT_F_PLUS_1: &str = "process: delivery at f + 1 READYs";
+pub const ECHO_QUORUM_2F_PLUS_2: &str = "process: ECHO quorum 2f + 2";
+pub const ECHO_QUORUM_N_MINUS_1: &str = "process: ECHO quorum n - 1";
+pub const DELIVERY_AT_2F_PLUS_2: &str = "process: delivery at 2f + 2 READYs";
+pub const NO_DELIVERY_WITH_READY: &str = "process: a READY that brings about a READY delivers nothing";
+pub const ECHOS_NOT_NOTED: &str = "process: ECHOs aren't noted";
+pub const LAST_SITE_NOT_COUNTED: &str = "process: the last site isn't counted";
+pub const SENDER_NOT_COUNTED: &str = "process: a sender's own support isn't counted";
+pub const DELIVERY_NOT_MADE: &str = "process: a delivery isn't noted as made";
 
 impl Mutant {
     /// Exchanges the condition of a reaction.
