@@ -191,6 +191,7 @@ CRATES = {
     "build": (2, "a site's next block"),
     "report": (0, "the listing, step by step"),
     "c_interface": (1, "the core, digest and reading for C"),
+    "arrival": (2, "the promise of arrival"),
     "cases": (2, "rows of the rules, computed"),
     "vectors": (3, "test program"),
     "listing": (0, "the listing program"),

@@ -41,9 +41,16 @@ put() { # MODE SOURCE PLACE
     install -m "$1" "$2" "$root/$3"
 }
 
+# The header has the version.
+version_number() { # NAME
+    sed -n "s/^#define $1 //p" host/giangotum.h
+}
+
 put_package() {
+    local version
+    version=$(version_number GT_VERSION_MAJOR).$(version_number GT_VERSION_MINOR)
     install -d "$(dirname "$root/$package")"
-    sed "s|@PREFIX@|$prefix|" host/giangotum.pc.in | install -m 644 /dev/stdin "$root/$package"
+    sed "s|@PREFIX@|$prefix|; s|@VERSION@|$version|" host/giangotum.pc.in | install -m 644 /dev/stdin "$root/$package"
 }
 
 take_away() { # MODE SOURCE PLACE
