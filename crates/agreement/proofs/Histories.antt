@@ -59,20 +59,20 @@ parent-site b a e = eqb-true _ _ (and-left (eqb (siteOf a) (siteOf b)) _ e)
 pub parent-sequence : (b a : Bytes) → isParentOf b a ≡ true → sequenceOf a + 1 ≡ sequenceOf b
 parent-sequence b a e = eqb-true _ _ (and-right (eqb (siteOf a) (siteOf b)) _ e)
 
--- ---- a block's chain: itself, its parent and so on
+-- ---- a block's lineage: itself, its parent and so on
 
-pub data InChain : History → History → Type 0 where
-  itself : {h : History} → InChain h h
-  earlier : {a c h : History} → InChain a c → List·Memᴰ c (children h) → isParentOf (blockOf h) (blockOf c) ≡ true → InChain a h
+pub data Lineage : History → History → Type 0 where
+  here : {h : History} → Lineage h h
+  older : {a c h : History} → Lineage a c → List·Memᴰ c (children h) → isParentOf (blockOf h) (blockOf c) ≡ true → Lineage a h
 
-pub chain-orSelf : {a h : History} → InChain a h → AncestorOrSelf a h
-chain-orSelf itself = inl refl
-chain-orSelf (earlier k m e) = inr (orSelf-trans (chain-orSelf k) (direct m))
+pub lineage-orSelf : {a h : History} → Lineage a h → AncestorOrSelf a h
+lineage-orSelf here = inl refl
+lineage-orSelf (older k m e) = inr (orSelf-trans (lineage-orSelf k) (direct m))
 
-pub chain-sequence : {a h : History} → InChain a h → sequenceOf (blockOf a) ≤ sequenceOf (blockOf h)
-chain-sequence (itself {h = h}) = le-refl (sequenceOf (blockOf h))
-chain-sequence (earlier {a = a} {c = c} {h = h} k m e) =
-    let low : sequenceOf (blockOf a) ≤ sequenceOf (blockOf c) = chain-sequence k in
+pub lineage-sequence : {a h : History} → Lineage a h → sequenceOf (blockOf a) ≤ sequenceOf (blockOf h)
+lineage-sequence (here {h = h}) = le-refl (sequenceOf (blockOf h))
+lineage-sequence (older {a = a} {c = c} {h = h} k m e) =
+    let low : sequenceOf (blockOf a) ≤ sequenceOf (blockOf c) = lineage-sequence k in
     let next : sequenceOf (blockOf c) + 1 ≡ sequenceOf (blockOf h) = parent-sequence (blockOf h) (blockOf c) e in
     omega arith
 

@@ -1,6 +1,6 @@
 -- What holds of every slot's record in every block's meaning: sixteen entries for each kind heard; what is made is what is sent, and only
 -- where the parent has sent none; what the parent has sent stays; the rules by which the heard are counted have been followed; what is sent
--- was made in a block of the chain; and what a block referred to made is heard. Assumes nothing.
+-- was made in a block of the lineage; and what a block referred to made is heard. Assumes nothing.
 use mathlib.Core.Path.{_≡_, sym, ap, _∙_}
 use mathlib.Core.Logic.{_≢_, inl, inr}
 use mathlib.Core.List.{List·Memᴰ}
@@ -20,7 +20,7 @@ use Rattle.interpret.specs.Slot.{Direct, parentState}
 use Rattle.interpret.proofs.Order.{interpretSlot-sized}
 use Rattle.interpret.proofs.Records.{none-made, interpretSlot-kept, interpretSlot-once, interpretSlot-made, interpretSlot-sends, interpretSlot-heard, interpretSlot-settled}
 use Rattle.agreement.specs.History.{History, Histories, node, blockOf, listOf, children, slotRecord, directs}
-use Rattle.agreement.proofs.Histories.{child-ind, InChain, itself, earlier, directOf, directs-from, directs-has, parent-cases}
+use Rattle.agreement.proofs.Histories.{child-ind, Lineage, here, older, directOf, directs-from, directs-has, parent-cases}
 
 module _ (s : Setup) (slot : ℕ) where
   -- what holds of the record of each block referred to holds of each direct
@@ -58,25 +58,25 @@ module _ (s : Setup) (slot : ℕ) where
   unfolding slotRecord
   record-once b hs = interpretSlot-once s slot (siteOf b) (sequenceOf b) (requestFor b slot) (directs s slot hs)
 
-  -- what has been sent was made in a block of the chain
-  pub record MadeInChain (e : Entry) (h : History) : Type 0 where
+  -- what has been sent was made in a block of the lineage
+  pub record MadeInLineage (e : Entry) (h : History) : Type 0 where
     pub maker : History
-    pub inChain : InChain maker h
+    pub lineage : Lineage maker h
     pub makes : entryOf e (slotRecord s slot maker .made) ≡ entryOf e (slotRecord s slot h .sent)
 
-  pub made-in-chain : (e : Entry) (h : History) → entryOf e (slotRecord s slot h .sent) ≢ 0 → MadeInChain e h
-  made-in-chain e = child-ind (λ h. entryOf e (slotRecord s slot h .sent) ≢ 0 → MadeInChain e h) go
+  pub made-in-lineage : (e : Entry) (h : History) → entryOf e (slotRecord s slot h .sent) ≢ 0 → MadeInLineage e h
+  made-in-lineage e = child-ind (λ h. entryOf e (slotRecord s slot h .sent) ≢ 0 → MadeInLineage e h) go
     where
-      go : (h : History) → ((c : History) → List·Memᴰ c (children h) → entryOf e (slotRecord s slot c .sent) ≢ 0 → MadeInChain e c)
-          → entryOf e (slotRecord s slot h .sent) ≢ 0 → MadeInChain e h
+      go : (h : History) → ((c : History) → List·Memᴰ c (children h) → entryOf e (slotRecord s slot c .sent) ≢ 0 → MadeInLineage e c)
+          → entryOf e (slotRecord s slot h .sent) ≢ 0 → MadeInLineage e h
       go (node b hs) ih n = elim (record-once b hs e) [
-        | inr a ↦ record { maker = node b hs; inChain = itself; makes = a .made-sent }
+        | inr a ↦ record { maker = node b hs; lineage = here; makes = a .made-sent }
         | inl a ↦ elim (parent-cases s slot b hs) [
           | inl w ↦
               let same : entryOf e (slotRecord s slot (node b hs) .sent) ≡ entryOf e (slotRecord s slot (w .parent) .sent) =
               a .sent-same ∙ ap (λ (r : SlotRecord). entryOf e (r .sent)) (w .its) in
               let m = ih (w .parent) (w .among) (λ z. n (same ∙ z)) in
-              record { maker = m .maker; inChain = earlier (m .inChain) (w .among) (w .isParent); makes = m .makes ∙ sym same }
+              record { maker = m .maker; lineage = older (m .lineage) (w .among) (w .isParent); makes = m .makes ∙ sym same }
           | inr w ↦ absurd (n (a .sent-same ∙ ap (λ (r : SlotRecord). entryOf e (r .sent)) (w .blank-is) ∙ none-made e))
         ]
       ]

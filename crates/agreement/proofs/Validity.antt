@@ -21,7 +21,7 @@ use Rattle.broadcast.proofs.Support.{supporter}
 use Rattle.broadcast.proofs.Sound.{Sound, blank-sound, nothingMade-sound, request-sound, receiveAll-sound, sound-more}
 use Rattle.interpret.specs.Slot.{parentState, messages, interpretSlot}
 use Rattle.agreement.specs.History.{History, Histories, node, blockOf, listOf, children, isParentOf, Ancestor, direct, further, slotRecord, directs}
-use Rattle.agreement.proofs.Histories.{child-ind, ancestor-ind, ancestor-trans, AncestorOrSelf, orSelf-trans, InChain, itself, earlier, chain-orSelf, message-from, parent-cases}
+use Rattle.agreement.proofs.Histories.{child-ind, ancestor-ind, ancestor-trans, AncestorOrSelf, orSelf-trans, Lineage, here, older, lineage-orSelf, message-from, parent-cases}
 use Rattle.agreement.proofs.Meanings.{record-made}
 
 module _ (s : Setup) (slot : ℕ) where
@@ -32,10 +32,10 @@ module _ (s : Setup) (slot : ℕ) where
     bySite : siteOf (blockOf maker) ≡ p
     makes : madeOf k (slotRecord s slot maker) ≡ v
 
-  -- a request of the owner, in h's chain
+  -- a request of the owner, in h's lineage
   pub record Requested (h : History) (v : ℕ) : Type 0 where
     pub requester : History
-    pub inChain : InChain requester h
+    pub lineage : Lineage requester h
     pub byOwner : siteOf (blockOf requester) ≡ ownerOf s slot
     pub requests : requestFor (blockOf requester) slot ≡ v
 
@@ -47,7 +47,7 @@ module _ (s : Setup) (slot : ℕ) where
 
   requested-below : (c h : History) → List·Memᴰ c (children h) → isParentOf (blockOf h) (blockOf c) ≡ true → (v : ℕ) → Requested c v → Requested h v
   requested-below c h m p v f =
-      record { requester = f .requester; inChain = earlier (f .inChain) m p; byOwner = f .byOwner; requests = f .requests }
+      record { requester = f .requester; lineage = older (f .lineage) m p; byOwner = f .byOwner; requests = f .requests }
 
   -- ---- every record is sound
 
@@ -66,7 +66,7 @@ module _ (s : Setup) (slot : ℕ) where
       receiveAll-sound (s .sites) (ownerOf s slot) _ _ (messages (s .sites) (directs s slot hs)) _
       (λ m j. let f = message-from s slot hs m j in record { maker = f .child; above = direct (f .among); bySite = f .bySite; makes = f .makes })
       (request-sound (s .sites) (ownerOf s slot) _ _ (siteOf b) (requestFor b slot) _
-      (λ own. record { requester = node b hs; inChain = itself; byOwner = own; requests = refl })
+      (λ own. record { requester = node b hs; lineage = here; byOwner = own; requests = refl })
       (nothingMade-sound (s .sites) (ownerOf s slot) _ _ _ (parent-sound b hs ih)))
 
   sound : (h : History) → SoundFor h (slotRecord s slot h)
@@ -140,7 +140,7 @@ module _ (s : Setup) (slot : ℕ) where
   requested-above a h v (inr k) f =
       record { requester = f .requester; above = ancestor-trans (f .above) k; byOwner = f .byOwner; requests = f .requests }
 
-  -- a SEND was requested in the chain, and an ECHO has a SEND of the owner
+  -- a SEND was requested in the lineage, and an ECHO has a SEND of the owner
   pub send-requested : (h : History) (v : ℕ) → v ≢ 0 → slotRecord s slot h .sent .send ≡ v → Requested h v
   send-requested h v n e = rw e at (sound h .sent-backed sendEntry (λ z. n (sym e ∙ z)))
 
@@ -151,7 +151,7 @@ module _ (s : Setup) (slot : ℕ) where
   echo-requested h v n e =
       let f = echo-send h v n e in
       let g = send-requested (f .sender) v n (f .sends) in
-      record { requester = g .requester; above = orSelf-trans (chain-orSelf (g .inChain)) (f .above); byOwner = g .byOwner; requests = g .requests }
+      record { requester = g .requester; above = orSelf-trans (lineage-orSelf (g .lineage)) (f .above); byOwner = g .byOwner; requests = g .requests }
 
   -- one of the quorum's ECHOs
   pub quorum-echo : (h : History) (v : ℕ) → v ≢ 0 → (q : EchoQuorum h v) → (p : ℕ) × SentAbove (q .at) Echo p v

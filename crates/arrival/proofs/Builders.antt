@@ -1,6 +1,5 @@
--- A site whose every block has a higher sequence number than its blocks before, and picks what the building rule picks: its chain refers to
--- every ancestor of its blocks, whoever built it. So the site is full, where its blocks were built and wherever else they are held.
--- Assumes nothing.
+-- A list of blocks in which those of one site keep to what the building rule says of them: the chain of each refers to every ancestor of it,
+-- whoever built that one. So the site is full, where its blocks were built and wherever else they are held. Assumes nothing.
 use mathlib.Core.Path.{_≡_, sym, ap, _∙_, subst}
 use mathlib.Core.Logic.{_⊎_, _≢_, inl, inr}
 use mathlib.Core.List.{List, [], _∷_, List·Memᴰ, List·Memᴰ·tail, List·Memᴰ·not-nil, List·Memᴰ·cases-cons, Memᴰ·cast}
@@ -16,7 +15,7 @@ use Rattle.agreement.proofs.Histories.{parent-site, parent-sequence}
 use Rattle.agreement.proofs.Found.{Holds}
 use Rattle.agreement.proofs.Ancestry.{Admitted, Grown, grown-distinct, admitted-in, referred-held}
 use Rattle.agreement.proofs.Forks.{Single, single-unforked}
-use Rattle.arrival.specs.Full.{BlockBy, RefersTo, Parent, InChain, itself, earlier, Above, ReferredInChain, Full}
+use Rattle.arrival.specs.Full.{BlockBy, RefersTo, InChain, itself, earlier, Above, ReferredInChain, Full}
 use Rattle.arrival.proofs.Chains.{chain-held, chain-site, chain-sequence, chain-refers}
 
 module _ (digest : Bytes → Bytes) where
@@ -29,7 +28,7 @@ module _ (digest : Bytes → Bytes) (p : ℕ) where
 
   pub record Picks (older : List Bytes) (b : Bytes) : Type 0 where
     pub rises : (d : Bytes) → BlockBy older p d → sequenceOf d < sequenceOf b
-    -- where it refers to another site's block, and that one to another site's block, this one was referred to before, or it is here
+    -- where it refers to another site's block, and that one to another site's block, it refers to the latter too, or a block of the site did before
     pub closed : (c a : Bytes) → List·Memᴰ c older → List·Memᴰ a older → siteOf c ≢ p → siteOf a ≢ p → RefersTo digest b c → RefersTo digest c a
         → RefersTo digest b a ⊎ ((d : Bytes) × BlockBy older p d × RefersTo digest d a)
 

@@ -10,12 +10,10 @@ use Rattle.base.specs.Bytes.{Bytes}
 use Rattle.block.specs.Layout.{siteOf, sequenceOf}
 use Rattle.agreement.specs.History.{History, blockOf}
 use Rattle.agreement.specs.Ancestry.{AncestorIn, refers, through}
-use Rattle.agreement.proofs.Histories.{parent-site, parent-sequence}
-use Rattle.agreement.proofs.Histories.{InChain as HistoryInChain}
-use Rattle.agreement.proofs.Histories.InChain.{itself as itself·h, earlier as earlier·h}
+use Rattle.agreement.proofs.Histories.{parent-site, parent-sequence, Lineage, here, older}
 use Rattle.agreement.proofs.Ancestry.{Grown, child-of}
 use Rattle.agreement.proofs.Worlds.{HistoryIn}
-use Rattle.arrival.specs.Full.{RefersTo, Parent, InChain, itself, earlier, ReferredInChain}
+use Rattle.arrival.specs.Full.{RefersTo, InChain, itself, earlier, ReferredInChain}
 
 module _ (digest : Bytes → Bytes) (bs : List Bytes) where
   pub above-trans : {a b c : Bytes} → AncestorIn digest bs a b → AncestorIn digest bs b c → AncestorIn digest bs a c
@@ -54,14 +52,14 @@ module _ (digest : Bytes → Bytes) (bs : List Bytes) where
   chain-above itself k = k
   chain-above (earlier l p) k = chain-above l (above-trans (refers (p .held) (p .referred)) k)
 
-  -- the blocks of a history's chain are a chain
+  -- the blocks of a history's lineage are a chain
   pub record BlockInChain (h a : History) : Type 0 where
     pub isIn : HistoryIn digest bs a
     pub inChain : InChain digest bs (blockOf a) (blockOf h)
 
-  pub chain-of : Grown digest bs → {a h : History} → HistoryInChain a h → HistoryIn digest bs h → BlockInChain h a
-  chain-of g itself·h w = record { isIn = w; inChain = itself }
-  chain-of g (earlier·h {c = c} {h = h} k m p) w =
+  pub chain-of : Grown digest bs → {a h : History} → Lineage a h → HistoryIn digest bs h → BlockInChain h a
+  chain-of g here w = record { isIn = w; inChain = itself }
+  chain-of g (older {c = c} {h = h} k m p) w =
       let x = child-of digest bs g (blockOf h) (w .among) c (rw (w .is) at m) in
       let y = chain-of g k (record { among = x .among; is = x .isHistory }) in
       record { isIn = y .isIn; inChain = earlier (y .inChain) (record { held = x .among; referred = x .byDigest; isParent = p }) }

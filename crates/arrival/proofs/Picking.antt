@@ -1,12 +1,11 @@
--- A block that building wrote from a site's table: what is held there has lower sequence numbers in its site, and what it refers to is closed
--- as Builders wants it, since the rule picks in place order and a place refers only to lower ones. Assumes nothing.
+-- A block that building wrote from a table keeps to what Builders asks of it: the site's held blocks have lower sequence numbers; and what it
+-- refers to is closed, since the rule picks in place order and a place refers only to lower ones. Assumes nothing.
 use mathlib.Core.Path.{_≡_, sym, ap, _∙_, subst}
 use mathlib.Core.Logic.{_⊎_, _≢_, inl, inr}
 use mathlib.Core.Bool.{true, _&&_}
-use mathlib.Core.List.{List, List·Memᴰ, Memᴰ·map, Memᴰ·of-map, Memᴰ·cast, map}
+use mathlib.Core.List.{List·Memᴰ, Memᴰ·map, Memᴰ·of-map, Memᴰ·cast, map}
 use Prim.Native.Nat.{ℕ, _<_}
 use native.Mathlib.Omega.{arith}
-use lib.Dec.{eqb}
 use borrow.Author.Tests.{ne-eqb, lt-ltb}
 use Rattle.base.specs.Bytes.{Bytes}
 use Rattle.base.proofs.Tests.{by-test, and-left, and-right}
@@ -18,11 +17,11 @@ use Rattle.table.specs.View.{maxPlaces, View}
 use Rattle.table.specs.Layout.{countOf, digestAt, siteAt, rowAt, viewOf}
 use Rattle.table.proofs.Formed.{formed-of}
 use Rattle.watch.specs.Forks.{everywhere, ofSite}
-use Rattle.build.specs.Building.{nextSequence, isReferred, isOther, picked, nextBlock, building}
+use Rattle.build.specs.Building.{nextSequence, isReferred, isOther, picked, nextBlock}
 use Rattle.build.proofs.Sequence.{next-above}
 use Rattle.build.proofs.Picked.{picked-held, picked-lower}
 use Rattle.build.proofs.Fits.{one-place}
-use Rattle.build.proofs.Fields.{next-site, next-numbered, next-refers}
+use Rattle.build.proofs.Fields.{next-numbered, next-refers}
 use Rattle.build.proofs.Promises.{built-block}
 use Rattle.agreement.specs.Ledger.{Ledger}
 use Rattle.agreement.specs.Run.{Site}
