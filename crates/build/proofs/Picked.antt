@@ -37,16 +37,25 @@ module _ (seen : ℕ → Bool) (v : View) (p : ℕ) where
       let other : (seen i && not (eqb (v .row i .site) p)) ≡ true = and-left (seen i && not (eqb (v .row i .site) p)) (not (isReferred seen v p i)) y in
       eqb-false _ _ (not-true _ (and-right (seen i) (not (eqb (v .row i .site) p)) other))
 
+  -- the site's greatest is none of the others
+  greatest-apart : (x : ℕ) → List·Memᴰ x greatest → isOther seen v p x ≡ true → ⊥
+  greatest-apart x m y = other-site x y (greatest-site seen v p x (passing-from (isGreatest seen v p) (v .held) x m .1))
+
   pub picked-few : length (picked seen v p) ≤ maxReferences
   unfolding picked
   picked-few = omega (arith, length-take maxReferences (greatest ++ others))
+
+  -- they are the front of the two lists
+  front-at : (i : ℕ) → i < length (picked seen v p) → pickedAt i ≡ getD (greatest ++ others) i 0
+  unfolding picked
+  front-at i h = getD-take maxReferences (greatest ++ others) i 0 (omega (arith, length-take maxReferences (greatest ++ others)))
 
   -- each is of one of the two lists
   picked-cases : (i : ℕ) → i < length (picked seen v p) → List·Memᴰ (pickedAt i) greatest ⊎ List·Memᴰ (pickedAt i) others
   unfolding picked
   picked-cases i h =
       let l = length-take maxReferences (greatest ++ others) in
-      List·Memᴰ·append-cases greatest (Memᴰ·cast (getD-take maxReferences (greatest ++ others) i 0 (omega arith)) (at-member (greatest ++ others) i 0 (omega arith)))
+      List·Memᴰ·append-cases greatest (Memᴰ·cast (front-at i h) (at-member (greatest ++ others) i 0 (omega arith)))
 
   pub picked-held : (i : ℕ) → i < length (picked seen v p) → pickedAt i < v .held
   picked-held i h = elim (picked-cases i h) [
@@ -60,6 +69,12 @@ module _ (seen : ℕ → Bool) (v : View) (p : ℕ) where
     | inr m ↦ absurd (other-site _ (passing-from (isOther seen v p) (v .held) _ m .1) e)
   ]
 
+  picked-other : (i : ℕ) → i < length (picked seen v p) → v .row (pickedAt i) .site ≢ p → isOther seen v p (pickedAt i) ≡ true
+  picked-other i h n = elim (picked-cases i h) [
+    | inl m ↦ absurd (n (greatest-site seen v p _ (passing-from (isGreatest seen v p) (v .held) _ m .1)))
+    | inr m ↦ passing-from (isOther seen v p) (v .held) _ m .1
+  ]
+
   pub picked-different : Pairwise _≢_ (picked seen v p)
   unfolding picked
   picked-different =
@@ -69,9 +84,7 @@ module _ (seen : ℕ → Bool) (v : View) (p : ℕ) where
       different f i j h l e = omega (arith, passing-rises f (v .held) i j h l)
 
       apart : (x y : ℕ) → List·Memᴰ x greatest → List·Memᴰ y others → x ≢ y
-      apart x y m n e =
-          other-site y (passing-from (isOther seen v p) (v .held) y n .1)
-          (ap (λ (i : ℕ). v .row i .site) (sym e) ∙ greatest-site seen v p x (passing-from (isGreatest seen v p) (v .held) x m .1))
+      apart x y m n e = greatest-apart x m (ap (isOther seen v p) e ∙ passing-from (isOther seen v p) (v .held) y n .1)
 
   -- "its greatest block first"
   pub greatest-first : nextSequence seen v p ≢ 0 → (0 < length (picked seen v p)) × (isGreatest seen v p (pickedAt 0) ≡ true)
@@ -91,41 +104,28 @@ module _ (seen : ℕ → Bool) (v : View) (p : ℕ) where
   abbrev InOrder : ℕ → ℕ → Type 0
   InOrder x y = isOther seen v p x ≡ true → isOther seen v p y ≡ true → x < y
 
-  greatest-no-other : (x : ℕ) → List·Memᴰ x greatest → isOther seen v p x ≡ true → ⊥
-  greatest-no-other x m y = other-site x y (greatest-site seen v p x (passing-from (isGreatest seen v p) (v .held) x m .1))
-
   in-order : Pairwise InOrder (greatest ++ others)
   in-order =
       pairwise-append InOrder greatest others
-      (λ i j h l x y. absurd (greatest-no-other _ (at-member greatest i 0 l) y))
+      (λ i j h l x y. absurd (greatest-apart _ (at-member greatest i 0 l) y))
       (λ i j h l x y. passing-rises (isOther seen v p) (v .held) i j h l)
-      (λ x y m n z. absurd (greatest-no-other x m z))
-
-  -- entry k of the front is entry k of the two lists
-  front-at : (k : ℕ) → k < length (picked seen v p) → pickedAt k ≡ getD (greatest ++ others) k 0
-  unfolding picked
-  front-at k h = getD-take maxReferences (greatest ++ others) k 0 (omega (arith, length-take maxReferences (greatest ++ others)))
+      (λ x y m n z. absurd (greatest-apart x m z))
 
   -- where one of the others is picked, so is each that stands lower
   pub picked-lower : (i j : ℕ) → List·Memᴰ i (picked seen v p) → v .row i .site ≢ p → j < i → isOther seen v p j ≡ true → List·Memᴰ j (picked seen v p)
   picked-lower i j m other h y = go (member-at (picked seen v p) i 0 m)
     where
-      is-other : (k : ℕ) → k < length (picked seen v p) → pickedAt k ≡ i → (i < v .held) × (isOther seen v p i ≡ true)
-      is-other k l e = elim (picked-cases k l) [
-        | inl g ↦ absurd (other (greatest-site seen v p i (passing-from (isGreatest seen v p) (v .held) i (Memᴰ·cast (sym e) g) .1)))
-        | inr o ↦ passing-from (isOther seen v p) (v .held) i (Memᴰ·cast (sym e) o)
-      ]
-
       go : (k : ℕ) × (k < length (picked seen v p)) × (pickedAt k ≡ i) → List·Memᴰ j (picked seen v p)
       go (k, l, e) =
-          let o = is-other k l e in
-          let u = member-at (greatest ++ others) j 0 (Memᴰ·append-right greatest (passing-has (isOther seen v p) (v .held) j (omega (arith, o .0)) y)) in
+          let o : isOther seen v p i ≡ true = rw e at (picked-other k l (rw e other)) in
+          let u = member-at (greatest ++ others) j 0
+          (Memᴰ·append-right greatest (passing-has (isOther seen v p) (v .held) j (omega (arith, picked-held k l, e)) y)) in
           let here : getD (greatest ++ others) k 0 ≡ i = sym (front-at k l) ∙ e in
           elim (decLt (u .0) k) [
             | yes d ↦ let low : u .0 < length (picked seen v p) = omega arith in
                 Memᴰ·cast (sym (u .2) ∙ sym (front-at (u .0) low)) (at-member (picked seen v p) (u .0) 0 low)
             | no n ↦ elim (decLt k (u .0)) [
-              | yes d ↦ let rises : i < j = rw (here, u .2) at (in-order (u .0) k d (u .1) (rw here (o .1)) (rw (u .2) y)) in absurd (omega arith)
+              | yes d ↦ let rises : i < j = rw (here, u .2) at (in-order (u .0) k d (u .1) (rw here o) (rw (u .2) y)) in absurd (omega arith)
               | no q ↦ let same : u .0 ≡ k = omega arith in
                   let equal : i ≡ j = sym here ∙ ap (λ (x : ℕ). getD (greatest ++ others) x 0) (sym same) ∙ u .2 in absurd (omega arith)
             ]
