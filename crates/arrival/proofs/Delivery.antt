@@ -62,6 +62,15 @@ module _ (digest : Bytes → Bytes) (bs : List Bytes) (g : Grown digest bs) (s :
   abbrev record-at : Bytes → SlotRecord
   record-at b = recordOf digest bs g s slot b
 
+  abbrev first : ℕ → Bytes
+  first = w .rounds .first
+
+  abbrev second : ℕ → Bytes
+  second = w .rounds .second
+
+  last-held : List·Memᴰ last bs
+  last-held = w .rounds .lastBy .held
+
   some : v ≢ 0
   some = w .isFirst .notZero
 
@@ -123,40 +132,40 @@ module _ (digest : Bytes → Bytes) (bs : List Bytes) (g : Grown digest bs) (s :
 
   -- ---- ECHO, READY, delivery
 
-  echoed : (p : ℕ) → InSet s (w .set) p → record-at (w .rounds .first p) .sent .echo ≢ 0
+  echoed : (p : ℕ) → InSet s (w .set) p → record-at (first p) .sent .echo ≢ 0
   unfolding madeOf
   echoed p i =
       let owner = w .isFirst .byOwner .bySite in
-      hears digest bs g s slot few Send (w .rounds .first p) (w .A) (w .rounds .firstBy p i .held) (by-full p i (w .rounds .first p) (w .rounds .firstBy p i)) (w .rounds .firstAbove p i)
+      hears digest bs g s slot few Send (first p) (w .A) (w .rounds .firstBy p i .held) (by-full p i (first p) (w .rounds .firstBy p i)) (w .rounds .firstAbove p i)
       (rw owner (w .ownerFull .unforked)) (rw owner (owner-below s law slot below)) (λ z. some (sym A-made ∙ z)) owner
 
-  echo-heard : (q p : ℕ) → InSet s (w .set) q → InSet s (w .set) p → getD (record-at (w .rounds .second q) .echoes) p 0 ≡ v
+  echo-heard : (q p : ℕ) → InSet s (w .set) q → InSet s (w .set) p → getD (record-at (second q) .echoes) p 0 ≡ v
   echo-heard q p j i =
-      number .echoes (historyOf digest bs (w .rounds .second q)) (history-in digest bs (w .rounds .second q) (w .rounds .secondBy q j .held)) p
-      (heard-from Echo p i (w .rounds .first p) (w .rounds .second q) (made-by p echoEntry (w .rounds .first p) (w .rounds .firstBy p i) (echoed p i))
-      (w .rounds .secondBy q j .held) (by-full q j (w .rounds .second q) (w .rounds .secondBy q j)) (w .rounds .secondAbove q p j i))
+      number .echoes (historyOf digest bs (second q)) (history-in digest bs (second q) (w .rounds .secondBy q j .held)) p
+      (heard-from Echo p i (first p) (second q) (made-by p echoEntry (first p) (w .rounds .firstBy p i) (echoed p i))
+      (w .rounds .secondBy q j .held) (by-full q j (second q) (w .rounds .secondBy q j)) (w .rounds .secondAbove q p j i))
 
-  readied : (q : ℕ) → InSet s (w .set) q → record-at (w .rounds .second q) .sent .ready ≢ 0
-  readied q j = record-settled s slot (historyOf digest bs (w .rounds .second q)) readyByEchoes v some
+  readied : (q : ℕ) → InSet s (w .set) q → record-at (second q) .sent .ready ≢ 0
+  readied q j = record-settled s slot (historyOf digest bs (second q)) readyByEchoes v some
       (supported _ (echo-quorum-reached (s .sites) (sites-lawful s law)) _ (λ p i. echo-heard q p j i))
 
   ready-heard : (q : ℕ) → InSet s (w .set) q → getD (record-at last .readies) q 0 ≡ v
   ready-heard q j =
-      number .readies (historyOf digest bs last) (history-in digest bs last (w .rounds .lastBy .held)) q
-      (heard-from Ready q j (w .rounds .second q) last (made-by q readyEntry (w .rounds .second q) (w .rounds .secondBy q j) (readied q j)) (w .rounds .lastBy .held) (w .lastFull) (w .rounds .lastAbove q j))
+      number .readies (historyOf digest bs last) (history-in digest bs last (last-held)) q
+      (heard-from Ready q j (second q) last (made-by q readyEntry (second q) (w .rounds .secondBy q j) (readied q j)) (last-held) (w .lastFull) (w .rounds .lastAbove q j))
 
   some-delivered : record-at last .sent .delivered ≢ 0
   some-delivered = record-settled s slot (historyOf digest bs last) deliveryByReadies v some
       (supported _ (ready-quorum-reached (s .sites) (sites-lawful s law)) _ ready-heard)
 
   delivered : record-at last .sent .delivered ≡ v
-  delivered = number .delivery (historyOf digest bs last) (history-in digest bs last (w .rounds .lastBy .held)) some-delivered
+  delivered = number .delivery (historyOf digest bs last) (history-in digest bs last (last-held)) some-delivered
 
   -- ---- the last block
 
   pub arrived : DeliveredInChain digest s bs slot v last
   arrived =
-      let m = maker-of digest bs g s slot deliveryEntry last (w .rounds .lastBy .held) some-delivered in
+      let m = maker-of digest bs g s slot deliveryEntry last (last-held) some-delivered in
       record {
         by = m .by;
         inChain = m .inChain;

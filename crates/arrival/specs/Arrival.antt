@@ -36,7 +36,7 @@ abbrev pub AllInterpreted : Ledger → Type 0
 AllInterpreted l = (place : ℕ) → place < l .held → Interpreted l place
 
 module _ (digest : Bytes → Bytes) where
-  -- the blocks of a set of sites: two of each, and last
+  -- two blocks of each site of the set, and the last block
   pub record Rounds (s : Setup) (blocks : List Bytes) (A : Bytes) (set : ℕ → Bool) (last : Bytes) : Type 0 where
     -- "each site of a set .. has a block above A"
     pub first : ℕ → Bytes

@@ -1,4 +1,4 @@
--- The promise of arrival on four runs: its premises by computing, and what follows by the promise. Assumes nothing.
+-- The promise of arrival on five runs: its premises by computing, and what follows by the promise. Assumes nothing.
 use mathlib.Core.Path.{_≡_, refl, sym, ap, _∙_, subst}
 use mathlib.Core.Bool.{Bool, true, false, _&&_}
 use mathlib.Core.List.{List, [], map}
@@ -20,12 +20,12 @@ use Rattle.agreement.specs.Ledger.{Call, Ledger, empty}
 use Rattle.agreement.specs.Promises.{forked, deliveredEntry}
 use Rattle.agreement.proofs.Theorem.{promised}
 use Rattle.arrival.specs.Full.{Full}
-use Rattle.arrival.specs.Arrival.{AllInterpreted, Premises, Arrival}
+use Rattle.arrival.specs.Arrival.{AllInterpreted, entryIn, Premises, Arrival}
 use Rattle.arrival.proofs.Theorem.{arrival}
 use Rattle.cases.specs.Toy.{toy}
 use Rattle.cases.specs.Run.{zeros, callsOf, answersOf, Step, arriving}
-use Rattle.cases.specs.Blocks.{sites, first, threeSites, fourSites, echoing, readying}
-use Rattle.cases.specs.Arrival.{echoingBeside, readyingBeside, twoSites, AllButTwo, ledger, site, Run, NothingDelivered, Arrives, OneSiteFewer, LastNotFull, ArrivalCases}
+use Rattle.cases.specs.Blocks.{sites, threeSites, fourSites, echoing, readying}
+use Rattle.cases.specs.Arrival.{echoingBeside, readyingBeside, echoingAfter, readyingAfter, twoSites, AllButTwo, ledger, site, Run, NothingDelivered, Arrives, OneSiteFewer, LastNotFull, ArrivalCases}
 use Rattle.cases.proofs.Toy.{toyDigest}
 use Rattle.cases.proofs.Told.{told, ledgerFrom, ledger-left, allMarked, marked-held, marked-interpreted, madeBy, campaign}
 use Rattle.cases.proofs.Opened.{openedLedger}
@@ -34,23 +34,23 @@ use Rattle.cases.proofs.Covered.{holds, heldBy, refersTo, near, chainRe
 
 -- ---- the premises but two
 
-module _ (bs : List Bytes) (among set : ℕ → Bool) (firstOf secondOf : ℕ → Bytes) (last : Bytes) where
+module _ (bs : List Bytes) (among : ℕ → Bool) (A : Bytes) (set : ℕ → Bool) (firstOf secondOf : ℕ → Bytes) (last : Bytes) where
   unfoldable allButTwo : Bool
   allButTwo =
       fullSite toy bs among 0
-      && (firstRequest bs (sites 4) 0 42 first
+      && (firstRequest bs (sites 4) 0 42 A
       && (each (sites 4) set (fullSite toy bs among)
-      && inRounds toy bs (sites 4) set first firstOf secondOf last))
+      && inRounds toy bs (sites 4) set A firstOf secondOf last))
 
-  all-but-two : uncovered toy bs among ≡ false → allButTwo ≡ true → AllButTwo bs set last
+  all-but-two : uncovered toy bs among ≡ false → allButTwo ≡ true → AllButTwo bs A set last
   unfolding allButTwo
   all-but-two none e =
-      let isFirst = is-first bs (sites 4) 0 42 first (search (and-left, and-right) depth 12) in
+      let isFirst = is-first bs (sites 4) 0 42 A (search (and-left, and-right) depth 12) in
       record {
         ownerFull = is-full toy bs among none 0 (search and-left);
         isFirst = isFirst;
         setFull = λ p i. is-full toy bs among none p (at-each (sites 4) set (fullSite toy bs among) (search (and-left, and-right) depth 12) p i);
-        rounds = rounds toy bs (sites 4) set first firstOf secondOf last (isFirst .byOwner .held) (search (and-left, and-right) depth 12);
+        rounds = rounds toy bs (sites 4) set A firstOf secondOf last (isFirst .byOwner .held) (search (and-left, and-right) depth 12);
       }
 
 -- ---- a run that computes
@@ -67,9 +67,7 @@ left steps = ledgerFrom (arriving 0 steps)
 
 -- entries 3 and 39 of slot 0 are 0 in a block's meaning
 abbrev NoDelivery : List Bytes → Bytes → Type 0
-NoDelivery bs b =
-    (getD (meaning (sites 4) (historyOf toy bs b)) deliveredEntry 0 ≡ 0)
-    × (getD (meaning (sites 4) (historyOf toy bs b)) (madeOffset + deliveredEntry) 0 ≡ 0)
+NoDelivery bs b = (entryIn toy (sites 4) bs 0 b deliveredEntry ≡ 0) × (entryIn toy (sites 4) bs 0 b (madeOffset + deliveredEntry) ≡ 0)
 
 module _ (steps : List Step) (last : Bytes) (place : ℕ)
     (answered : told (sites 4) empty (callsOf (arriving 0 steps)) (answersOf (arriving 0 steps)) ≡ answersOf (arriving 0 steps))
@@ -115,20 +113,20 @@ module _ (steps : List Step) (last : Bytes) (place : ℕ)
         madeShown = ap (λ (part : List ℕ). getD part (madeOffset + deliveredEntry) 0) part-is ∙ z .1;
       }
 
-  module _ (among set : ℕ → Bool) (firstOf secondOf : ℕ → Bytes) (covered : uncovered toy (left steps .blocks) among ≡ false)
-      (tests : allButTwo (left steps .blocks) among set firstOf secondOf last ≡ true) where
-    but-two : AllButTwo (ledger steps .blocks) set last
-    but-two = of-ledger (λ l. AllButTwo (l .blocks) set last) (all-but-two (left steps .blocks) among set firstOf secondOf last covered tests)
+  module _ (among : ℕ → Bool) (A : Bytes) (set : ℕ → Bool) (firstOf secondOf : ℕ → Bytes) (covered : uncovered toy (left steps .blocks) among ≡ false)
+      (tests : allButTwo (left steps .blocks) among A set firstOf secondOf last ≡ true) where
+    but-two : AllButTwo (ledger steps .blocks) A set last
+    but-two = of-ledger (λ l. AllButTwo (l .blocks) A set last) (all-but-two (left steps .blocks) among A set firstOf secondOf last covered tests)
 
     last-full : fullSite toy (left steps .blocks) among (siteOf last) ≡ true → Full toy (ledger steps .blocks) (siteOf last)
     last-full e = of-ledger (λ l. Full toy (l .blocks) (siteOf last)) (is-full toy (left steps .blocks) among covered (siteOf last) e)
 
     arrives : 4 - faults 4 ≤ countBelow set 4 → fullSite toy (left steps .blocks) among (siteOf last) ≡ true
-        → (forks : List Bool) → listBelow (forked (left steps .blocks)) 4 ≡ forks → Arrives steps last place set forks
+        → (forks : List Bool) → listBelow (forked (left steps .blocks)) 4 ≡ forks → Arrives steps last place A set forks
     arrives enough full forks e =
         let premises : Premises toy (sites 4) (ledger steps .blocks) 0 42 last = record {
           ownerFull = but-two .ownerFull;
-          A = first;
+          A = A;
           isFirst = but-two .isFirst;
           set = set;
           enough = enough;
@@ -141,19 +139,20 @@ module _ (steps : List Step) (last : Bytes) (place : ℕ)
           run = run;
           forkedSites = of-ledger (λ l. listBelow (forked (l .blocks)) 4 ≡ forks) e;
           premises = premises;
+          ofRequest = refl;
           ofSet = refl;
           arrives = promise .arrives 0 42 last (omega arith) premises;
           shown = promise .shown all-interpreted 0 42 last (omega arith) premises .stays place below last-at;
         }
 
     one-site-fewer : countBelow set 4 + 1 ≡ 4 - faults 4 → fullSite toy (left steps .blocks) among (siteOf last) ≡ true
-        → NoDelivery (left steps .blocks) last → OneSiteFewer steps last place set
+        → NoDelivery (left steps .blocks) last → OneSiteFewer steps last place A set
     one-site-fewer e full n =
         record { run = run; allButTwo = but-two; oneFewer = e; lastFull = last-full full; nothing = nothing-delivered n }
 
     -- the last block is above a block to which it does not refer
     last-not-full : 4 - faults 4 ≤ countBelow set 4 → (a : Bytes) → misses toy (left steps .blocks) last a ≡ true
-        → NoDelivery (left steps .blocks) last → LastNotFull steps last place set
+        → NoDelivery (left steps .blocks) last → LastNotFull steps last place A set
     last-not-full enough a m n = record {
       run = run;
       allButTwo = but-two;
@@ -162,18 +161,20 @@ module _ (steps : List Step) (last : Bytes) (place : ℕ)
       nothing = nothing-delivered n;
     }
 
--- ---- the four runs
+-- ---- the five runs
 
 pub arrivalCases : ArrivalCases
 unfolding openedRun
 arrivalCases =
     record {
-      allFull = arrives _ _ 12 refl refl refl (omega arith) refl (λ p. true) _ echoing (readying fourSites) refl refl
+      allFull = arrives _ _ 12 refl refl refl (omega arith) refl (λ p. true) _ _ echoing (readying fourSites) refl refl
           (omega arith) refl _ refl;
-      oneForked = arrives _ _ 9 refl refl refl (omega arith) refl (λ p. true) _ echoingBeside readyingBeside refl refl
+      oneForked = arrives _ _ 9 refl refl refl (omega arith) refl (λ p. true) _ _ echoingBeside readyingBeside refl refl
           (omega arith) refl _ refl;
-      oneSiteFewer = one-site-fewer _ _ 5 refl refl refl (omega arith) refl (λ p. true) _ echoing (readying twoSites) refl refl
+      ownerOutside = arrives _ _ 8 refl refl refl (omega arith) refl (λ p. true) _ _ echoingAfter readyingAfter refl refl
+          (omega arith) refl _ refl;
+      oneSiteFewer = one-site-fewer _ _ 5 refl refl refl (omega arith) refl (λ p. true) _ _ echoing (readying twoSites) refl refl
           refl refl (refl, refl);
-      lastNotFull = last-not-full _ _ 8 refl refl refl (omega arith) refl (λ p. ltb p 3) _ echoing (readying threeSites) refl refl
+      lastNotFull = last-not-full _ _ 8 refl refl refl (omega arith) refl (λ p. ltb p 3) _ _ echoing (readying threeSites) refl refl
           (omega arith) (readying threeSites 0) refl (refl, refl);
     }

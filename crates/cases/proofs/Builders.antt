@@ -16,10 +16,10 @@ use Rattle.block.specs.Layout.{siteOf}
 use Rattle.table.specs.Fresh.{freshTable}
 use Rattle.build.specs.Building.{building, built}
 use Rattle.agreement.specs.Ledger.{Call, admit, interpret}
-use Rattle.agreement.specs.Run.{Site, started, siteStep}
+use Rattle.agreement.specs.Run.{Site, started, siteAnswer, siteStep}
 use Rattle.agreement.specs.Promises.{NoCollision}
 use Rattle.arrival.specs.Full.{BlockBy}
-use Rattle.arrival.specs.Building.{BuiltFrom, OwnIsBuilt, BuildsByRule, BuildersFull}
+use Rattle.arrival.specs.Building.{OwnIsBuilt, BuildsByRule, BuildersFull}
 use Rattle.arrival.proofs.Building.{builders-full}
 use Rattle.cases.specs.Toy.{toy}
 use Rattle.cases.specs.Run.{zeros, callsOf, ledgerLeft}
@@ -39,37 +39,41 @@ passes-where : (t x : Bool) → elim t [ true ↦ x | false ↦ true ] ≡ true 
 passes-where true x e y = e
 passes-where false x e y = true-not-false y refl
 
-module _ (p : ℕ) (output : Bytes) where
-  -- block b is what site p builds from the table with no requests
+module _ (p : ℕ) (requests output : Bytes) where
+  -- block b is what site p builds from the table with these requests
   unfoldable writes : Bytes → Bytes → Bool
-  writes t b = eqb (building t p [] output .refusal) 0 && sameBytes (take (building t p [] output .value) (built t p [] output)) b
+  writes t b = eqb (building t p requests output .refusal) 0 && sameBytes (take (building t p requests output .value) (built t p requests output)) b
 
-  -- if it is a block of site p
-  unfoldable kept : Bytes → Bytes → Bool
-  kept t b = elim (eqb (siteOf b) p) [ true ↦ writes t b | false ↦ true ]
+  -- if it is a block of site p, and is admitted
+  unfoldable admittedOwn : Site → Bytes → ℕ → Bool
+  admittedOwn x b verdict = eqb (siteOf b) p && eqb (siteAnswer toy x (admit b verdict) .refusal) 0
+
+  unfoldable kept : Site → Bytes → ℕ → Bool
+  kept x b verdict = elim (admittedOwn x b verdict) [ true ↦ writes (x .table) b | false ↦ true ]
 
   -- and so for each block that is brought, from the table as it stands
   unfoldable allKept : Site → List Call → Bool
   allKept x [] = true
-  allKept x (admit b verdict ∷ cs) = kept (x .table) b && allKept (siteStep toy x (admit b verdict)) cs
+  allKept x (admit b verdict ∷ cs) = kept x b verdict && allKept (siteStep toy x (admit b verdict)) cs
   allKept x (interpret place ∷ cs) = allKept (siteStep toy x (interpret place)) cs
 
-  is-built : (t b : Bytes) → kept t b ≡ true → siteOf b ≡ p → BuiltFrom t p b
-  unfolding writes kept
-  is-built t b e own =
-      let y = passes-where (eqb (siteOf b) p) (writes t b) e (eq-eqb (siteOf b) p own) in
-      record { requests = []; output = output; success = eqb-true _ _ (search and-left); writes = same-equal _ _ (search and-right) }
+  is-built : (x : Site) (b : Bytes) (verdict : ℕ) → kept x b verdict ≡ true → OwnIsBuilt toy p x (admit b verdict)
+  unfolding writes admittedOwn kept OwnIsBuilt
+  is-built x b verdict e own passes =
+      let asked : admittedOwn x b verdict ≡ true = rw (eq-eqb (siteOf b) p own, eq-eqb (siteAnswer toy x (admit b verdict) .refusal) 0 passes) refl in
+      let y = passes-where (admittedOwn x b verdict) (writes (x .table) b) e asked in
+      record { requests = requests; output = output; success = eqb-true _ _ (search and-left); writes = same-equal _ _ (search and-right) }
 
   by-rule : (x : Site) (cs : List Call) → allKept x cs ≡ true → BuildsByRule toy p x cs
   unfolding allKept OwnIsBuilt BuildsByRule
   by-rule x [] e = tt
   by-rule x (admit b verdict ∷ cs) e =
-      ((λ own _. is-built (x .table) b (and-left (kept (x .table) b) _ e) own), by-rule _ cs (and-right (kept (x .table) b) _ e))
+      (is-built x b verdict (and-left (kept x b verdict) _ e), by-rule _ cs (and-right (kept x b verdict) _ e))
   by-rule x (interpret place ∷ cs) e = (tt, by-rule _ cs e)
 
 own-by-rule : BuildsByRule toy 1 (started (sites 4) zeros) (callsOf ownTurns)
-unfolding openedWatch freshTable firstBuilt nextBuilt ownTurns writes kept allKept
-own-by-rule = by-rule 1 (room (blockSize 4 0)) (started (sites 4) zeros) (callsOf ownTurns) refl
+unfolding openedWatch freshTable firstBuilt nextBuilt ownTurns writes admittedOwn kept allKept
+own-by-rule = by-rule 1 (3 ∷ 0 ∷ 7 ∷ []) (room (blockSize 4 1)) (started (sites 4) zeros) (callsOf ownTurns) refl
 
 -- ---- two ledgers
 

@@ -33,7 +33,7 @@ use Rattle.cases.specs.Starred.{chained, twoEchoes, twoReadies, thirdRea
 use Rattle.cases.specs.Thresholds.{oneReady, oneMoreReady, threeReadies, fourOfFiveEchoes, twoReadiesOfFive, thirdReadyOfFive, ownReady, fiveReadies}
 use Rattle.cases.specs.Traps.{echoingTwin, readyingTwin, otherEchoing, otherReadying, twinEchoes, oneSender, sameSender, idle, afterIdle, besideIdle, bothReversed, mixedEchoes, readyingThree, twoSlots}
 use Rattle.cases.specs.Premises.{forkEchoing, turning, turned, firstTurns, secondTurns}
-use Rattle.cases.specs.Arrival.{branch, echoingBeside, readyingBeside, deliveringBeside, newcomer}
+use Rattle.cases.specs.Arrival.{branch, echoingBeside, readyingBeside, deliveringBeside, quiet, asking, echoingAfter, readyingAfter, askingAgain, newcomer}
 use Rattle.cases.proofs.Told.{claimed, answerInForm, told, ledgerFrom, allMarked, madeBy}
 
 -- `unfolding openedBlocks` opens what this line names: the blocks of the cases
@@ -41,7 +41,8 @@ unfoldable pub openedBlocks : Bool
 unfolding joined encode seen toy block first fork second both stranger third fourth later echoing readying delivering numbered chained twoEchoes
     twoReadies thirdReady oneReady oneMoreReady threeReadies fourOfFiveEchoes twoReadiesOfFive thirdReadyOfFive ownReady fiveReadies echoingTwin
     readyingTwin otherEchoing otherReadying twinEchoes oneSender sameSender idle afterIdle besideIdle bothReversed mixedEchoes readyingThree
-    twoSlots forkEchoing turning turned branch echoingBeside readyingBeside deliveringBeside newcomer
+    twoSlots forkEchoing turning turned branch echoingBeside readyingBeside deliveringBeside quiet asking echoingAfter readyingAfter
+    askingAgain newcomer
 openedBlocks = true
 
 -- what a ledger's answers and its blocks' meanings are computed by

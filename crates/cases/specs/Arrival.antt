@@ -1,8 +1,8 @@
--- The promise of arrival (crates/arrival, specs/Arrival.antt) on four runs. n 4, and owner 0 requests 42 in slot 0. Two runs meet the premises,
+-- The promise of arrival (crates/arrival, specs/Arrival.antt) on five runs. n 4, and owner 0 requests 42 in slot 0. Three runs meet the premises,
 -- and 42 is delivered. The other two meet all of them but one, and nothing is delivered. The digest is the toy one.
 use mathlib.Core.Path.{_≡_}
 use mathlib.Core.Bool.{Bool, true, false, cond}
-use mathlib.Core.List.{List, [], _∷_, map}
+use mathlib.Core.List.{List, [], _∷_, _++_, map}
 use Prim.Native.Nat.{ℕ, _+_, _-_, _≤_}
 use lib.Dec.{eqb, ltb}
 use lib.ListN.{getD}
@@ -11,7 +11,7 @@ use Rattle.base.specs.Count.{countBelow}
 use Rattle.base.specs.List.{listBelow}
 use Rattle.block.specs.Layout.{siteOf}
 use Rattle.setup.specs.Setup.{faults}
-use Rattle.broadcast.specs.Record.{none, madeOffset}
+use Rattle.broadcast.specs.Record.{none, withEcho, madeOffset}
 use Rattle.interpret.specs.Buffer.{partOf}
 use Rattle.agreement.specs.Ledger.{Ledger}
 use Rattle.agreement.specs.Run.{Site}
@@ -19,7 +19,7 @@ use Rattle.agreement.specs.Promises.{forked, deliveredEntry}
 use Rattle.arrival.specs.Full.{Full}
 use Rattle.arrival.specs.Arrival.{FirstRequest, InSet, AllInterpreted, Rounds, entryIn, Premises, DeliveredInChain}
 use Rattle.cases.specs.Toy.{toy, request, block}
-use Rattle.cases.specs.Run.{ledgerLeft, siteLeft, Step, _making_, sends, echoes, readies, delivers, arriving, Campaign}
+use Rattle.cases.specs.Run.{ledgerLeft, siteLeft, Step, _making_, sends, echoes, readies, delivers, readiesAndDelivers, arriving, Campaign}
 use Rattle.cases.specs.Blocks.{sites, first, later, threeSites, fourSites, echoing, readying, delivering}
 use Rattle.cases.specs.Starred.{thirteen}
 
@@ -39,6 +39,28 @@ readyingBeside p = block p (later p 1) (map (λ q. toy (echoingBeside q)) threeS
 unfoldable pub deliveringBeside : ℕ → Bytes
 deliveringBeside p = block p (later p 2) (map (λ q. toy (readyingBeside q)) threeSites) []
 
+-- the owner's first block requests nothing, and its next one 42
+unfoldable pub quiet : Bytes
+quiet = block 0 0 [] []
+
+unfoldable pub asking : Bytes
+asking = block 0 1 (toy quiet ∷ []) (request 0 42 ∷ [])
+
+-- the three other sites go on from there
+abbrev pub otherSites : List ℕ
+otherSites = 1 ∷ 2 ∷ 3 ∷ []
+
+unfoldable pub echoingAfter : ℕ → Bytes
+echoingAfter p = block p 0 (toy quiet ∷ toy asking ∷ []) []
+
+unfoldable pub readyingAfter : ℕ → Bytes
+readyingAfter p = block p 1 (map (λ q. toy (echoingAfter q)) otherSites) []
+
+-- and the owner, which refers to all of their blocks and requests 43
+unfoldable pub askingAgain : Bytes
+askingAgain =
+    block 0 2 (toy asking ∷ (map (λ q. toy (echoingAfter q)) otherSites ++ map (λ q. toy (readyingAfter q)) otherSites)) (request 0 43 ∷ [])
+
 -- one site fewer than n - f
 abbrev pub twoSites : List ℕ
 twoSites = 0 ∷ 1 ∷ []
@@ -50,11 +72,11 @@ newcomer = block 3 0 (toy (delivering threeSites 0) ∷ []) []
 -- ---- what is said of a run
 
 -- the premises but two: how many sites the set has, and that the last block's site is full
-pub record AllButTwo (blocks : List Bytes) (set : ℕ → Bool) (last : Bytes) : Type 0 where
+pub record AllButTwo (blocks : List Bytes) (A : Bytes) (set : ℕ → Bool) (last : Bytes) : Type 0 where
   pub ownerFull : Full toy blocks 0
-  pub isFirst : FirstRequest (sites 4) blocks 0 42 first
+  pub isFirst : FirstRequest (sites 4) blocks 0 42 A
   pub setFull : (p : ℕ) → InSet (sites 4) set p → Full toy blocks p
-  pub rounds : Rounds toy (sites 4) blocks first set last
+  pub rounds : Rounds toy (sites 4) blocks A set last
 
 module _ (steps : List Step) where
   abbrev pub ledger : Ledger
@@ -86,33 +108,34 @@ module _ (steps : List Step) where
       pub madeShown : inPart (madeOffset + deliveredEntry) ≡ 0
 
     -- the premises hold, and so 42 is delivered
-    pub record Arrives (set : ℕ → Bool) (forks : List Bool) : Type 0 where
+    pub record Arrives (A : Bytes) (set : ℕ → Bool) (forks : List Bool) : Type 0 where
       pub run : Run
       pub forkedSites : listBelow (forked (ledger .blocks)) 4 ≡ forks
       pub premises : Premises toy (sites 4) (ledger .blocks) 0 42 last
+      pub ofRequest : premises .A ≡ A
       pub ofSet : premises .set ≡ set
       pub arrives : DeliveredInChain toy (sites 4) (ledger .blocks) 0 42 last
       pub shown : inPart deliveredEntry ≡ 42
 
     -- the set has one site fewer than n - f
-    pub record OneSiteFewer (set : ℕ → Bool) : Type 0 where
+    pub record OneSiteFewer (A : Bytes) (set : ℕ → Bool) : Type 0 where
       pub run : Run
-      pub allButTwo : AllButTwo (ledger .blocks) set last
+      pub allButTwo : AllButTwo (ledger .blocks) A set last
       pub oneFewer : countBelow set 4 + 1 ≡ 4 - faults 4
       pub lastFull : Full toy (ledger .blocks) (siteOf last)
       pub nothing : NothingDelivered
 
     -- the last block's site is not full
-    pub record LastNotFull (set : ℕ → Bool) : Type 0 where
+    pub record LastNotFull (A : Bytes) (set : ℕ → Bool) : Type 0 where
       pub run : Run
-      pub allButTwo : AllButTwo (ledger .blocks) set last
+      pub allButTwo : AllButTwo (ledger .blocks) A set last
       pub enough : 4 - faults 4 ≤ countBelow set 4
       pub notFull : Full toy (ledger .blocks) (siteOf last) → ⊥
       pub nothing : NothingDelivered
 
 pub record ArrivalCases : Type 0 where
   -- all four sites are the set
-  pub allFull : Arrives thirteen (delivering fourSites 3) 12 (λ p. true) (false ∷ false ∷ false ∷ false ∷ [])
+  pub allFull : Arrives thirteen (delivering fourSites 3) 12 first (λ p. true) (false ∷ false ∷ false ∷ false ∷ [])
   -- sites 0, 1 and 2 are the set, and site 3 forked
   pub oneForked : Arrives
       (first making sends 42
@@ -126,7 +149,20 @@ pub record ArrivalCases : Type 0 where
       ∷ readyingBeside 2 making readies 42
       ∷ deliveringBeside 1 making delivers 42
       ∷ [])
-      (deliveringBeside 1) 9 (λ p. ltb p 3) (false ∷ false ∷ false ∷ true ∷ [])
+      (deliveringBeside 1) 9 first (λ p. ltb p 3) (false ∷ false ∷ false ∷ true ∷ [])
+  -- sites 1, 2 and 3 are the set: the owner, outside it, has the last block too; its request is in its second block, and another one comes later
+  pub ownerOutside : Arrives
+      (quiet making none
+      ∷ asking making sends 42
+      ∷ echoingAfter 1 making echoes 42
+      ∷ echoingAfter 2 making echoes 42
+      ∷ echoingAfter 3 making echoes 42
+      ∷ readyingAfter 1 making readies 42
+      ∷ readyingAfter 2 making readies 42
+      ∷ readyingAfter 3 making readies 42
+      ∷ askingAgain making withEcho 42 (readiesAndDelivers 42)
+      ∷ [])
+      askingAgain 8 asking (λ p. ltb 0 p) (false ∷ false ∷ false ∷ false ∷ [])
   -- sites 0 and 1 are the set: their two ECHOs are no quorum
   pub oneSiteFewer : OneSiteFewer
       (first making sends 42
@@ -136,7 +172,7 @@ pub record ArrivalCases : Type 0 where
       ∷ readying twoSites 1 making none
       ∷ delivering twoSites 1 making none
       ∷ [])
-      (delivering twoSites 1) 5 (λ p. ltb p 2)
+      (delivering twoSites 1) 5 first (λ p. ltb p 2)
   -- sites 0, 1 and 2 are the set: site 0 delivers, and site 3, above them all, does not
   pub lastNotFull : LastNotFull
       (first making sends 42
@@ -149,4 +185,4 @@ pub record ArrivalCases : Type 0 where
       ∷ delivering threeSites 0 making delivers 42
       ∷ newcomer making none
       ∷ [])
-      newcomer 8 (λ p. ltb p 3)
+      newcomer 8 first (λ p. ltb p 3)

@@ -1,22 +1,23 @@
 -- A site that builds by the building rule is full (crates/arrival, specs/Building.antt), on a run. n 4, owner 0. Site 1's table holds a fork of
--- site 0 and two blocks of site 3; site 1 builds and admits what it built, a block of site 2 arrives, and site 1 builds again. Another site holds
--- its first block, and one that site 1 does not hold. The digest is the toy one.
+-- site 0 and two blocks of site 3; site 1 builds and admits what it built, a block of site 2 and its own block arrive, and site 1 builds again, each
+-- time with a request. Another site holds its first block, and one that site 1 does not hold. The digest is the toy one.
 use mathlib.Core.List.{List, [], _∷_, _++_, List·Memᴰ}
 use Rattle.base.specs.Bytes.{Bytes}
+use Rattle.table.specs.Checks.{refused}
 use Rattle.agreement.specs.Run.{started}
 use Rattle.agreement.specs.Promises.{NoCollision}
 use Rattle.arrival.specs.Full.{BlockBy, Full}
 use Rattle.arrival.specs.Building.{BuildsByRule}
-use Rattle.cases.specs.Toy.{toy, block}
+use Rattle.cases.specs.Toy.{toy, request, block}
 use Rattle.cases.specs.Run.{good, placed, zeros, Turn, _giving_, callsOf, ledgerLeft, Session}
 use Rattle.cases.specs.Blocks.{sites, first, fork, third, fourth, echoing}
 
 -- site 1's blocks: one refers to all four blocks that it holds, the next to that one and to the block that arrived since
 unfoldable pub firstBuilt : Bytes
-firstBuilt = block 1 0 (toy first ∷ toy fork ∷ toy third ∷ toy fourth ∷ []) []
+firstBuilt = block 1 0 (toy first ∷ toy fork ∷ toy third ∷ toy fourth ∷ []) (request 3 7 ∷ [])
 
 unfoldable pub nextBuilt : Bytes
-nextBuilt = block 1 1 (toy firstBuilt ∷ toy (echoing 2) ∷ []) []
+nextBuilt = block 1 1 (toy firstBuilt ∷ toy (echoing 2) ∷ []) (request 3 7 ∷ [])
 
 unfoldable pub ownTurns : List Turn
 ownTurns =
@@ -26,6 +27,7 @@ ownTurns =
     ∷ good fourth giving placed 3
     ∷ good firstBuilt giving placed 4
     ∷ good (echoing 2) giving placed 5
+    ∷ good firstBuilt giving refused 8 4
     ∷ good nextBuilt giving placed 6
     ∷ []
 

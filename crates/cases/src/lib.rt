@@ -1,5 +1,5 @@
 // Document 01's cases: calls of admission and interpretation on blocks that are written down field by field, the answer of each call and what
-// each block makes; tables in form and out of it; two runs that meet the premises of the theorem of crates/agreement; four runs of the promise
-// of crates/arrival, two that meet its premises and two that miss one; and a site that builds by the building rule. No code. Promises: each row
+// each block makes; tables in form and out of it; two runs that meet the premises of the theorem of crates/agreement; five runs of the promise
+// of crates/arrival, three that meet its premises and two that miss one; and a site that builds by the building rule. No code. Promises: each row
 // of the records in specs/ holds of the right-hand sides of the contracts of `admit`, `interpret` and `in_form`, over a table's bytes and a
 // buffer's numbers; the digest there is a toy one (specs/Toy.antt). Assumes nothing.

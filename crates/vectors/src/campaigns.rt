@@ -554,6 +554,15 @@ fn show_beside_fork() {
     );
 }
 
+// Block 1, the owner's second, requests 42. Blocks 2 to 4 of the other sites send ECHO, 5 to 7 READY; the owner refers to all and requests 43.
+fn show_owner_outside() {
+    show(
+        b"n 4, a later request of the owner, and the three other sites",
+        4,
+        b"a00..0 a01*.10 a10..201 a20..201 a30..201 a11..3234 a21..3234 a31..3234 a02+.71234567",
+    );
+}
+
 // Sites 0 and 1 alone build: blocks 3 and 4 hear of two ECHOs, and block 5 of no READY.
 fn show_one_site_fewer() {
     show(
@@ -622,6 +631,7 @@ fn show_sites() {
 // Runs that the promise of arrival is about, beside the one of 13 blocks.
 fn show_arrivals() {
     show_beside_fork();
+    show_owner_outside();
     show_one_site_fewer();
     show_last_not_full();
 }
