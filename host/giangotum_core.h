@@ -1,15 +1,16 @@
 /* The table and the records of a campaign, for C and C++ programs that keep them: an empty table, its form, admission,
- * interpretation, the watch for forks, a site's next block, and a whole list of calls at once.
+ * interpretation, the watch for forks, a site's next block, a whole list of calls at once; and for programs that follow
+ * up to four campaigns, arrivals with a shelf on which blocks wait for what they refer to.
  *
  * Link with libc_interface.a (`make host` builds it), or with -lgiangotum where it is installed. Every function here is
  * proved to meet its contract for all bytes, all lengths and all numbers: none crashes, none reads or writes outside the
- * bytes that it is lent, and a refusal changes nothing. Any buffer of any content may be lent as a table: one that isn't a
- * table in form is refused, not trusted.
+ * bytes that it is lent, and a refusal changes nothing (but that a block refused with 9 by gt_arrive waits). Any buffer of
+ * any content may be lent as a table or a shelf: one that isn't in form is refused, not trusted.
  *
  * What the caller answers for: a pointer points to as many bytes as the length beside it says (at length 0 it may be any
  * pointer), the buffers of a call don't overlap, and nobody else writes them while the call runs.
  *
- * The layouts of table and block and all refusal numbers are in docs/FORMATS.md.
+ * The layouts of table, shelf and block and all refusal numbers are in docs/FORMATS.md.
  */
 #ifndef GIANGOTUM_CORE_H
 #define GIANGOTUM_CORE_H
@@ -33,6 +34,17 @@ extern "C" {
 #define GT_PART_NUMBERS 320
 #define GT_RECORDS_NUMBERS 20480
 
+/* Campaigns that share a shelf: numbers 0 to 3. */
+#define GT_CAMPAIGNS 4
+/* The places of a shelf, how many of them one campaign may always hold, and how many it holds at most. */
+#define GT_SHELF_PLACES 16
+#define GT_SHELF_RESERVED 2
+#define GT_SHELF_MOST 10
+/* Bytes of a shelf. The empty one is all zero. */
+#define GT_SHELF_BYTES 8705
+/* The numbers that gt_arrive needs for outcomes: two for each block that may wait for a campaign. */
+#define GT_OUTCOMES_NUMBERS 20
+
 /* The sites that forked: bit p of the mask is 1 if site p did; count is how many they are; at_most_f is whether they are at
  * most f, the number of forking sites that n sites bear. Beside a refusal mask and count are 0 and at_most_f is false. */
 typedef struct {
@@ -49,6 +61,12 @@ typedef struct {
     uint64_t places;
     uint32_t count;
 } gt_ancestor_places;
+
+/* What an arrival is answered, and how many blocks that waited were let in or dropped by it. */
+typedef struct {
+    gt_answer answer;
+    size_t ended;
+} gt_arrival;
 
 /* Writes the empty table of a setup, the number of sites n and an owner for each slot, over whatever the buffer has.
  *   1: the setup is not lawful: n is not 1, 4, 7, 10, 13 or 16, the owners are not eight, or an owner is not below n;
@@ -113,6 +131,30 @@ gt_answer gt_build(const uint8_t *table, size_t table_length, uint8_t site, cons
  * (refusal) and answers[2 * i + 1] (value) where both are within the buffer; all other elements stay. It refuses nothing. */
 size_t gt_replay(uint8_t *table, size_t table_length, uint16_t *records, size_t records_length, const uint8_t *calls,
                  size_t calls_length, uint64_t *answers, size_t answers_length);
+
+/* Whether the bytes are a shelf in form. A buffer of another length than GT_SHELF_BYTES isn't. */
+bool gt_shelf_in_form(const uint8_t *shelf, size_t shelf_length);
+
+/* A block arrives for a campaign, 0 to 3, whose own table is lent; the shelf is the one that all campaigns of a controller
+ * share. The block is admitted as by gt_admit; if a block that it refers to is not held (9), it waits on the shelf instead of
+ * being lost. After an admission the campaign's waiting blocks are tried in passes, in the order in which they came, each as
+ * by gt_admit with verdict 1, until a pass lets none in; one that is refused by another number than 9 is dropped.
+ *
+ * `ended` is how many waiting blocks were let in or dropped, at most GT_SHELF_MOST. Outcome i of these, in the order tried, is
+ * put at outcomes[2 * i] and outcomes[2 * i + 1]: 0 and the place of a block that was let in, or the number and 0 of one that
+ * was dropped. All other elements stay. An arrival that is refused ends none.
+ *   21: the campaign is above 3;
+ *   17, value GT_OUTCOMES_NUMBERS: the outcomes have room for fewer numbers than that;
+ *   2: the shelf is not in form, or the table;
+ *   3 to 8: as gt_admit;
+ *   20: a reference is not held, and the same bytes wait for this campaign already;
+ *   19: a reference is not held, and the shelf has no place for the campaign: it holds GT_SHELF_MOST, or the free places would no
+ *       longer cover what the other campaigns lack of their GT_SHELF_RESERVED. One that holds fewer than these never gets 19;
+ *   9, value the index of the first such reference: a reference is not held, and the block waits now;
+ *   10, 11: as gt_admit.
+ * By a 9 the shelf changes and nothing else; by every other refusal nothing does. */
+gt_arrival gt_arrive(uint8_t *table, size_t table_length, uint8_t *shelf, size_t shelf_length, uint8_t campaign,
+                     const uint8_t *block, size_t block_length, uint8_t verdict, uint64_t *outcomes, size_t outcomes_length);
 
 #ifdef __cplusplus
 }

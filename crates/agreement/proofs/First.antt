@@ -1,22 +1,21 @@
--- The call at the front of an encoded list, run: what the code of each kind answers and leaves is what the run says; and its answer, put. Assumes nothing.
+-- The call at the front of an encoded list, run: what the code of each kind answers and leaves is what the run says.
+-- Assumes nothing.
 use mathlib.Core.Path.{_≡_, refl, ap, _∙_}
 use mathlib.Core.Logic.{_≢_}
-use mathlib.Core.List.{List, [], _∷_}
-use Prim.Native.Nat.{ℕ, _+_, _-_, _*_, _≤_, _<_}
-use native.Mathlib.Numerals.{add-one}
-use lib.ListN.{length, getD, set, take, drop}
-use borrow.Author.Tests.{eq-eqb, ne-eqb, le-leb, lt-leb}
+use mathlib.Core.List.{List}
+use Prim.Native.Nat.{ℕ, _+_, _-_}
+use lib.ListN.{getD, take, drop}
+use borrow.Author.Tests.{eq-eqb, ne-eqb}
 use Rattle.base.specs.Bytes.{Bytes}
 use Rattle.base.specs.Word.{wordAt}
 use Rattle.base.proofs.Parts.{part-size}
-use Rattle.base.proofs.Splice.{splice-of-stores}
 use Rattle.block.specs.declared.Answer.{Answer}
 use Rattle.sha256.specs.Sha256.{sha256}
 use Rattle.admission.specs.Admission.{admission, admitted}
 use Rattle.interpret.specs.Interpretation.{interpretation, marked, recorded}
 use Rattle.agreement.specs.Ledger.{Call, admit, interpret}
 use Rattle.agreement.specs.Run.{Site, siteAnswer, siteStep}
-use Rattle.agreement.specs.Encoding.{admissionByte, admissionHeader, firstCall, putAnswer}
+use Rattle.agreement.specs.Encoding.{admissionByte, admissionHeader, firstCall}
 
 module _ (t : Bytes) (records : List ℕ) (b : Bytes) where
   abbrev site : Site
@@ -49,16 +48,3 @@ module _ (t : Bytes) (records : List ℕ) (b : Bytes) where
   ran-interpretation e n w r t′ records′ p q s =
       ran (interpret (wordAt b 1)) (rw (ne-eqb (getD b 0 0) admissionByte e)) r t′ records′
       (p ∙ ap (interpretation t records) w) (q ∙ ap (marked t records) w) (s ∙ ap (recorded t records) w)
-
--- ---- its answer, as two stores where they fit
-
-module _ (b : List ℕ) (i : ℕ) (a : Answer) where
-  pub answer-put : 2 * i + 2 ≤ length b → set (set b (2 * i) (a .refusal)) (2 * i + 1) (a .value) ≡ putAnswer b i a
-  unfolding putAnswer
-  answer-put h =
-      rw (le-leb (2 * i + 2) (length b) h)
-      (ap (λ (n : ℕ). set (set b (2 * i) (a .refusal)) n (a .value)) (add-one (2 * i)) ∙ splice-of-stores b (a .refusal ∷ a .value ∷ []) (2 * i) h)
-
-  pub answer-lost : length b < 2 * i + 2 → b ≡ putAnswer b i a
-  unfolding putAnswer
-  answer-lost h = rw (lt-leb (2 * i + 2) (length b) h)

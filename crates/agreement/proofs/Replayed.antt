@@ -8,11 +8,12 @@ use native.Mathlib.Omega.{arith}
 use lib.ListN.{length, drop, length-drop}
 use lib.Seq.{drop-drop}
 use Rattle.base.specs.Bytes.{Bytes}
+use Rattle.block.specs.Answers.{putAnswer, putAnswers}
 use Rattle.block.specs.declared.Answer.{Answer}
 use Rattle.sha256.specs.Sha256.{sha256}
 use Rattle.agreement.specs.Ledger.{Call}
 use Rattle.agreement.specs.Run.{Site, siteAnswer, siteStep, siteAfter, siteAnswers}
-use Rattle.agreement.specs.Encoding.{interpretationSize, firstSize, firstCall, callsIn, putAnswer, putAnswers}
+use Rattle.agreement.specs.Encoding.{interpretationSize, firstSize, firstCall, callsIn}
 use Rattle.agreement.proofs.Encoded.{size-within, size-least, calls-none, calls-more}
 
 pub record Running (calls : Bytes) (x₀ : Site) (answers₀ : List ℕ) (x : Site) (answers : List ℕ) (count at size : ℕ) : Type 0 where

@@ -3,18 +3,15 @@
 --   admission       0, verdict, length of the block (8 bytes, low byte first), the block's bytes
 --   interpretation  1, place (8 bytes, low byte first)
 --
--- A call that is cut, or that begins with another byte, ends the list. The answers are put into a buffer of numbers, two for each.
+-- A call that is cut, or that begins with another byte, ends the list.
 use mathlib.Core.Bool.{Bool, true, false, cond, _&&_}
 use mathlib.Core.List.{List, [], _∷_}
-use Prim.Native.Nat.{ℕ, zero, suc, _+_, _*_}
+use Prim.Native.Nat.{ℕ, zero, suc, _+_}
 use lib.Dec.{eqb, leb}
 use lib.ListN.{length, getD, take, drop}
-use Rattle.base.specs.Bytes.{Bytes, splice}
+use Rattle.base.specs.Bytes.{Bytes}
 use Rattle.base.specs.Word.{wordSize, wordAt}
-use Rattle.block.specs.declared.Answer.{Answer}
 use Rattle.agreement.specs.Ledger.{Call, admit, interpret}
-
--- ---- the calls
 
 -- the first byte of an admission, and of an interpretation
 abbrev pub admissionByte : ℕ
@@ -55,14 +52,3 @@ firstCalls (suc k) b = elim (eqb (firstSize b) 0) [ true ↦ [] | false ↦ firs
 -- all of them: each takes a byte at least
 unfoldable pub callsIn : Bytes → List Call
 callsIn b = firstCalls (length b) b
-
--- ---- the answers
-
--- refusal and value of answer i, where they fit
-unfoldable pub putAnswer : List ℕ → ℕ → Answer → List ℕ
-putAnswer buffer i a = cond (leb (2 * i + 2) (length buffer)) (splice buffer (2 * i) (a .refusal ∷ a .value ∷ [])) buffer
-
--- the answers from number i on
-unfoldable pub putAnswers : List ℕ → ℕ → List Answer → List ℕ
-putAnswers buffer i [] = buffer
-putAnswers buffer i (a ∷ rest) = putAnswers (putAnswer buffer i a) (suc i) rest

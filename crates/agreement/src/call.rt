@@ -1,12 +1,12 @@
-// The call at the front of an encoded list, and its answer.
+// The call at the front of an encoded list.
 use block::Answer;
 ghost use mathlib.Core.Path.{_≡_};
-ghost use Prim.Native.Nat.{_+_, _*_, _^_, _≤_, _<_};
+ghost use Prim.Native.Nat.{_+_, _≤_};
 ghost use lib.ListN.{length};
 ghost use Rattle.base.specs.Word.{wordSize, wordAt};
 ghost use Rattle.sha256.specs.Sha256.{sha256};
 ghost use Rattle.agreement.specs.Run.{siteAnswer, siteStep};
-ghost use Rattle.agreement.specs.Encoding.{firstSize, firstCall, putAnswer};
+ghost use Rattle.agreement.specs.Encoding.{firstSize, firstCall};
 ghost use Rattle.agreement.specs.Steps.{Whole};
 
 const ADMISSION: u8 = 0;
@@ -64,15 +64,4 @@ pub fn run_first(table: &mut [u8], records: &mut [u16], calls: &[u8]) -> Answer
         );
     }
     interpret::interpret(table, word_at(calls, 1), records)
-}
-
-// Puts refusal and value of answer i, where they fit.
-pub fn put_answer(answers: &mut [u64], i: usize, answer: Answer)
-    requires { ⌜ i < 2 ^ 62 ⌝ }
-    ensures { λ _. ⌜ now (answers .exit) ≡ putAnswer (now (answers .entry)) i answer ⌝ }
-{
-    if 2 * i + 2 <= answers.len() {
-        answers[2 * i] = answer.refusal as u64;
-        answers[2 * i + 1] = answer.value as u64;
-    }
 }

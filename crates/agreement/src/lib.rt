@@ -5,9 +5,10 @@ mod call;
 
 ghost use mathlib.Core.Path.{_≡_};
 ghost use lib.ListN.{length};
+ghost use Rattle.block.specs.Answers.{putAnswers};
 ghost use Rattle.sha256.specs.Sha256.{sha256};
 ghost use Rattle.agreement.specs.Run.{siteAfter, siteAnswers};
-ghost use Rattle.agreement.specs.Encoding.{callsIn, putAnswers};
+ghost use Rattle.agreement.specs.Encoding.{callsIn};
 
 // Runs the calls of an encoded list, one after the other, and answers how many there were. The answers are put into the buffer, two
 // numbers for each, as far as they fit.
@@ -22,7 +23,7 @@ pub fn replay(table: &mut [u8], records: &mut [u16], calls: &[u8], answers: &mut
     let mut size = call::first_size(calls);
     while size != 0 {
         let answer = call::run_first(table, records, &calls[at..]);
-        call::put_answer(answers, count, answer);
+        block::answers::put_answer(answers, count, answer);
         count += 1;
         at += size;
         size = call::first_size(&calls[at..]);

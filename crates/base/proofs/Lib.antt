@@ -2,11 +2,13 @@
 pub mod Tests
 pub mod Search
 pub mod Count
+pub mod Sum
 pub mod Mask
 pub mod Sets
 pub mod TopPlace
 pub mod List
 pub mod Members
+pub mod Those
 pub mod Passing
 pub mod Bytes
 pub mod Parts

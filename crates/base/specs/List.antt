@@ -1,8 +1,8 @@
--- The values of a function at the numbers below a bound, in a list; those of the numbers that pass a test; and a test over the elements of a
--- list. Assumes nothing.
+-- The values of a function at the numbers below a bound, in a list; those of the numbers that pass a test; and which elements of a list pass
+-- one: whether some do, how many, and their list. Assumes nothing.
 use mathlib.Core.Bool.{Bool, cond, false, _||_}
 use mathlib.Core.List.{List, [], _∷_, _++_}
-use Prim.Native.Nat.{ℕ, zero, suc}
+use Prim.Native.Nat.{ℕ, zero, suc, _+_}
 
 module _ {A : Type 0} where
   -- f 0, f 1, .. up to f (k - 1)
@@ -14,6 +14,16 @@ module _ {A : Type 0} where
   unfoldable pub someIn : (A → Bool) → List A → Bool
   someIn test [] = false
   someIn test (x ∷ xs) = test x || someIn test xs
+
+  -- how many do
+  unfoldable pub countIn : (A → Bool) → List A → ℕ
+  countIn test [] = 0
+  countIn test (x ∷ xs) = cond (test x) 1 0 + countIn test xs
+
+  -- those that do, in their order
+  unfoldable pub thoseIn : (A → Bool) → List A → List A
+  thoseIn test [] = []
+  thoseIn test (x ∷ xs) = cond (test x) (x ∷ thoseIn test xs) (thoseIn test xs)
 
 -- the numbers below k that pass the test, in rising order
 unfoldable pub passing : (ℕ → Bool) → ℕ → List ℕ

@@ -1,4 +1,4 @@
--- The laws of blocks. RoundTrip is the promise of specs/Codec.antt; the files before it lead up to it.
+-- The laws of blocks, and of answers in a buffer. RoundTrip is the promise of specs/Codec.antt; the files before it lead up to it.
 pub mod Lists
 pub mod Admissible
 pub mod Shape
@@ -6,3 +6,4 @@ pub mod Encoding
 pub mod Accepted
 pub mod RoundTrip
 pub mod Refused
+pub mod Answered

@@ -1,6 +1,7 @@
-// A block's bytes: reading, the entries of its two lists, and writing. Promises: reading is document 01's, every block that the
-// reader accepts is the one encoding of its content, and writing gives that encoding (specs/Codec.antt). Assumes nothing of the
-// bytes: any are read or refused.
+// A block's bytes: reading, the entries of its two lists, and writing; and answers in a lent buffer. Promises: reading is document 01's,
+// every block that the reader accepts is the one encoding of its content, and writing gives that encoding (specs/Codec.antt). Assumes
+// nothing of the bytes: any are read or refused.
+pub mod answers;
 pub mod references;
 pub mod requests;
 pub mod writing;

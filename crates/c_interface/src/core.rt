@@ -1,9 +1,11 @@
 // The core, for C programs that keep a campaign: each call is the one that it names.
 use block::Answer;
+use campaigns::Arrival;
 use watch::AncestorPlaces;
 use watch::ForkedSites;
 ghost use mathlib.Core.Path.{_≡_};
 ghost use lib.ListN.{length};
+ghost use Rattle.block.specs.Answers.{putAnswers};
 ghost use Rattle.sha256.specs.Sha256.{sha256};
 ghost use Rattle.table.specs.Form.{inForm};
 ghost use Rattle.table.specs.Fresh.{freshAnswer, freshIn};
@@ -12,8 +14,10 @@ ghost use Rattle.interpret.specs.Interpretation.{interpretation, marked, record
 ghost use Rattle.watch.specs.Forks.{forks};
 ghost use Rattle.watch.specs.Ancestors.{ancestors};
 ghost use Rattle.build.specs.Building.{building, built};
+ghost use Rattle.shelf.specs.Form as waiting;
+ghost use Rattle.campaigns.specs.Arriving.{listed, arrival};
 ghost use Rattle.agreement.specs.Run.{siteAfter, siteAnswers};
-ghost use Rattle.agreement.specs.Encoding.{callsIn, putAnswers};
+ghost use Rattle.agreement.specs.Encoding.{callsIn};
 
 // The empty table of a setup, into a lent buffer.
 #[no_mangle]
@@ -90,4 +94,31 @@ pub extern "C" fn gt_replay(
     ensures { λ _. ⌜ now (answers .exit) ≡ putAnswers (now (answers .entry)) 0 (siteAnswers sha256 (record { table = now (table .entry); records = now (records .entry) }) (callsIn (now (calls .entry)))) ⌝ }
 {
     agreement::replay(table, records, calls, answers)
+}
+
+// Whether a lent buffer is a shelf in form.
+#[no_mangle]
+pub extern "C" fn gt_shelf_in_form(shelf: &[u8]) -> bool
+    ensures { λ r. ⌜ r ≡ waiting.inForm (now (shelf .entry)) ⌝ }
+{
+    shelf::in_form(shelf)
+}
+
+// A block arrives for a campaign.
+#[no_mangle]
+pub extern "C" fn gt_arrive(
+    table: &mut [u8],
+    shelf: &mut [u8],
+    campaign: u8,
+    block: &[u8],
+    verdict: u8,
+    outcomes: &mut [u64],
+) -> Arrival
+    ensures { λ r. ⌜ r .answer ≡ arrival sha256 (now (table .entry)) (now (shelf .entry)) campaign (now (block .entry)) verdict (length (now (outcomes .entry))) .answer ⌝ }
+    ensures { λ r. ⌜ r .ended ≡ length (listed (arrival sha256 (now (table .entry)) (now (shelf .entry)) campaign (now (block .entry)) verdict (length (now (outcomes .entry))))) ⌝ }
+    ensures { λ _. ⌜ now (table .exit) ≡ arrival sha256 (now (table .entry)) (now (shelf .entry)) campaign (now (block .entry)) verdict (length (now (outcomes .entry))) .table ⌝ }
+    ensures { λ _. ⌜ now (shelf .exit) ≡ arrival sha256 (now (table .entry)) (now (shelf .entry)) campaign (now (block .entry)) verdict (length (now (outcomes .entry))) .shelf ⌝ }
+    ensures { λ _. ⌜ now (outcomes .exit) ≡ putAnswers (now (outcomes .entry)) 0 (listed (arrival sha256 (now (table .entry)) (now (shelf .entry)) campaign (now (block .entry)) verdict (length (now (outcomes .entry))))) ⌝ }
+{
+    campaigns::arrive(table, shelf, campaign, block, verdict, outcomes)
 }

@@ -1,0 +1,36 @@
+-- Laws of the elements that pass a test: of joined lists, one that stands anywhere, and how long their list is. Assumes nothing.
+use mathlib.Core.Path.{_≡_, refl, sym, ap, _∙_}
+use mathlib.Core.Bool.{Bool, true, false, cond}
+use mathlib.Core.List.{List, [], _∷_, _++_}
+use Prim.Native.Nat.{ℕ, _+_, _≤_}
+use native.Mathlib.Omega.{arith}
+use lib.ListN.{length}
+use Rattle.base.specs.List.{countIn, thoseIn}
+use Rattle.base.proofs.Tests.{by-test}
+
+module _ {A : Type 0} (test : A → Bool) where
+  pub count-in-append : (us vs : List A) → countIn test (us ++ vs) ≡ countIn test us + countIn test vs
+  unfolding countIn
+  count-in-append [] vs = omega arith
+  count-in-append (u ∷ us) vs = omega (arith, count-in-append us vs)
+
+  -- one that stands anywhere
+  pub count-in-mid : (us : List A) (w : A) (vs : List A) → countIn test (us ++ (w ∷ vs)) ≡ cond (test w) 1 0 + countIn test (us ++ vs)
+  unfolding countIn
+  count-in-mid [] w vs = refl
+  count-in-mid (u ∷ us) w vs = omega (arith, count-in-mid us w vs)
+
+  pub those-append : (us vs : List A) → thoseIn test (us ++ vs) ≡ thoseIn test us ++ thoseIn test vs
+  unfolding thoseIn
+  those-append [] vs = refl
+  those-append (u ∷ us) vs = by-test (test u) (λ y. rw y (ap (λ (l : List A). u ∷ l) (those-append us vs))) (λ n. rw n (those-append us vs))
+
+  pub length-those : (xs : List A) → length (thoseIn test xs) ≡ countIn test xs
+  unfolding thoseIn countIn
+  length-those [] = refl
+  length-those (x ∷ xs) = by-test (test x) (λ y. rw y (omega (arith, length-those xs))) (λ n. rw n (omega (arith, length-those xs)))
+
+  pub count-in-le : (xs : List A) → countIn test xs ≤ length xs
+  unfolding countIn
+  count-in-le [] = omega arith
+  count-in-le (x ∷ xs) = by-test (test x) (λ y. rw y (omega (arith, count-in-le xs))) (λ n. rw n (omega (arith, count-in-le xs)))

@@ -1,0 +1,85 @@
+-- Request Three: what an arrival answers, and what it leaves of its campaign's table and of the shelf.
+use mathlib.Core.Bool.{Bool, cond}
+use mathlib.Core.List.{List, [], _∷_, _++_}
+use Prim.Native.Nat.{ℕ, _*_}
+use lib.Dec.{eqb, leb}
+use Rattle.base.specs.Bytes.{Bytes}
+use Rattle.block.specs.declared.Answer.{Answer}
+use Rattle.table.specs.Checks.{Check, check, answerTo, refused}
+use Rattle.admission.specs.Admission.{admission, admitted}
+use Rattle.shelf.specs.Layout.{Waiting, waitingIn, shelfBytes}
+use Rattle.shelf.specs.Rules.{maxCampaign, maxShare, hasPlace, waits}
+use Rattle.shelf.specs.Form.{inForm}
+use Rattle.campaigns.specs.Passes.{Try, Passed, outcomesOf, settled}
+
+-- ---- over what waits
+
+pub record Arrived : Type 0 where
+  pub answer : Answer
+  pub table : Bytes
+  pub waiting : List Waiting
+  -- the waiting blocks that were tried, in that order
+  pub tries : List Try
+
+-- nothing is changed or tried
+abbrev pub unchanged : Answer → Bytes → List Waiting → Arrived
+unchanged a t ws = record { answer = a; table = t; waiting = ws; tries = [] }
+
+-- the block waits behind those that wait
+abbrev pub behind : List Waiting → ℕ → Bytes → List Waiting
+behind ws c b = ws ++ (record { campaign = c; block = b } ∷ [])
+
+-- a is a 9: "instead of it 20, its bytes already wait for that campaign, else 19, no place by the shelf rule"; else it is "still answered 9 and
+-- waits, with its bytes". `place` says whether there is a place
+unfoldable pub shelved : Bool → Answer → Bytes → List Waiting → ℕ → Bytes → Arrived
+shelved place a t ws c b =
+    cond (waits c b ws) (unchanged (refused 20 0) t ws)
+    (cond place (unchanged a t (behind ws c b))
+    (unchanged (refused 19 0) t ws))
+
+-- an admission's answer with what the passes leave
+abbrev pub withPasses : Answer → Passed → Arrived
+withPasses a p = record { answer = a; table = p .table; waiting = p .waiting; tries = p .tries }
+
+module _ (digest : Bytes → Bytes) where
+  unfoldable pub arrived : Bool → Bytes → List Waiting → ℕ → Bytes → ℕ → Arrived
+  arrived place t ws c b verdict =
+      let a = admission digest t b verdict in
+      cond (eqb (a .refusal) 9) (shelved place a t ws c b)
+      (cond (eqb (a .refusal) 0) (withPasses a (settled digest (admitted digest t b verdict) c ws))
+      (unchanged a t ws))
+
+-- ---- over the bytes that are lent
+
+-- the numbers that the outcomes need: two for each, and no more blocks end than a campaign holds places
+abbrev pub outcomesSize : ℕ
+outcomesSize = 2 * maxShare
+
+-- what a call answers, lists and leaves
+pub record Called : Type 0 where
+  pub answer : Answer
+  pub table : Bytes
+  pub shelf : Bytes
+  pub tries : List Try
+
+-- the outcomes that the answer lists
+abbrev pub listed : Called → List Answer
+listed r = outcomesOf (r .tries)
+
+-- 21: campaign above 3, "checked first"; 17: the buffer for outcomes, of so many numbers, is too short; 2: shelf not in form. What admission
+-- checks follows, form of the table first
+abbrev pub arrivalChecks : ℕ → ℕ → Bytes → List Check
+arrivalChecks c room s =
+    check 21 (leb c maxCampaign) 0
+    ∷ check 17 (leb outcomesSize room) outcomesSize
+    ∷ check 2 (inForm s) 0
+    ∷ []
+
+module _ (digest : Bytes → Bytes) where
+  unfoldable pub arrival : Bytes → Bytes → ℕ → Bytes → ℕ → ℕ → Called
+  arrival t s c b verdict room =
+      let first = answerTo (arrivalChecks c room s) 0 in
+      let r = arrived digest (hasPlace c (waitingIn s)) t (waitingIn s) c b verdict in
+      cond (eqb (first .refusal) 0)
+      (record { answer = r .answer; table = r .table; shelf = shelfBytes (r .waiting); tries = r .tries })
+      (record { answer = first; table = t; shelf = s; tries = [] })

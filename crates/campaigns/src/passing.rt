@@ -1,0 +1,95 @@
+// A pass over what waits.
+use crate::Pass;
+use block::Answer;
+ghost use mathlib.Core.Path.{_≡_};
+ghost use Prim.Native.Nat.{_+_};
+ghost use lib.ListN.{length};
+ghost use Rattle.block.specs.Answers.{putAnswers};
+ghost use Rattle.sha256.specs.Sha256.{sha256};
+ghost use Rattle.shelf.specs.Layout.{waitingIn, shelfBytes};
+ghost use Rattle.campaigns.specs.Passes.{outcome, outcomesOf, admits, pass};
+ghost use Rattle.campaigns.specs.Steps.{Passable, Standing, turned};
+
+// The place of a block let in, or the number of one dropped.
+fn outcome_of(answer: Answer) -> Answer
+    ensures { λ r. ⌜ r ≡ outcome answer ⌝ }
+{
+    if answer.refusal == 0 {
+        return answer;
+    }
+    Answer {
+        refusal: answer.refusal,
+        value: 0,
+    }
+}
+
+// Tries the block of the entry at which the pass stands, if it is the campaign's. One that is let in or dropped is taken out.
+fn turn(table: &mut [u8], shelf: &mut [u8], campaign: u8, outcomes: &mut [u64], p: Pass) -> Pass
+    requires { ⌜ Standing (now shelf) p ⌝ }
+    ensures { λ r. ⌜ r ≡ turned sha256 (now (table .entry)) (waitingIn (now (shelf .entry))) (now (outcomes .entry)) campaign p .next ⌝ }
+    ensures { λ _. ⌜ now (table .exit) ≡ turned sha256 (now (table .entry)) (waitingIn (now (shelf .entry))) (now (outcomes .entry)) campaign p .table ⌝ }
+    ensures { λ _. ⌜ now (shelf .exit) ≡ shelfBytes (turned sha256 (now (table .entry)) (waitingIn (now (shelf .entry))) (now (outcomes .entry)) campaign p .waiting) ⌝ }
+    ensures { λ _. ⌜ now (outcomes .exit) ≡ turned sha256 (now (table .entry)) (waitingIn (now (shelf .entry))) (now (outcomes .entry)) campaign p .outcomes ⌝ }
+{
+    let at = p.at;
+    let admitted = p.admitted;
+    let ended = p.ended;
+    if shelf::entries::campaign_at(shelf, at) != campaign {
+        return Pass {
+            at: at + 1,
+            admitted,
+            ended,
+        };
+    }
+    let answer = admission::admit(table, shelf::entries::block_at(shelf, at), 1);
+    if answer.refusal == 9 {
+        return Pass {
+            at: at + 1,
+            admitted,
+            ended,
+        };
+    }
+    shelf::take_out(shelf, at);
+    block::answers::put_answer(outcomes, ended, outcome_of(answer));
+    if answer.refusal == 0 {
+        return Pass {
+            at,
+            admitted: true,
+            ended: ended + 1,
+        };
+    }
+    Pass {
+        at,
+        admitted,
+        ended: ended + 1,
+    }
+}
+
+// Tries every waiting block of the campaign once, in the order they came.
+pub fn pass_over(
+    table: &mut [u8],
+    shelf: &mut [u8],
+    campaign: u8,
+    outcomes: &mut [u64],
+    ended: usize,
+) -> Pass
+    requires { ⌜ Passable (now shelf) ended ⌝ }
+    ensures { λ r. ⌜ r .admitted ≡ admits (pass sha256 (now (table .entry)) campaign (waitingIn (now (shelf .entry))) .tries) ⌝ }
+    ensures { λ r. ⌜ r .ended ≡ ended + length (outcomesOf (pass sha256 (now (table .entry)) campaign (waitingIn (now (shelf .entry))) .tries)) ⌝ }
+    ensures { λ _. ⌜ now (table .exit) ≡ pass sha256 (now (table .entry)) campaign (waitingIn (now (shelf .entry))) .table ⌝ }
+    ensures { λ _. ⌜ now (shelf .exit) ≡ shelfBytes (pass sha256 (now (table .entry)) campaign (waitingIn (now (shelf .entry))) .waiting) ⌝ }
+    ensures { λ _. ⌜ now (outcomes .exit) ≡ putAnswers (now (outcomes .entry)) ended (outcomesOf (pass sha256 (now (table .entry)) campaign (waitingIn (now (shelf .entry))) .tries)) ⌝ }
+{
+    let mut p = Pass {
+        at: 0,
+        admitted: false,
+        ended,
+    };
+    let mut at = 0;
+    while at < shelf::entries::count_of(shelf) {
+        let next = turn(table, shelf, campaign, outcomes, p);
+        p = next;
+        at = p.at;
+    }
+    p
+}
