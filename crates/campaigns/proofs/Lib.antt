@@ -5,5 +5,8 @@ pub mod Kept
 pub mod Last
 pub mod Apart
 pub mod Nines
+pub mod Ways
+pub mod Causes
+pub mod Promises
 mod Left
 mod Going

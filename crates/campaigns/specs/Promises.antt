@@ -89,9 +89,9 @@ module _ (digest : Bytes → Bytes) where
       -- the outcomes have room
       pub few : length (listed called) ≤ maxShare
       -- what waits for another campaign stays, in its order
-      pub otherCampaigns : inForm s ≡ true → (d : ℕ) → c ≢ d → only d (waitingIn (called .shelf)) ≡ only d (waitingIn s)
+      pub otherCampaigns : (d : ℕ) → c ≢ d → only d (waitingIn (called .shelf)) ≡ only d (waitingIn s)
       -- nothing is lost and nothing is invented: what waited, and the arrival if it got 9, waits on or has ended, as often
-      pub accounted : inForm s ≡ true → (x : Bytes)
+      pub accounted : (x : Bytes)
           → timesWaiting c x (waitingIn (called .shelf)) + timesEnded x (called .tries)
           ≡ timesWaiting c x (waitingIn s) + cond (eqb number 9 && sameBytes b x) 1 0
 
