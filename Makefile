@@ -89,7 +89,7 @@ uninstall:
 	DESTDIR='$(DESTDIR)' tools/install.sh uninstall '$(PREFIX)'
 
 # What the host tests run.
-test-programs: host $(HOST)/digests $(HOST)/calls $(HOST)/core_calls $(HOST)/record_calls $(HOST)/watch_calls harness
+test-programs: host $(HOST)/digests $(HOST)/calls $(HOST)/core_calls $(HOST)/record_calls $(HOST)/watch_calls $(HOST)/shelf_calls $(HOST)/two_campaigns harness
 
 # Cargo itself sees whether the harness's sources or the library changed.
 harness: prerequisites $(LIBRARY)
@@ -123,8 +123,11 @@ $(HOST)/dome: host/dome.c host/giangotum.h $(LIBRARY) | $(HOST)
 $(HOST)/digests $(HOST)/calls: $(HOST)/%: host/tests/%.c host/tests/checks.h host/giangotum.h $(LIBRARY) | $(HOST)
 	$(CC) $(CFLAGS) -Ihost -o $@ $< $(LIBRARY)
 
-$(HOST)/core_calls $(HOST)/record_calls $(HOST)/watch_calls: $(HOST)/%: host/tests/%.c host/tests/campaigns.h host/tests/checks.h $(HEADERS) $(LIBRARY) | $(HOST)
+$(HOST)/core_calls $(HOST)/record_calls $(HOST)/watch_calls $(HOST)/shelf_calls: $(HOST)/%: host/tests/%.c host/tests/campaigns.h host/tests/checks.h $(HEADERS) $(LIBRARY) | $(HOST)
 	$(CC) $(CFLAGS) -Ihost -o $@ $< $(LIBRARY)
+
+$(HOST)/two_campaigns: examples/two_campaigns.c $(HEADERS) $(LIBRARY) | $(HOST)
+	$(CC) $(CFLAGS) $(ONLY_REACHED) -Ihost -o $@ $< $(LIBRARY)
 
 # Cargo leaves a file that needn't change, and its time would then be taken for old.
 $(RUST_BASELINE) $(RUST_LISTING) &: $(RUST_SOURCES) | prerequisites

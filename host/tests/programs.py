@@ -5,8 +5,9 @@ from pathlib import Path
 
 ROOT = Path(__file__).resolve().parents[2]
 BUILT = ROOT / "target" / "host"
-DOME, DIGESTS, CALLS, CORE_CALLS, RECORD_CALLS, WATCH_CALLS = (
-    str(BUILT / name) for name in ("dome", "digests", "calls", "core_calls", "record_calls", "watch_calls"))
+DOME, DIGESTS, CALLS, CORE_CALLS, RECORD_CALLS, WATCH_CALLS, SHELF_CALLS, TWO_CAMPAIGNS = (
+    str(BUILT / name) for name in ("dome", "digests", "calls", "core_calls", "record_calls", "watch_calls", "shelf_calls",
+                                   "two_campaigns"))
 LISTING = str(ROOT / "target" / "bin" / "listing")
 HARNESS = str(ROOT / "target" / "harness" / "release" / "harness")
 LISTING = str(ROOT / "target" / "bin" / "listing")

@@ -1,13 +1,14 @@
-"""The stored examples: their bytes, their lines, and the program between them."""
+"""The stored examples: their bytes, their lines, and the program between them. `make test-programs` compiles those in C."""
 
 import make_arrivals
 import make_campaigns
-from programs import ROOT, dome, expect, expect_same_lines, listing
+from programs import ROOT, TWO_CAMPAIGNS, dome, expect, expect_same_lines, listing, output_of
 from reference import text_of
 
 EXAMPLES = ROOT / "examples"
 ARRIVALS = (EXAMPLES / "arrivals.bin").read_bytes()
 EXPECTED = (EXAMPLES / "arrivals.expected").read_text(encoding="ascii")
+TWO_CAMPAIGNS_LINES = (EXAMPLES / "two_campaigns.expected").read_text(encoding="ascii")
 CAMPAIGNS = {name: (EXAMPLES / f"{name}.campaign").read_bytes() for name in make_campaigns.CAMPAIGNS}
 LISTINGS = {name: (EXAMPLES / f"{name}.listing").read_text(encoding="ascii") for name in make_campaigns.CAMPAIGNS}
 
@@ -18,6 +19,10 @@ def test_dome_writes_the_stored_lines():
 
 def test_the_reference_writes_the_stored_lines():
     expect_same_lines(text_of(ARRIVALS), EXPECTED)
+
+
+def test_two_campaigns_writes_the_stored_lines():
+    expect_same_lines(output_of([TWO_CAMPAIGNS]), TWO_CAMPAIGNS_LINES)
 
 
 def test_the_stored_arrivals_are_the_described_ones():

@@ -1,10 +1,20 @@
-"""Each header by itself compiles as C and as C++, with warnings as errors."""
+"""Each header by itself compiles as C and as C++, with warnings as errors, and its constants agree with each other."""
 
 from programs import ROOT, output_of
 
-# A call for each header, so that what it declares can be used.
-HEADERS = {"giangotum.h": "gt_read_block(0, 0).answer.refusal", "giangotum_core.h": "gt_in_form(0, 0)"}
+# Calls of each header, so that what it declares can be used.
+HEADERS = {"giangotum.h": "gt_read_block(0, 0).answer.refusal",
+           "giangotum_core.h": "gt_in_form(0, 0) + gt_shelf_in_form(0, 0) + (int)gt_arrive(0, 0, 0, 0, 4, 0, 0, 1, 0, 0).ended"}
 WARNINGS = ["-Wall", "-Wextra", "-Wpedantic", "-Werror", "-fsyntax-only"]
+
+# The layouts of docs/FORMATS.md; and the most places that a campaign holds are those that the others' reserved ones leave.
+AGREEMENTS = ["GT_MAX_BLOCK_BYTES == 5 + GT_DIGEST_BYTES * GT_MAX_REFERENCES + 3 * GT_MAX_REQUESTS",
+              "GT_TABLE_BYTES == 10 + GT_MAX_PLACES * (GT_DIGEST_BYTES + 1 + 2 + GT_MAX_PLACES / 8 + 2 * GT_SLOTS + 1)",
+              "GT_PART_NUMBERS == GT_SLOTS * GT_RECORD_NUMBERS",
+              "GT_RECORDS_NUMBERS == GT_MAX_PLACES * GT_PART_NUMBERS",
+              "GT_SHELF_BYTES == 1 + GT_SHELF_PLACES * (1 + 2 + GT_MAX_BLOCK_BYTES)",
+              "GT_SHELF_MOST == GT_SHELF_PLACES - (GT_CAMPAIGNS - 1) * GT_SHELF_RESERVED",
+              "GT_OUTCOMES_NUMBERS == 2 * GT_SHELF_MOST"]
 
 
 def compiles(compiler, language, standard):
@@ -22,3 +32,8 @@ def test_c():
 def test_cpp():
     for standard in ["c++11", "c++17"]:
         compiles("g++", "c++", standard)
+
+
+def test_the_constants_agree():
+    source = f'#include "{ROOT / "host" / "giangotum_core.h"}"\n' + "".join(f'_Static_assert({a}, "{a}");\n' for a in AGREEMENTS)
+    output_of(["gcc", "-x", "c", "-std=c11", *WARNINGS, "-"], source.encode())

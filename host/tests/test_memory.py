@@ -4,10 +4,10 @@ import random
 
 import bad_inputs
 import generate
-from programs import (CALLS, CORE_CALLS, DOME, RECORD_CALLS, VALGRIND, WATCH_CALLS, digests, dome, expect, expect_same_lines,
-                      output_of, run)
+from programs import (CALLS, CORE_CALLS, DOME, RECORD_CALLS, SHELF_CALLS, TWO_CAMPAIGNS, VALGRIND, WATCH_CALLS, digests, dome,
+                      expect, expect_same_lines, output_of, run)
 from reference import text_of
-from test_examples import ARRIVALS
+from test_examples import ARRIVALS, TWO_CAMPAIGNS_LINES
 
 
 def expect_clean(stream):
@@ -44,6 +44,14 @@ def test_record_calls():
 
 def test_watch_calls():
     output_of([*VALGRIND, WATCH_CALLS])
+
+
+def test_shelf_calls():
+    output_of([*VALGRIND, SHELF_CALLS])
+
+
+def test_two_campaigns():
+    expect_same_lines(output_of([*VALGRIND, TWO_CAMPAIGNS]), TWO_CAMPAIGNS_LINES)
 
 
 def test_digests():
