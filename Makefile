@@ -1,7 +1,8 @@
 # make demo        shows the listing and the control program, each on a small campaign
 # make test        proves and tests everything: the gate
-# make bench       measures SHA-256, whole campaigns, form and the listing against baselines in C and Rust
-# make memory      adds up what the core's calls take of the device's memory, and fails where it is too much
+# make bench       measures SHA-256, whole campaigns, form and the listing against baselines in C and Rust, arrivals against C
+# make memory      adds up what the core's calls take of the device's memory, and fails where it is too much; and what a
+#                  controller of four campaigns takes
 # make fuzz        compares the library and the listing with the harness's model for long: FUZZ_SEED, FUZZ_CASES and FUZZ_LISTINGS
 #                  say where and how far
 # make host        builds the listing, the library for C and the control program
@@ -27,11 +28,13 @@ C_BASELINE_HEADERS = $(wildcard bench/baseline/*.h)
 RUST_BASELINE = target/baseline/release/libbaseline.a
 RUST_LISTING = target/baseline/release/listing
 RUST_SOURCES = bench/baseline_rust/Cargo.toml $(wildcard bench/baseline_rust/src/*.rs bench/baseline_rust/src/bin/*.rs)
-VERSUS = $(patsubst %,bench/%.c,versus timing implementations same same_at_random campaigns) $(C_BASELINE)
+VERSUS = $(patsubst %,bench/%.c,versus timing implementations same same_at_random chance campaigns) $(C_BASELINE)
+ARRIVALS = $(patsubst %,bench/%.c,timing controllers same_arrivals chance waiting campaigns) $(C_BASELINE) bench/baseline/shelf.c
 BENCH_HEADERS = $(wildcard bench/*.h bench/baseline_rust/*.h) $(C_BASELINE_HEADERS) $(HEADERS)
 
-# What the device calls.
+# What the device calls, and what a controller of four campaigns does.
 DEVICE_CALLS = gt_fresh gt_admit gt_interpret gt_forks gt_ancestors gt_build gt_digest gt_read_block
+CONTROLLER_CALLS = $(DEVICE_CALLS) gt_arrive gt_shelf_in_form
 
 FUZZ_SEED ?= 1
 FUZZ_CASES ?= 1000000
@@ -59,18 +62,20 @@ test: prerequisites
 	@tools/gate.sh
 
 # What the library costs on this machine, against the baselines and against a digest.
-bench: prerequisites $(HOST)/bench_sha256 $(HOST)/bench_campaign $(HOST)/bench_table $(HOST)/listing_c $(RUST_LISTING) $(LISTING)
+bench: prerequisites $(HOST)/bench_sha256 $(HOST)/bench_campaign $(HOST)/bench_table $(HOST)/bench_arrivals $(HOST)/listing_c $(RUST_LISTING) $(LISTING)
 	$(HOST)/bench_sha256
 	@echo
 	$(HOST)/bench_campaign
 	@echo
 	$(HOST)/bench_table
 	@echo
+	$(HOST)/bench_arrivals
+	@echo
 	python3 -B bench/listing.py target/streams $(LISTING) $(HOST)/listing_c $(RUST_LISTING)
 
-# What the core's calls take of the device's memory.
-memory: prerequisites $(HOST)/device $(HOST)/stack
-	python3 bench/memory.py $(HOST)/device $(HOST)/stack
+# What the core's calls take of the device's memory, and a controller's.
+memory: prerequisites $(HOST)/device $(HOST)/controller $(HOST)/stack
+	python3 bench/memory.py $(HOST)/device $(HOST)/controller $(HOST)/stack
 
 # The library, and then the listing program, against the harness's model. A million cases take some minutes; another seed
 # gives other cases.
@@ -143,13 +148,18 @@ $(HOST)/bench_sha256 $(HOST)/bench_campaign: $(HOST)/bench_%: bench/%.c $(VERSUS
 $(HOST)/bench_table: bench/table.c bench/timing.c bench/campaigns.c $(BENCH_HEADERS) $(LIBRARY) | $(HOST)
 	$(CC) $(BENCH_CFLAGS) -Ihost -o $@ $< bench/timing.c bench/campaigns.c $(LIBRARY)
 
+$(HOST)/bench_arrivals: bench/arrivals.c $(ARRIVALS) $(BENCH_HEADERS) $(LIBRARY) | $(HOST)
+	$(CC) $(BENCH_CFLAGS) -Ihost -o $@ $< $(ARRIVALS) $(LIBRARY)
+
 # Bound before the program starts, so that no call has the loader's work on its stack.
-$(HOST)/stack: bench/stack.c bench/painted.c bench/campaigns.c $(BENCH_HEADERS) $(LIBRARY) | $(HOST)
-	$(CC) $(BENCH_CFLAGS) -Ihost -o $@ $< bench/painted.c bench/campaigns.c $(LIBRARY) -lpthread -Wl,-z,now
+$(HOST)/stack: bench/stack.c bench/painted.c bench/campaigns.c bench/waiting.c $(BENCH_HEADERS) $(LIBRARY) | $(HOST)
+	$(CC) $(BENCH_CFLAGS) -Ihost -o $@ $< bench/painted.c bench/campaigns.c bench/waiting.c $(LIBRARY) -lpthread -Wl,-z,now
 
 # The calls by themselves: no C library, and nothing that they don't reach.
-$(HOST)/device: $(HOST)/device.o $(LIBRARY)
-	$(CC) -nostdlib -static $(ONLY_REACHED) -Wl,--build-id=none,-e,$(firstword $(DEVICE_CALLS)) $(DEVICE_CALLS:%=-Wl,-u,%) -o $@ $(LIBRARY) $<
+$(HOST)/device: CALLS = $(DEVICE_CALLS)
+$(HOST)/controller: CALLS = $(CONTROLLER_CALLS)
+$(HOST)/device $(HOST)/controller: $(HOST)/device.o $(LIBRARY)
+	$(CC) -nostdlib -static $(ONLY_REACHED) -Wl,--build-id=none,-e,$(firstword $(CALLS)) $(CALLS:%=-Wl,-u,%) -o $@ $(LIBRARY) $<
 
 # The loops stay loops: gcc would make calls of the very functions out of them.
 $(HOST)/device.o: bench/device.c | $(HOST)

@@ -1,9 +1,11 @@
 #!/usr/bin/env python3
-"""What the core's calls take of the device's memory, and whether it fits: exit status 1 if it doesn't.
+"""What the core's calls take of the device's memory, and whether it fits: exit status 1 if it doesn't. Then what a controller of
+four campaigns takes, for which there is no limit.
 
-    memory.py DEVICE STACK
+    memory.py DEVICE CONTROLLER STACK
 
-DEVICE is a file in which the calls are linked by themselves, STACK the program that measures how deep they go.
+DEVICE is a file in which the device's calls are linked by themselves, CONTROLLER the same for a controller's calls, STACK the
+program that measures how deep they go.
 """
 
 import re
@@ -11,7 +13,8 @@ import subprocess
 import sys
 from pathlib import Path
 
-HEADERS = Path(__file__).resolve().parents[1] / "host"
+HOST = Path(__file__).resolve().parents[1] / "host"
+HEADERS = "".join((HOST / file).read_text(encoding="ascii") for file in ("giangotum.h", "giangotum_core.h"))
 LIMIT = 65536  # bytes that the device has for everything
 AIM = 57344
 
@@ -22,20 +25,25 @@ def output_of(*command):
 
 def constant(name):
     """A number that the headers define."""
-    text = "".join((HEADERS / file).read_text(encoding="ascii") for file in ("giangotum.h", "giangotum_core.h"))
-    return int(re.search(rf"^#define {name} (\d+)$", text, re.MULTILINE).group(1))
+    return int(re.search(rf"^#define {name} (\d+)$", HEADERS, re.MULTILINE).group(1))
 
 
-def sections(device):
+def sections(linked):
     """The sections that are loaded, with their sizes: those that have an address."""
-    rows = re.findall(r"^(\S+) +(\d+) +([1-9]\d*)$", output_of("size", "-A", device), re.MULTILINE)
+    rows = re.findall(r"^(\S+) +(\d+) +([1-9]\d*)$", output_of("size", "-A", linked), re.MULTILINE)
     return {name: int(size) for name, size, _ in rows if int(size) > 0}
 
 
-def functions(device):
+def functions(linked):
     """The functions that are linked, with their sizes."""
-    rows = re.findall(r"^[0-9a-f]+ ([0-9a-f]+) [Tt] (.+)$", output_of("nm", "-S", device), re.MULTILINE)
+    rows = re.findall(r"^[0-9a-f]+ ([0-9a-f]+) [Tt] (.+)$", output_of("nm", "-S", linked), re.MULTILINE)
     return [(name, int(size, 16)) for size, name in rows]
+
+
+def calls(linked):
+    """Those of the functions that the headers declare."""
+    declared = set(re.findall(r"^\w+ (gt_\w+)\(", HEADERS, re.MULTILINE))
+    return sorted(name for name, _ in functions(linked) if name in declared)
 
 
 def depths(stack):
@@ -52,27 +60,35 @@ def verdict(total, bound):
     return f"met, {bound - total:,} to spare" if total <= bound else f"not met, {total - bound:,} over"
 
 
-def main(device, stack):
-    linked = functions(device)
-    calls = sorted(name for name, _ in linked if name.startswith("gt_"))
-    helpers = [(name, size) for name, size in linked if name.startswith(("mem", "bcmp"))]
-    measured = depths(stack)
-    deepest = max(calls, key=lambda name: measured[name])
+def state_sum(title, linked, measured, lent):
+    """Writes what calls take: their code, what is lent to them, as (what, bytes, how), and their stack. Gives the sum."""
+    parts = sections(linked)
+    deepest = max(calls(linked), key=lambda name: measured[name])
+    rows = [("code and constants", sum(parts.values()), ", ".join(f"{name} {size:,}" for name, size in parts.items())), *lent,
+            ("deepest stack", measured[deepest][0], f"of {deepest}")]
+    total = sum(count for _, count, _ in rows)
 
-    parts = sections(device)
-    code, table = sum(parts.values()), constant("GT_TABLE_BYTES")
-    records, block = 2 * constant("GT_RECORDS_NUMBERS"), constant("GT_MAX_BLOCK_BYTES")
-    depth = measured[deepest][0]
-    total = code + table + records + block + depth
-
-    print("Memory of the core's calls, in bytes")
+    print(title)
     print()
-    line("code and constants", code, ", ".join(f"{name} {size:,}" for name, size in parts.items()))
-    line("table", table, "GT_TABLE_BYTES")
-    line("records", records, "GT_RECORDS_NUMBERS of 2 bytes")
-    line("one block", block, "GT_MAX_BLOCK_BYTES")
-    line("deepest stack", depth, f"of {deepest}")
+    for row in rows:
+        line(*row)
     line("sum", total)
+    return total
+
+
+def state_depths(names, measured):
+    for name in names:
+        line(f"  {name}", measured[name][0], f"{measured[name][1]} inputs")
+
+
+def state_device(device, measured):
+    """Gives the sum."""
+    helpers = [(name, size) for name, size in functions(device) if name.startswith(("mem", "bcmp"))]
+    lent = [("table", constant("GT_TABLE_BYTES"), "GT_TABLE_BYTES"),
+            ("records", 2 * constant("GT_RECORDS_NUMBERS"), "GT_RECORDS_NUMBERS of 2 bytes"),
+            ("one block", constant("GT_MAX_BLOCK_BYTES"), "GT_MAX_BLOCK_BYTES")]
+
+    total = state_sum("Memory of the core's calls, in bytes", device, measured, lent)
     line("limit", LIMIT, verdict(total, LIMIT))
     line("aim", AIM, verdict(total, AIM))
     print()
@@ -81,8 +97,30 @@ def main(device, stack):
     print(f"the smallest memory functions are linked: {', '.join(f'{name} {size}' for name, size in helpers)}.")
     print("Stack: each call on a painted stack, from the frame of its caller's caller on, refusals among the inputs; calling")
     print(f"nothing gives {measured['nothing'][0]}, which ending the thread takes.")
-    for name in calls:
-        line(f"  {name}", measured[name][0], f"{measured[name][1]} inputs")
+    state_depths(calls(device), measured)
+    return total
+
+
+def state_controller(controller, device, measured):
+    campaigns = constant("GT_CAMPAIGNS")
+    added = [name for name in calls(controller) if name not in calls(device)]
+    lent = [("tables", campaigns * constant("GT_TABLE_BYTES"), f"{campaigns} of GT_TABLE_BYTES"),
+            ("records", campaigns * 2 * constant("GT_RECORDS_NUMBERS"), f"{campaigns} of GT_RECORDS_NUMBERS of 2 bytes"),
+            ("shelf", constant("GT_SHELF_BYTES"), "GT_SHELF_BYTES"),
+            ("one block", constant("GT_MAX_BLOCK_BYTES"), "GT_MAX_BLOCK_BYTES"),
+            ("outcomes", 8 * constant("GT_OUTCOMES_NUMBERS"), "GT_OUTCOMES_NUMBERS of 8 bytes")]
+
+    state_sum(f"Memory of a controller of {campaigns} campaigns, in bytes: there is no limit", controller, measured, lent)
+    print()
+    print("Linked and measured in the same way, with two calls more:")
+    state_depths(added, measured)
+
+
+def main(device, controller, stack):
+    measured = depths(stack)
+    total = state_device(device, measured)
+    print()
+    state_controller(controller, device, measured)
     return 0 if total <= LIMIT else f"memory: {total - LIMIT:,} bytes over the limit of {LIMIT:,}"
 
 

@@ -1,5 +1,6 @@
 /* The deepest stack of each call, in bytes, from the caller's frame on, over many inputs: tables that are empty, partly
- * filled, full, forked and out of form; blocks up to 16 references and 8 requests; every refusal.
+ * filled, full, forked and out of form; shelves that are empty, full and out of form; blocks up to 16 references and 8
+ * requests; every refusal.
  * It prints what it measures. An answer other than the expected one ends it with status 1. */
 #include <stdio.h>
 #include <string.h>
@@ -7,6 +8,7 @@
 #include "campaigns.h"
 #include "expect.h"
 #include "painted.h"
+#include "waiting.h"
 
 enum { SITES = 16, ROUND = SITES, REQUEST_BYTES = 3, LIST_BYTES = REQUEST_BYTES * GT_SLOTS };
 
@@ -14,21 +16,29 @@ typedef struct {
     uint8_t bytes[GT_TABLE_BYTES];
 } table;
 
+typedef struct {
+    uint8_t bytes[GT_SHELF_BYTES];
+} shelf;
+
 /* What a call is given. Each call takes what it needs of it. */
 typedef struct {
     const table *table;   /* lent as a copy */
+    const shelf *shelf;   /* the same */
     const uint8_t *bytes; /* a block, a message, owners, a request list or a list of calls */
     size_t length;        /* of the bytes */
     uint8_t number;       /* a verdict, a site or a number of sites */
+    uint8_t campaign;
     size_t place;
-    size_t room;     /* numbers of the record buffer, or bytes of the output or of a fresh table */
+    size_t room;     /* numbers of the record buffer or of the outcomes, or bytes of the output or of a fresh table */
     uint8_t refusal; /* expected */
+    size_t ended;    /* waiting blocks that are let in or dropped, expected */
 } input;
 
 static table lent;
+static shelf lent_shelf;
 static uint16_t records[GT_RECORDS_NUMBERS];
 static uint8_t output[GT_MAX_BLOCK_BYTES];
-static uint64_t answers[2];
+static uint64_t answers[2], outcomes[GT_OUTCOMES_NUMBERS];
 
 /* ---- Tables and blocks */
 
@@ -97,6 +107,72 @@ static void prepare_blocks(void)
     another.bytes[another.length - 1]++;
 }
 
+/* ---- Shelves. Campaign 0 has the busy campaign's table; the other campaigns hold nothing. */
+
+static chain waiting_chain;
+static const shelf empty_shelf;
+static shelf in_order, reversed; /* full: the first block of the chain lets in all ten of campaign 0 */
+static shelf orphans;            /* full: the same block has all ten dropped */
+static shelf same_bytes_twice;   /* full, and not in form */
+static built_block spare_orphan; /* on none of them */
+static table second_held;        /* the chain's first two blocks are held, past the shelf */
+static table few_sites;          /* empty, and without the chain's site */
+
+static void put_on(shelf *s, uint8_t campaign, const built_block *b)
+{
+    table t = reached[campaign == 0 ? HELD_BEFORE : 0];
+    gt_arrival arrival = gt_arrive(t.bytes, sizeof t.bytes, s->bytes, sizeof s->bytes, campaign, b->bytes, b->length, 1,
+                                   outcomes, GT_OUTCOMES_NUMBERS);
+
+    expect(arrival.answer.refusal == 9, "a block does not wait");
+}
+
+static void fill_shelf(shelf *s, bool last_first)
+{
+    full_shelf full = full_shelf_of(&waiting_chain, last_first);
+
+    for (size_t i = 0; i < GT_SHELF_PLACES; i++)
+        put_on(s, full.sent[i].campaign, &full.sent[i].block);
+}
+
+/* For campaign 0 the second block of the chain with a sequence number that doesn't follow, and another request for each. */
+static void fill_with_orphans(shelf *s)
+{
+    full_shelf full = full_shelf_of(&waiting_chain, false);
+
+    spare_orphan = waiting_chain.blocks[1];
+    spare_orphan.bytes[2]++;
+    for (size_t i = 0; i < GT_SHELF_PLACES; i++)
+        if (full.sent[i].campaign == 0) {
+            put_on(s, 0, &spare_orphan);
+            spare_orphan.bytes[spare_orphan.length - 1]++;
+        } else {
+            put_on(s, full.sent[i].campaign, &full.sent[i].block);
+        }
+}
+
+static void prepare_shelves(void)
+{
+    const size_t entry_bytes = (GT_SHELF_BYTES - 1) / GT_SHELF_PLACES;
+
+    waiting_chain = chain_of(&busy);
+    fill_shelf(&in_order, false);
+    fill_shelf(&reversed, true);
+    fill_with_orphans(&orphans);
+    same_bytes_twice = in_order;
+    memcpy(same_bytes_twice.bytes + GT_SHELF_BYTES - entry_bytes, same_bytes_twice.bytes + 1, entry_bytes);
+}
+
+static void prepare_tables_beside_shelves(void)
+{
+    const uint8_t owners[GT_SLOTS] = {0};
+
+    second_held = reached[HELD_BEFORE];
+    admit(&second_held, &waiting_chain.blocks[0]);
+    admit(&second_held, &waiting_chain.blocks[1]);
+    expect(gt_fresh(4, owners, GT_SLOTS, few_sites.bytes, sizeof few_sites.bytes).refusal == 0, "no setup");
+}
+
 /* ---- The calls. Each gives its refusal. */
 
 static uint8_t call_nothing(const input *in) { return in->refusal; }
@@ -147,6 +223,20 @@ static uint8_t call_replay(const input *in)
     return ran == 1 ? (uint8_t)answers[0] : UINT8_MAX;
 }
 
+static uint8_t call_shelf_in_form(const input *in)
+{
+    (void)in;
+    return gt_shelf_in_form(lent_shelf.bytes, sizeof lent_shelf.bytes) ? 0 : 2;
+}
+
+static uint8_t call_arrive(const input *in)
+{
+    gt_arrival arrival = gt_arrive(lent.bytes, sizeof lent.bytes, lent_shelf.bytes, sizeof lent_shelf.bytes, in->campaign,
+                                   in->bytes, in->length, in->number, outcomes, in->room);
+
+    return arrival.ended == in->ended ? arrival.answer.refusal : UINT8_MAX;
+}
+
 /* ---- Depths */
 
 typedef uint8_t (*call)(const input *in);
@@ -169,6 +259,8 @@ static void lend(const void *context)
 
     if (made->in->table != NULL)
         lent = *made->in->table;
+    if (made->in->shelf != NULL)
+        lent_shelf = *made->in->shelf;
 }
 
 /* Writes the deepest of a call over its inputs. */
@@ -342,6 +434,56 @@ static void measure_replay(void)
     MEASURE("gt_replay", call_replay, inputs);
 }
 
+static void measure_shelf_in_form(void)
+{
+    const input inputs[] = {
+        {.shelf = &empty_shelf}, {.shelf = &in_order}, {.shelf = &reversed}, {.shelf = &same_bytes_twice, .refusal = 2},
+    };
+
+    MEASURE("gt_shelf_in_form", call_shelf_in_form, inputs);
+}
+
+/* A block with a good signature on a table and a shelf, with room for all outcomes. */
+#define ARRIVES(block, on, beside) .table = (on), .shelf = (beside), BLOCK(block), .number = 1, .room = GT_OUTCOMES_NUMBERS
+
+static void measure_arrive(void)
+{
+    enum { ALL = GT_OUTCOMES_NUMBERS };
+    const built_block *first = &busy.blocks[0], *next = &busy.blocks[HELD_BEFORE], *last = &busy.blocks[LAST_PLACE];
+    const built_block *lets_in = &waiting_chain.blocks[0], *waits = &waiting_chain.blocks[CHAIN_BLOCKS - 1];
+    const table *held = &reached[HELD_BEFORE], *but_one = &reached[LAST_PLACE];
+    /* Nothing waits, or nothing is ready; ten are let in by one pass and by ten; ten are dropped by 10 and by 4, one by 11; one
+     * is dropped by 8, the next are let in, and the last is dropped by 11. Then a block that waits, and the refusals. */
+    const input inputs[] = {
+        {ARRIVES(*first, &reached[0], &empty_shelf)},
+        {ARRIVES(*last, but_one, &empty_shelf)},
+        {ARRIVES(*next, held, &in_order)},
+        {ARRIVES(*lets_in, held, &in_order), .ended = 10},
+        {ARRIVES(*lets_in, held, &reversed), .ended = 10},
+        {ARRIVES(*lets_in, held, &orphans), .ended = 10},
+        {ARRIVES(*first, &few_sites, &in_order), .ended = 10},
+        {ARRIVES(*lets_in, but_one, &in_order), .ended = 1},
+        {ARRIVES(*next, &second_held, &in_order), .ended = 10},
+        {ARRIVES(*waits, held, &empty_shelf), .refusal = 9},
+        {ARRIVES(*waits, held, &in_order), .refusal = 20},
+        {ARRIVES(spare_orphan, held, &in_order), .refusal = 19},
+        {ARRIVES(*waits, held, &in_order), .campaign = GT_CAMPAIGNS, .refusal = 21},
+        {.table = held, .shelf = &in_order, BLOCK(*last), .number = 1, .room = ALL - 1, .refusal = 17},
+        {ARRIVES(*last, held, &same_bytes_twice), .refusal = 2},
+        {ARRIVES(*last, &out_of_form, &in_order), .refusal = 2},
+        {.table = FULL, .shelf = &in_order, .bytes = last->bytes, .length = 4, .number = 1, .room = ALL, .refusal = 3},
+        {ARRIVES(bad_site, FULL, &in_order), .refusal = 4},
+        {.table = FULL, .shelf = &in_order, BLOCK(*last), .number = 0, .room = ALL, .refusal = 5},
+        {ARRIVES(bad_request, FULL, &in_order), .refusal = 6},
+        {ARRIVES(repeated, FULL, &in_order), .refusal = 7},
+        {ARRIVES(*last, FULL, &in_order), .refusal = 8},
+        {ARRIVES(orphan, FULL, &in_order), .refusal = 10},
+        {ARRIVES(another, FULL, &in_order), .refusal = 11},
+    };
+
+    MEASURE("gt_arrive", call_arrive, inputs);
+}
+
 /* What ending the thread takes. */
 static void measure_nothing(void)
 {
@@ -356,6 +498,8 @@ int main(void)
     prepare_tables();
     prepare_forks();
     prepare_blocks();
+    prepare_shelves();
+    prepare_tables_beside_shelves();
 
     puts("call               inputs   bytes of stack");
     measure_nothing();
@@ -369,5 +513,7 @@ int main(void)
     measure_ancestors();
     measure_build();
     measure_replay();
+    measure_shelf_in_form();
+    measure_arrive();
     return 0;
 }

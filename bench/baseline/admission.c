@@ -11,7 +11,7 @@ static size_t place_of(const baseline_table *table, const baseline_digest *diges
     return place;
 }
 
-static baseline_digest digest_of(const uint8_t *bytes, size_t length)
+baseline_digest baseline_digest_of(const uint8_t *bytes, size_t length)
 {
     uint8_t digest_bytes[DIGEST_BYTES];
     baseline_digest digest;
@@ -64,10 +64,26 @@ static baseline_answer put(baseline_table *table, const baseline_block *block, c
     return answer(NONE, table->count++);
 }
 
+baseline_answer baseline_hold(baseline_table *table, const baseline_block *block, const baseline_digest *digest)
+{
+    uint64_t places;
+    size_t held = place_of(table, digest);
+
+    if (held < table->count)
+        return answer(DIGEST_HELD, held);
+    baseline_answer references = places_of(table, block, &places);
+    if (references.refusal != NONE)
+        return references;
+    if (!parent_rule_holds(table, block, places))
+        return answer(NO_PARENT, 0);
+    if (table->count == PLACES)
+        return answer(FULL, 0);
+    return put(table, block, digest, places);
+}
+
 baseline_answer baseline_admit(baseline_table *table, const uint8_t *bytes, size_t length, uint8_t verdict)
 {
     baseline_block block;
-    uint64_t places;
 
     if (!baseline_in_form(table))
         return answer(NOT_IN_FORM, 0);
@@ -80,16 +96,6 @@ baseline_answer baseline_admit(baseline_table *table, const uint8_t *bytes, size
     baseline_answer lists = baseline_check_lists(&block);
     if (lists.refusal != NONE)
         return lists;
-    baseline_digest digest = digest_of(bytes, length);
-    size_t held = place_of(table, &digest);
-    if (held < table->count)
-        return answer(DIGEST_HELD, held);
-    baseline_answer references = places_of(table, &block, &places);
-    if (references.refusal != NONE)
-        return references;
-    if (!parent_rule_holds(table, &block, places))
-        return answer(NO_PARENT, 0);
-    if (table->count == PLACES)
-        return answer(FULL, 0);
-    return put(table, &block, &digest, places);
+    baseline_digest digest = baseline_digest_of(bytes, length);
+    return baseline_hold(table, &block, &digest);
 }

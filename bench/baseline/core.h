@@ -1,8 +1,8 @@
-/* The core of document 01 in plain C, unproved: what the proved library is measured against. It shares nothing with the
- * library: not the layout of the table, not SHA-256.
+/* The core of document 01 in plain C, unproved, with the shelf that up to four campaigns share: what the proved library is
+ * measured against. It shares nothing with the library: not the layout of the table or the shelf, not SHA-256.
  *
- * A caller lends a table and a record buffer, as with the library. The form check stands at the start of every call on a
- * table, since document 01 asks for it there. */
+ * A caller lends a table, a record buffer and a shelf, as with the library. The form check stands at the start of every
+ * call on a table, since document 01 asks for it there, and that of the shelf at the start of every arrival. */
 #ifndef BASELINE_CORE_H
 #define BASELINE_CORE_H
 
@@ -19,10 +19,14 @@ enum {
     MAX_REQUESTS = 8,
     MAX_BLOCK_BYTES = 541,
     RECORD_NUMBERS = 40,
-    RECORDS_NUMBERS = PLACES * SLOTS * RECORD_NUMBERS
+    RECORDS_NUMBERS = PLACES * SLOTS * RECORD_NUMBERS,
+    CAMPAIGNS = 4,
+    SHELF_PLACES = 16,
+    RESERVED_PLACES = 2, /* of the shelf: a campaign may always hold these */
+    MOST_PLACES = 10     /* and never more than these */
 };
 
-/* Document 01's refusal numbers. */
+/* The refusal numbers. */
 enum {
     NONE = 0,
     NOT_LAWFUL = 1,
@@ -39,7 +43,10 @@ enum {
     WRONG_RECORDS = 12,
     NO_PLACE = 13,
     INTERPRETED = 14,
-    NOT_INTERPRETED = 15
+    NOT_INTERPRETED = 15,
+    NO_SHELF_PLACE = 19,
+    WAITS_ALREADY = 20,
+    NO_CAMPAIGN = 21
 };
 
 typedef struct {
@@ -69,6 +76,27 @@ typedef struct {
     uint8_t count;
 } baseline_table;
 
+/* A waiting block and its campaign. The bytes behind the block are zero. */
+typedef struct {
+    uint16_t length;
+    uint8_t campaign;
+    uint8_t bytes[MAX_BLOCK_BYTES];
+} baseline_waiting;
+
+/* The waiting blocks in the order in which they came. Entries from the count on are zero. */
+typedef struct {
+    baseline_waiting waiting[SHELF_PLACES];
+    uint8_t count;
+} baseline_shelf;
+
+/* What an arrival is answered, and for each waiting block that it ended, in the order tried: refusal 0 and the place of one
+ * that was let in, or the refusal of one that was dropped. */
+typedef struct {
+    baseline_answer answer;
+    size_t ended;
+    baseline_answer outcomes[MOST_PLACES];
+} baseline_arrival;
+
 void baseline_sha256(const uint8_t *m, size_t n, uint8_t out[DIGEST_BYTES]);
 
 /* Makes the empty table of a setup; all zero beside refusal 1. */
@@ -81,5 +109,12 @@ baseline_answer baseline_admit(baseline_table *table, const uint8_t *block, size
 
 /* Checks 2 and 12 to 15, then the place's numbers are written and the place is marked. */
 baseline_answer baseline_interpret(baseline_table *table, size_t place, uint16_t *records, size_t numbers);
+
+bool baseline_shelf_in_form(const baseline_shelf *shelf);
+
+/* Checks 21, 2 and those of an admission, where 9 becomes 20 or 19 if the block can't wait. Beside 9 it waits; after an
+ * admission the campaign's waiting blocks are tried in passes. */
+baseline_arrival baseline_arrive(baseline_table *table, baseline_shelf *shelf, uint8_t campaign, const uint8_t *block,
+                                 size_t length, uint8_t verdict);
 
 #endif

@@ -16,6 +16,16 @@ static inline bool same_digest(const baseline_digest *x, const baseline_digest *
     return x->words[0] == y->words[0] && memcmp(x, y, sizeof *x) == 0;
 }
 
+/* Without a branch for each byte, so that a compiler may look at many at once. */
+static inline bool all_zero(const void *bytes, size_t length)
+{
+    uint8_t any = 0;
+
+    for (size_t i = 0; i < length; i++)
+        any |= ((const uint8_t *)bytes)[i];
+    return any == 0;
+}
+
 /* The lowest place of a set that isn't empty, and the set without it. */
 static inline size_t lowest(uint64_t places) { return (size_t)__builtin_ctzll(places); }
 static inline uint64_t without_lowest(uint64_t places) { return places & (places - 1); }
@@ -39,5 +49,9 @@ typedef struct {
 bool baseline_read(const uint8_t *bytes, size_t length, baseline_block *block);
 /* Checks 6 and 7, in this order. */
 baseline_answer baseline_check_lists(const baseline_block *block);
+
+baseline_digest baseline_digest_of(const uint8_t *bytes, size_t length);
+/* Checks 8 to 11 for a block that the reader accepts and a table in form, then the block stands at the next place. */
+baseline_answer baseline_hold(baseline_table *table, const baseline_block *block, const baseline_digest *digest);
 
 #endif

@@ -21,16 +21,6 @@ baseline_answer baseline_fresh(baseline_table *table, uint8_t sites, const uint8
     return answer(NONE, 0);
 }
 
-/* Without a branch for each byte, so that a compiler may look at many at once. */
-static bool all_zero(const uint8_t *bytes, size_t length)
-{
-    uint8_t any = 0;
-
-    for (size_t i = 0; i < length; i++)
-        any |= bytes[i];
-    return any == 0;
-}
-
 static bool held_below(const baseline_table *table, size_t place)
 {
     for (size_t lower = 0; lower < place; lower++)
@@ -70,5 +60,5 @@ bool baseline_in_form(const baseline_table *table)
     for (size_t place = 0; place < count; place++)
         if (!row_in_form(table, place))
             return false;
-    return all_zero((const uint8_t *)(table->rows + count), (PLACES - count) * sizeof *table->rows);
+    return all_zero(table->rows + count, (PLACES - count) * sizeof *table->rows);
 }
