@@ -12,10 +12,11 @@ def test_the_theorems_are_quoted_word_for_word():
     page = (ROOT / "docs" / "AGREEMENT.md").read_text(encoding="utf-8")
     crates = ROOT / "crates"
     stated = [crates / "agreement" / "specs" / "Promises.antt", crates / "agreement" / "specs" / "Watched.antt",
-              crates / "report" / "specs" / "Agreed.antt", *sorted((crates / "arrival" / "specs").glob("*.antt"))]
+              crates / "report" / "specs" / "Agreed.antt", *sorted((crates / "arrival" / "specs").glob("*.antt")),
+              crates / "controller" / "specs" / "Promises.antt"]
     sources = [path.read_text(encoding="utf-8") for path in stated]
     quoted = re.findall(r"```antt\n(.*?)```", page, re.DOTALL)
-    expect(len(quoted) == 13, f"{len(quoted)} quotations")
+    expect(len(quoted) == 15, f"{len(quoted)} quotations")
     for text in quoted:
         expect(any(text in source for source in sources), text)
 

@@ -1,8 +1,8 @@
 -- Laws of the elements that pass a test: of joined lists, one that stands anywhere, and how long their list is. Assumes nothing.
-use mathlib.Core.Path.{_≡_, refl, sym, ap, _∙_}
-use mathlib.Core.Bool.{Bool, true, false, cond}
+use mathlib.Core.Path.{_≡_, refl, ap}
+use mathlib.Core.Bool.{Bool, cond, _&&_}
 use mathlib.Core.List.{List, [], _∷_, _++_}
-use Prim.Native.Nat.{ℕ, _+_, _≤_}
+use Prim.Native.Nat.{_+_, _≤_}
 use native.Mathlib.Omega.{arith}
 use lib.ListN.{length}
 use Rattle.base.specs.List.{countIn, thoseIn}
@@ -34,3 +34,9 @@ module _ {A : Type 0} (test : A → Bool) where
   unfolding countIn
   count-in-le [] = omega arith
   count-in-le (x ∷ xs) = by-test (test x) (λ y. rw y (omega (arith, count-in-le xs))) (λ n. rw n (omega (arith, count-in-le xs)))
+
+-- of those that pass one test, how many pass another
+pub count-in-those : {A : Type 0} (f g : A → Bool) (xs : List A) → countIn (λ x. f x && g x) xs ≡ countIn g (thoseIn f xs)
+unfolding countIn thoseIn
+count-in-those f g [] = refl
+count-in-those f g (x ∷ xs) = by-test (f x) (λ y. rw y (omega (arith, count-in-those f g xs))) (λ n. rw n (omega (arith, count-in-those f g xs)))

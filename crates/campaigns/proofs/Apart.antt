@@ -1,17 +1,17 @@
 -- A campaign's passes over the whole shelf are its passes over what waits for it. Assumes nothing.
 use mathlib.Core.Path.{_≡_, refl, ap, _∙_}
-use mathlib.Core.Bool.{Bool, true, false, cond, _&&_, _||_}
+use mathlib.Core.Bool.{Bool, true, cond, _&&_, _||_}
 use mathlib.Core.List.{List, [], _∷_}
-use Prim.Native.Nat.{ℕ, zero, suc, _<_}
+use Prim.Native.Nat.{ℕ, zero, suc}
 use native.Mathlib.Omega.{arith}
 use lib.ListN.{length}
 use Rattle.base.specs.Bytes.{Bytes, sameBytes}
 use Rattle.base.specs.List.{someIn, thoseIn}
 use Rattle.base.proofs.Tests.{by-test}
 use Rattle.base.proofs.Those.{length-those, count-in-le}
-use Rattle.admission.specs.Admission.{admission, admitted}
+use Rattle.admission.specs.Admission.{admission}
 use Rattle.shelf.specs.Layout.{Waiting}
-use Rattle.shelf.specs.Rules.{isFor, isSame, waits}
+use Rattle.shelf.specs.Rules.{isFor, waits}
 use Rattle.campaigns.specs.Passes.{Passed, waitsOn, andThen, admits, pass, passes, settled}
 use Rattle.campaigns.specs.Promises.{only}
 use Rattle.campaigns.proofs.Inductions.{pass-by, passes-enough}

@@ -1,5 +1,5 @@
 -- What holds at each turn of a pass and of the passes, as the loops keep it. Assumes nothing.
-use mathlib.Core.Path.{_≡_, refl, sym, ap, ap₂, _∙_}
+use mathlib.Core.Path.{_≡_, refl, sym, ap, _∙_}
 use mathlib.Core.Bool.{Bool, true, false}
 use mathlib.Core.Logic.{_⊎_, inl, inr}
 use mathlib.Core.List.{List}
@@ -20,7 +20,7 @@ use Rattle.campaigns.specs.Steps.{Passable, nothing, Turned, passedBy, t
 use Rattle.campaigns.specs.declared.Pass.{Pass}
 use Rattle.campaigns.proofs.Inductions.{pass-length, pass-fewer}
 use Rattle.campaigns.proofs.Kept.{pass-fit}
-use Rattle.campaigns.proofs.Left.{Noted, noted, leftOf, left-turn, restOf, rest-turn}
+use Rattle.campaigns.proofs.Left.{noted, leftOf, left-turn, restOf, rest-turn}
 
 -- ---- a pass
 

@@ -1,10 +1,9 @@
 -- How a fact is shown of a pass, and of all passes: entry by entry, and pass by pass. Assumes nothing.
-use mathlib.Core.Path.{_≡_, refl, ap, _∙_}
-use mathlib.Core.Bool.{Bool, true, false, cond}
-use mathlib.Core.List.{List, [], _∷_, _++_}
-use Prim.Native.Nat.{ℕ, zero, suc, _+_, _≤_, _<_}
+use mathlib.Core.Path.{_≡_, refl, ap}
+use mathlib.Core.Bool.{true, false, cond}
+use mathlib.Core.List.{List, [], _∷_}
+use Prim.Native.Nat.{ℕ, zero, suc, _+_, _<_}
 use native.Mathlib.Omega.{arith}
-use lib.Dec.{eqb}
 use lib.ListN.{length}
 use borrow.Author.Tests.{eqb-true, ne-eqb}
 use Rattle.base.specs.Bytes.{Bytes}
@@ -13,7 +12,7 @@ use Rattle.base.proofs.Tests.{by-test, true-not-false}
 use Rattle.admission.specs.Admission.{admission, admitted}
 use Rattle.shelf.specs.Layout.{Waiting}
 use Rattle.shelf.specs.Rules.{isFor}
-use Rattle.campaigns.specs.Passes.{Try, Passed, waitsOn, letIn, outcomesOf, triedBefore, leftBefore, andThen, admits, pass, passes, settled}
+use Rattle.campaigns.specs.Passes.{Try, Passed, waitsOn, outcomesOf, triedBefore, leftBefore, andThen, admits, pass, passes, settled}
 
 -- where a block was let in, there is an outcome
 admits-some : (ys : List Try) → admits ys ≡ true → 0 < length (outcomesOf ys)

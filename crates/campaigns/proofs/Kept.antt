@@ -1,25 +1,24 @@
 -- What passes keep: the rules of the shelf, the blocks' lengths, the places of the campaign, every block as often as it waited, and what waits
 -- for other campaigns; and their tries are admissions one after the other. Assumes nothing.
 use mathlib.Core.Path.{_≡_, refl, sym, ap, _∙_}
-use mathlib.Core.Bool.{Bool, true, false, cond, not, _&&_}
+use mathlib.Core.Bool.{false, cond}
 use mathlib.Core.Logic.{_≢_}
 use mathlib.Core.List.{List, [], _∷_, _++_, append-assoc}
-use Prim.Native.Nat.{ℕ, _+_, _≤_, _<_}
+use Prim.Native.Nat.{ℕ, _+_}
 use native.Mathlib.Omega.{arith}
-use lib.Dec.{eqb}
 use lib.ListN.{length, length-append}
 use borrow.Author.Tests.{eqb-true, ne-eqb}
-use Rattle.base.specs.Bytes.{Bytes, sameBytes}
+use Rattle.base.specs.Bytes.{Bytes}
 use Rattle.base.specs.List.{countIn, thoseIn}
 use Rattle.base.proofs.Tests.{by-test}
 use Rattle.base.proofs.Those.{count-in-append}
-use Rattle.admission.specs.Admission.{admission, admitted}
+use Rattle.admission.specs.Admission.{admission}
 use Rattle.shelf.specs.Layout.{Waiting}
-use Rattle.shelf.specs.Rules.{isFor, holds, isSame}
+use Rattle.shelf.specs.Rules.{isFor, holds}
 use Rattle.shelf.specs.Steps.{AllFit}
 use Rattle.shelf.proofs.Formed.{Ruled}
 use Rattle.shelf.proofs.Ruled.{ruled-without}
-use Rattle.campaigns.specs.Passes.{Try, Passed, waitsOn, outcomesOf, pass, settled}
+use Rattle.campaigns.specs.Passes.{Passed, waitsOn, outcomesOf, pass, settled}
 use Rattle.campaigns.specs.Promises.{only, timesWaiting, isEnd, timesEnded, TriedFrom}
 use Rattle.campaigns.proofs.Inductions.{pass-by, settled-by}
 use Rattle.campaigns.proofs.Tries.{outcomes-append, tried-append}

@@ -1,7 +1,7 @@
 -- The last pass admits none: it leaves the table, and each of the campaign's blocks that waits on gets 9 from it. Assumes nothing.
-use mathlib.Core.Path.{_≡_, refl, sym, ap, subst, _∙_}
-use mathlib.Core.Bool.{Bool, true, false, _||_}
-use mathlib.Core.List.{List, [], _∷_, List·Memᴰ, List·Memᴰ·not-nil, List·Memᴰ·cases-cons}
+use mathlib.Core.Path.{_≡_, refl, sym, subst}
+use mathlib.Core.Bool.{false}
+use mathlib.Core.List.{List, _∷_, List·Memᴰ, List·Memᴰ·not-nil, List·Memᴰ·cases-cons}
 use mathlib.Core.Logic.{inl, inr}
 use Prim.Native.Nat.{ℕ}
 use lib.Dec.{eqb}
@@ -9,9 +9,8 @@ use borrow.Author.Tests.{eqb-true, eqb-false, eq-eqb}
 use Rattle.base.specs.Bytes.{Bytes}
 use Rattle.base.specs.List.{someIn}
 use Rattle.base.proofs.Tests.{by-test, true-not-false, or-left, or-right}
-use Rattle.admission.specs.Admission.{admission, admitted}
+use Rattle.admission.specs.Admission.{admission}
 use Rattle.shelf.specs.Layout.{Waiting}
-use Rattle.shelf.specs.Rules.{isFor}
 use Rattle.campaigns.specs.Passes.{Passed, waitsOn, admits, pass, settled}
 use Rattle.campaigns.proofs.Inductions.{pass-by, settled-by}
 use Rattle.campaigns.proofs.Tries.{refused-table}

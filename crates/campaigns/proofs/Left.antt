@@ -12,7 +12,7 @@ use borrow.Author.Tests.{eqb-true, ne-eqb}
 use Rattle.base.specs.Bytes.{Bytes}
 use Rattle.base.specs.List.{someIn}
 use Rattle.base.proofs.Tests.{by-test}
-use Rattle.block.specs.Answers.{putAnswer, putAnswers}
+use Rattle.block.specs.Answers.{putAnswers}
 use Rattle.block.specs.declared.Answer.{Answer}
 use Rattle.block.proofs.Answered.{put-append}
 use Rattle.admission.specs.Admission.{admission, admitted}

@@ -1,16 +1,16 @@
 -- Arrivals keep what is promised of a call, with any digest of 32 bytes, and so with SHA-256. Assumes nothing.
-use mathlib.Core.Path.{_≡_, refl, sym, ap, ap₂, subst, _∙_}
-use mathlib.Core.Bool.{Bool, true, false, cond, _&&_}
+use mathlib.Core.Path.{_≡_, refl, sym, ap, subst, _∙_}
+use mathlib.Core.Bool.{true, false, cond, _&&_}
 use mathlib.Core.Logic.{_≢_}
-use mathlib.Core.List.{List, [], _∷_, _++_, append-nil}
+use mathlib.Core.List.{List, [], _∷_, append-nil}
 use Prim.Native.Nat.{ℕ, _+_, _≤_, _<_}
 use native.Mathlib.Omega.{arith}
 use lib.Dec.{eqb}
 use lib.ListN.{length}
-use borrow.Author.Tests.{eq-eqb, ne-eqb}
+use borrow.Author.Tests.{eqb-true, eqb-false, eq-eqb, ne-eqb}
 use Rattle.base.specs.Bytes.{Bytes, sameBytes}
 use Rattle.base.specs.List.{countIn, thoseIn}
-use Rattle.base.proofs.Tests.{true-not-false}
+use Rattle.base.proofs.Tests.{by-test, true-not-false}
 use Rattle.base.proofs.Those.{count-in-append, those-append}
 use Rattle.sha256.specs.Sha256.{sha256}
 use Rattle.sha256.proofs.Laws.{sha256-length}
@@ -19,20 +19,20 @@ use Rattle.table.specs.Form as table
 use Rattle.admission.specs.Admission.{admission, admitted}
 use Rattle.admission.proofs.Kept.{kept}
 use Rattle.shelf.specs.Layout.{Waiting, waitingIn, shelfBytes}
-use Rattle.shelf.specs.Rules.{maxCampaign, reserved, maxShare, isFor, holds, hasPlace, isSame, waits, shared}
+use Rattle.shelf.specs.Rules.{reserved, maxShare, isFor, holds, hasPlace, isSame, waits}
 use Rattle.shelf.specs.Form.{inForm}
 use Rattle.shelf.specs.Steps.{AllFit}
 use Rattle.shelf.proofs.Formed.{Ruled, of-ruled, formed-of, formed-bytes}
 use Rattle.shelf.proofs.Ruled.{fair-of, ruled-with, place-for-two}
 use Rattle.shelf.proofs.Laid.{fit-append, waiting-laid}
 use Rattle.campaigns.specs.Passes.{Try, Passed, outcomesOf}
-use Rattle.campaigns.specs.Arriving.{Called, outcomesSize, behind, listed}
+use Rattle.campaigns.specs.Arriving.{Called, behind, listed, shelved, arrived}
 use Rattle.campaigns.specs.Promises.{only, timesWaiting, timesEnded, TriedFrom, Tested, WouldGet9, CallKeeps, Promises}
 use Rattle.campaigns.proofs.Tries.{tried-keeps}
 use Rattle.campaigns.proofs.Nines.{nine-accepted, nine-short}
 use Rattle.campaigns.proofs.Kept.{settled-ruled, settled-fit, settled-places, settled-accounted, settled-others, settled-tried}
 use Rattle.campaigns.proofs.Last.{Still, settled-still}
-use Rattle.campaigns.proofs.Ways.{passed, all, leaves, taken, by-way, admission-elsewhere}
+use Rattle.campaigns.proofs.Ways.{passed, all, at20, at19, at9, at0, at-other, by-way, admission-elsewhere}
 use Rattle.campaigns.proofs.Causes.{causes}
 
 -- how often bytes wait, with one more of a campaign at the end
@@ -80,6 +80,26 @@ module _ (digest : Bytes → Bytes) (t s : Bytes) (c : ℕ) (b : Bytes) (verdict
 
     after-waiting : waitingIn (shelfBytes (passes .waiting)) ≡ passes .waiting
     after-waiting = waiting-laid (passes .waiting) (after-ruled .few) after-fit
+
+  -- what waits afterwards, as the definition over what waits has it
+  pub called-waiting : Tested digest t s c b verdict room → waitingIn (call .shelf) ≡ arrived digest (hasPlace c ws) t ws c b verdict .waiting
+  unfolding arrived shelved
+  called-waiting k =
+      let a = admission digest t b verdict in
+      let shown : Called → List Waiting = λ z. waitingIn (z .shelf) in
+      by-test (eqb (a .refusal) 9)
+      (λ y.
+      let nine = eqb-true (a .refusal) 9 y in
+      by-test (waits c b ws)
+      (λ w. rw (y, w) (ap shown (at20 digest t s c b verdict room k nine w)))
+      (λ n.
+      by-test (hasPlace c ws)
+      (λ p. rw (y, n, p) (ap shown (at9 digest t s c b verdict room k nine n p) ∙ nine-waiting (record { tested = k; missing = nine }) n p))
+      (λ m. rw (y, n, m) (ap shown (at19 digest t s c b verdict room k nine n m)))))
+      (λ n.
+      by-test (eqb (a .refusal) 0)
+      (λ z. rw (n, z) (ap shown (at0 digest t s c b verdict room k (eqb-true (a .refusal) 0 z)) ∙ after-waiting k))
+      (λ z. rw (n, z) (ap shown (at-other digest t s c b verdict room k (eqb-false (a .refusal) 9 n) (eqb-false (a .refusal) 0 z)))))
 
   -- a fact about what waits: on the ways that change nothing, after a 9, after an admission
   by-waiting : (P : ℕ → List Waiting → List Try → Type 0)

@@ -1,6 +1,6 @@
 -- The ways out of an arrival: what each leaves, and that there is no other. Assumes nothing.
 use mathlib.Core.Path.{_≡_, refl, sym, ap, subst, _∙_}
-use mathlib.Core.Bool.{Bool, true, false}
+use mathlib.Core.Bool.{true, false}
 use mathlib.Core.Logic.{_≢_}
 use mathlib.Core.List.{List, []}
 use Prim.Native.Nat.{ℕ, _≤_, _<_}
@@ -99,6 +99,9 @@ module _ (digest : Bytes → Bytes) (t s : Bytes) (c : ℕ) (b : Bytes) (verdict
         rw (le-leb c maxCampaign (k .campaign), le-leb outcomesSize room (k .outcomes), k .formed)
         (ap (λ (r : Arrived). record { answer = r .answer; table = r .table; shelf = shelfBytes (r .waiting); tries = r .tries }) e
         ∙ ap (λ (z : Bytes). record { answer = x .answer; table = x .table; shelf = z; tries = x .tries }) l)
+
+    pub called-is : let r = arrived digest (hasPlace c ws) t ws c b verdict in all ≡ record { answer = r .answer; table = r .table; shelf = shelfBytes (r .waiting); tries = r .tries }
+    called-is = by-list _ refl _ refl
 
     pub at0 : answer .refusal ≡ 0 → all ≡ admits
     unfolding arrived

@@ -1,13 +1,13 @@
 -- The rules are kept by a block that is put on the shelf where there is a place, and by one that is taken out; and a campaign that holds
 -- fewer than 2 places has a place. Assumes nothing.
-use mathlib.Core.Path.{_≡_, refl, sym, ap, ap₂, _∙_}
-use mathlib.Core.Bool.{Bool, true, false, cond, not, _&&_, _||_}
+use mathlib.Core.Path.{_≡_, refl, sym, ap, _∙_}
+use mathlib.Core.Bool.{true, false, cond, not, _&&_}
 use mathlib.Core.List.{List, [], _∷_, _++_, append-nil}
-use Prim.Native.Nat.{ℕ, zero, suc, _+_, _-_, _≤_, _<_}
+use Prim.Native.Nat.{ℕ, suc, _+_, _-_, _≤_, _<_}
 use native.Mathlib.Omega.{arith}
 use lib.Dec.{eqb, leb, ltb}
 use lib.ListN.{length, length-append}
-use borrow.Author.Tests.{eqb-true, eq-eqb, ne-eqb, leb-true, le-leb, ltb-true, lt-ltb, not-true, not-false}
+use borrow.Author.Tests.{eqb-true, eq-eqb, ne-eqb, leb-true, le-leb, ltb-true, lt-ltb, not-true}
 use Rattle.base.specs.Bytes.{Bytes, sameBytes}
 use Rattle.base.specs.Search.{allBelow}
 use Rattle.base.specs.Count.{sumBelow}
@@ -17,7 +17,7 @@ use Rattle.base.proofs.Search.{all-true, all-true-at}
 use Rattle.base.proofs.Sum.{sum-same, sum-without}
 use Rattle.base.proofs.Those.{count-in-mid}
 use Rattle.base.proofs.Bytes.{same-equal, equal-same}
-use Rattle.shelf.specs.Layout.{maxWaiting, Waiting}
+use Rattle.shelf.specs.Layout.{Waiting}
 use Rattle.shelf.specs.Rules.{campaignCount, maxCampaign, reserved, maxShare, isFor, holds, free, lack, allLack, othersLack, hasPlace, isSame, waits, accepts, eachSound, shared}
 use Rattle.shelf.proofs.Formed.{Ruled}
 

@@ -1,15 +1,14 @@
 -- `settle` meets its contract: each pass keeps what the passes come to. Assumes nothing.
-use mathlib.Core.Path.{_≡_, refl, sym, ap, _∙_}
-use mathlib.Core.Bool.{Bool, true, false}
+use mathlib.Core.Path.{_≡_, refl, ap, _∙_}
+use mathlib.Core.Bool.{false}
 use mathlib.Core.List.{List}
-use Prim.Native.Nat.{ℕ, _+_, _≤_, _<_}
+use Prim.Native.Nat.{ℕ}
 use native.Mathlib.Omega.{arith}
 use lib.ListN.{length}
-use borrow.Author.Needs.{needs}
 use Rattle.base.specs.Bytes.{Bytes}
 use Rattle.sha256.specs.Sha256.{sha256}
 use Rattle.block.specs.Answers.{putAnswers}
-use Rattle.shelf.specs.Layout.{Waiting, waitingIn, shelfBytes}
+use Rattle.shelf.specs.Layout.{waitingIn, shelfBytes}
 use Rattle.campaigns.specs.Passes.{outcomesOf, settled}
 use Rattle.campaigns.proofs.Left.{Came, restOf}
 use Rattle.campaigns.proofs.Going.{Settling, ahead, settles-on, settles-down}

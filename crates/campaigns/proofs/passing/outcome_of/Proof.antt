@@ -1,5 +1,4 @@
 -- `outcome_of` meets its contract. Assumes nothing.
-use borrow.Author.Needs.{needs}
 use borrow.Author.Tests.{eq-eqb, ne-eqb}
 use Rattle.campaigns.proofs.passing.outcome_of.Statement.{statement}
 use Rattle.campaigns.proofs.passing.outcome_of.Tie as tie

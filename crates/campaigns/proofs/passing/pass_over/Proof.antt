@@ -1,6 +1,6 @@
 -- `pass_over` meets its contract: each turn keeps what the pass comes to. Assumes nothing.
 use mathlib.Core.Path.{_≡_, refl, sym, ap, _∙_}
-use mathlib.Core.Bool.{Bool, false}
+use mathlib.Core.Bool.{false}
 use mathlib.Core.List.{List}
 use Prim.Native.Nat.{ℕ, _+_, _-_, _≤_, _<_}
 use native.Mathlib.Omega.{arith}
@@ -9,7 +9,7 @@ use borrow.Author.Needs.{needs}
 use Rattle.base.specs.Bytes.{Bytes}
 use Rattle.sha256.specs.Sha256.{sha256}
 use Rattle.block.specs.Answers.{putAnswers}
-use Rattle.shelf.specs.Layout.{Waiting, waitingIn, shelfBytes}
+use Rattle.shelf.specs.Layout.{waitingIn, shelfBytes}
 use Rattle.shelf.proofs.Laid.{laid-size, laid-count}
 use Rattle.campaigns.specs.Passes.{outcomesOf, admits, pass}
 use Rattle.campaigns.specs.declared.Pass.{Pass}

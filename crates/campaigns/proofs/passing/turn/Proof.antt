@@ -3,10 +3,10 @@ use mathlib.Core.Path.{_≡_, refl, sym, ap, _∙_}
 use mathlib.Core.Bool.{Bool, true, false, _||_}
 use mathlib.Core.Logic.{_≢_}
 use mathlib.Core.List.{List}
-use Prim.Native.Nat.{ℕ, _+_, _≤_, _<_}
+use Prim.Native.Nat.{ℕ, _+_, _≤_}
 use native.Mathlib.Omega.{arith}
 use lib.Dec.{eqb}
-use lib.ListN.{length, getD}
+use lib.ListN.{getD}
 use borrow.Author.Needs.{needs}
 use borrow.Author.Tests.{eq-eqb, ne-eqb}
 use Rattle.base.specs.Bytes.{Bytes}
@@ -18,7 +18,7 @@ use Rattle.shelf.specs.Layout.{Waiting, campaignAt, blockAt, waitingAt, waiting
 use Rattle.shelf.specs.Rules.{isFor}
 use Rattle.shelf.specs.Steps.{without}
 use Rattle.shelf.proofs.Laid.{laid-size, laid-entry, laid-entry-of}
-use Rattle.campaigns.specs.Passes.{waitsOn, outcome}
+use Rattle.campaigns.specs.Passes.{outcome}
 use Rattle.campaigns.specs.Steps.{Standing, nothing, turned}
 use Rattle.campaigns.specs.declared.Pass.{Pass}
 use Rattle.campaigns.proofs.Tries.{refused-table}

@@ -1,16 +1,15 @@
 -- `others_lack` meets its contract. The loop's invariant: the sum is what the others passed lack. Assumes nothing.
-use mathlib.Core.Path.{_≡_, refl, sym, ap, _∙_}
+use mathlib.Core.Path.{_≡_, refl, ap, _∙_}
 use mathlib.Core.Logic.{⊎-elim}
 use mathlib.Core.Bool.{cond}
-use Prim.Native.Nat.{ℕ, _+_, _-_, _*_, _≤_}
-use native.Mathlib.Numerals.{add-one}
+use Prim.Native.Nat.{_-_, _*_, _≤_}
 use native.Mathlib.Omega.{arith}
 use lib.Dec.{eqb}
 use borrow.Author.Needs.{needs}
 use borrow.Author.Tests.{eq-eqb, ne-eqb}
 use Rattle.base.specs.Count.{sumBelow}
 use Rattle.base.proofs.Sum.{sum-more}
-use Rattle.shelf.specs.Layout.{Waiting, waitingIn}
+use Rattle.shelf.specs.Layout.{waitingIn}
 use Rattle.shelf.specs.Rules.{campaignCount, reserved, lack}
 use Rattle.shelf.specs.Steps.{Sized}
 use Rattle.shelf.proofs.share.others_lack.Statement.{statement}

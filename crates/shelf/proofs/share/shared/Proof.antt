@@ -1,15 +1,13 @@
 -- `shared` meets its contract. The loop's invariant: the campaigns passed hold few enough places, and the sum is what they lack. Assumes nothing.
-use mathlib.Core.Path.{_≡_, refl, sym, ap, ap₂, _∙_}
-use mathlib.Core.Bool.{Bool, true, false, cond, _&&_}
-use Prim.Native.Nat.{ℕ, _+_, _-_, _*_, _≤_, _<_}
-use native.Mathlib.Numerals.{add-one}
+use mathlib.Core.Path.{_≡_, refl, ap, ap₂, _∙_}
+use mathlib.Core.Bool.{true}
+use Prim.Native.Nat.{ℕ, _-_, _*_, _≤_, _<_}
 use native.Mathlib.Omega.{arith}
-use lib.Dec.{eqb, leb}
+use lib.Dec.{leb}
 use lib.ListN.{length}
 use borrow.Author.Needs.{needs}
 use borrow.Author.Tests.{le-leb, lt-leb}
 use Rattle.base.specs.Count.{sumBelow}
-use Rattle.base.specs.Search.{allBelow}
 use Rattle.base.proofs.Tests.{one-more}
 use Rattle.base.proofs.Search.{all-true, all-false}
 use Rattle.base.proofs.Sum.{sum-more}

@@ -1,0 +1,75 @@
+-- What request Three promises of whole lists of calls of all campaigns, refused ones included, from an empty start; proofs/Promises.antt shows
+-- it, with SHA-256.
+use mathlib.Core.Path.{_≡_}
+use mathlib.Core.Bool.{true}
+use mathlib.Core.List.{List, []}
+use Prim.Native.Nat.{ℕ, _+_}
+use Rattle.base.specs.Bytes.{Bytes, sameBytes}
+use Rattle.base.specs.List.{countIn}
+use Rattle.setup.specs.Setup.{Setup}
+use Rattle.agreement.specs.Ledger.{Call}
+use Rattle.agreement.specs.Run.{siteAfter}
+use Rattle.agreement.specs.Promises.{siteWith, Promised}
+use Rattle.arrival.specs.Arrival.{Arrival}
+use Rattle.shelf.specs.Layout.{waitingIn}
+use Rattle.shelf.specs.Form.{inForm}
+use Rattle.campaigns.specs.Passes.{outcomesOf}
+use Rattle.campaigns.specs.Promises.{only, timesWaiting, timesEnded}
+use Rattle.controller.specs.Run.{CampaignCall, Controller, Alone, emptyStart, after, replies, outcomes, tries, taken, plainRun, ownRun, aloneAfter, aloneReplies}
+
+module _ (digest : Bytes → Bytes) where
+  -- ---- one controller
+
+  module _ (setups : ℕ → Setup) (buffers : ℕ → List ℕ) (calls : List CampaignCall) where
+    abbrev pub begin : Controller
+    begin = emptyStart setups buffers
+
+    abbrev pub final : Controller
+    final = after digest begin calls
+
+    -- its calls to a campaign, as plain ones
+    abbrev pub plainCalls : ℕ → List Call
+    plainCalls c = plainRun digest c begin calls
+
+    -- what the campaign would have come to with nothing but its own calls
+    abbrev pub alone : ℕ → Alone
+    alone c = aloneAfter digest c (record { site = begin .site c; waiting = [] }) (ownRun digest c begin calls)
+
+    -- of a campaign up to 3
+    pub record RunKeeps (c : ℕ) : Type 0 where
+      -- the shelf is in form
+      pub formed : inForm (final .shelf) ≡ true
+      -- the campaign's table and records are those of its plain calls
+      pub asPlain : final .site c ≡ siteAfter digest (begin .site c) (plainCalls c)
+      -- "a campaign's tables depend only on its own arrivals, the other calls made for it and which of its blocks the shelf took": its table and
+      -- records, what waits for it, and its replies are those of a run that is told no more
+      pub site : final .site c ≡ alone c .site
+      pub waiting : only c (waitingIn (final .shelf)) ≡ alone c .waiting
+      pub answers : replies digest c begin calls ≡ aloneReplies digest c (record { site = begin .site c; waiting = [] }) (ownRun digest c begin calls)
+      -- the tries that ended are those whose outcomes were listed
+      pub listed : outcomes digest c begin calls ≡ outcomesOf (tries digest c begin calls)
+      -- nothing is lost and nothing is invented: every block that was answered 9 waits, was let in or was dropped, as often
+      pub accounted : (x : Bytes)
+          → countIn (λ b. sameBytes b x) (taken digest c begin calls)
+          ≡ timesWaiting c x (waitingIn (final .shelf)) + timesEnded x (tries digest c begin calls)
+
+  -- ---- two runs in which a campaign's own calls, and what the shelf took of its blocks, are the same: whatever the other campaigns do, they
+  -- leave it the same and reply to it the same
+
+  pub record Independent (c : ℕ) (setups₁ setups₂ : ℕ → Setup) (buffers₁ buffers₂ : ℕ → List ℕ) (calls₁ calls₂ : List CampaignCall) : Type 0 where
+    pub site : final setups₁ buffers₁ calls₁ .site c ≡ final setups₂ buffers₂ calls₂ .site c
+    pub waiting : only c (waitingIn (final setups₁ buffers₁ calls₁ .shelf)) ≡ only c (waitingIn (final setups₂ buffers₂ calls₂ .shelf))
+    pub answers : replies digest c (begin setups₁ buffers₁ calls₁) calls₁ ≡ replies digest c (begin setups₂ buffers₂ calls₂) calls₂
+
+  -- ---- two controllers: "The two-site statement holds for each campaign alone", and so does the promise of arrival
+
+  -- s is the campaign's setup at both; each controller has its own calls, and other campaigns as it likes
+  module _ (c : ℕ) (s : Setup) (setups₁ setups₂ : ℕ → Setup) (buffers₁ buffers₂ : ℕ → List ℕ) (calls₁ calls₂ : List CampaignCall) where
+    pub record CampaignKeeps : Type 0 where
+      -- what stands at each is what its plain calls leave at a site of that setup
+      pub first : final setups₁ buffers₁ calls₁ .site c ≡ siteWith digest s (buffers₁ c) (plainCalls setups₁ buffers₁ calls₁ c)
+      pub second : final setups₂ buffers₂ calls₂ .site c ≡ siteWith digest s (buffers₂ c) (plainCalls setups₂ buffers₂ calls₂ c)
+      -- and of these both theorems speak
+      pub promised : Promised digest s (buffers₁ c) (buffers₂ c) (plainCalls setups₁ buffers₁ calls₁ c) (plainCalls setups₂ buffers₂ calls₂ c)
+      pub firstArrives : Arrival digest s (buffers₁ c) (plainCalls setups₁ buffers₁ calls₁ c)
+      pub secondArrives : Arrival digest s (buffers₂ c) (plainCalls setups₂ buffers₂ calls₂ c)
