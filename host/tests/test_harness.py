@@ -1,4 +1,5 @@
-"""The harness: the library, and the listing program, against an implementation of document 01 of its own, on seeded input."""
+"""The harness: the library, and the listing program, against an implementation of its own of documents 01 and 02, on seeded
+input."""
 
 import re
 
@@ -7,10 +8,12 @@ from programs import DOME, HARNESS, LISTING, expect, output_of, run
 CASES = 10_000
 STREAMS = 1_500
 GROUPS = 4_000
-FEWEST_MUTANTS = 660
+SHELVES = 4_000
+FEWEST_MUTANTS = 935
 # 1 is no answer of admission: it is for a setup.
 ANSWERS = {"gt_admit": {0, *range(2, 12)}, "gt_interpret": {0, 2, 12, 13, 14, 15}, "gt_forks": {0, 2},
-           "gt_ancestors": {0, 2, 13}, "gt_build": {0, 2, 3, 4, 6, 16, 17}}
+           "gt_ancestors": {0, 2, 13}, "gt_build": {0, 2, 3, 4, 6, 16, 17},
+           "gt_arrive": {0, *range(2, 12), 17, 19, 20, 21}}
 # What else must have been met: else the comparison shows little.
 MET = ["campaigns with a slot delivered at both sites", "up to f forked: two numbers sent, one delivered",
        "blocks interpreted at both sites", "tables watched with f forked sites", "tables watched with f + 1 forked sites",
@@ -24,6 +27,25 @@ MET = ["campaigns with a slot delivered at both sites", "up to f forked: two num
 # How often groups must have met the premises of arrival: else little is shown of the promise.
 FEWEST_MET = {"groups with the premises met at some site": 3_000, "met with forked sites held there": 1_200,
               "met with just n - f full sites": 1_500}
+# What arrivals with a shelf must have met. That a campaign holds more than 10 places is never all that is wrong with a shelf:
+# there are too few left then for the others.
+SHELVED = ["shelves in form", "shelves not in form", "shelves with each bit flipped in turn",
+           *(f"broken alone: {rule}" for rule in (
+               "the buffer has a shelf's length", "the count is up to 16", "entries from the count on are zero",
+               "a waiting block has at most 541 bytes", "the reader accepts each waiting block", "behind a block there are zeros",
+               "campaigns are up to 3", "no campaign has the same bytes waiting twice",
+               "the free places cover what the campaigns lack of their 2")),
+           *(f"arrivals that let in {blocks} waiting" for blocks in range(1, 11)),
+           *(f"waiting blocks dropped with {number}" for number in (4, 8, 10, 11)),
+           "arrivals that let some in and dropped others", "waiting blocks of 541 bytes let in",
+           "arrivals that needed two passes or more", "arrivals that needed five passes or more",
+           "arrivals that needed ten passes", "full shelves", "shelves with a campaign at 10",
+           "shelves with the same bytes for two campaigns", "9 for a campaign that holds fewer than 2",
+           "9 for the last place that others leave", "9 with a full table", "19 for a campaign at 10", "19 for what others lack",
+           "20 where no place is left", "20 with a full shelf"]
+# How often campaigns must have been made once more alone: else little is shown of their independence.
+FEWEST_ALONE = {"campaigns replayed alone": 2_000, "campaigns replayed alone that got 19": 700,
+                "campaigns replayed alone with waiting blocks ended": 800}
 # The same of listings. Their tables are in form, so that no arrival is answered 2.
 LISTED = [*(f"arrivals answered {number}" for number in (0, *range(3, 12))),
           "listings of no bytes", "listings of a short setup", "listings of an unlawful setup", "listings without an arrival",
@@ -51,13 +73,17 @@ def site_counts(text, what):
     return set(re.findall(rf"^  n (\d+): {what} +[1-9]\d*$", text, re.MULTILINE))
 
 
+def expect_answered(text, call):
+    times = re.findall(rf"^{call} answered +(\d+) +(\d+) times$", text, re.MULTILINE)
+    met = {int(answer) for answer, count in times if int(count) > 0}
+    expect(met == ANSWERS[call], f"answers of {call} that were met: {sorted(met)}\n{text}")
+
+
 def test_no_difference():
     text = output_of([HARNESS, "--seed", "1", "--cases", str(CASES)])
     expect(last_line(text) == f"{CASES} cases, 0 differences", text)
-    for call, wanted in ANSWERS.items():
-        times = re.findall(rf"^{call} answered +(\d+) +(\d+) times$", text, re.MULTILINE)
-        met = {int(answer) for answer, count in times if int(count) > 0}
-        expect(met == wanted, f"answers of {call} that were met: {sorted(met)}\n{text}")
+    for call in ANSWERS:
+        expect_answered(text, call)
     expect_met(text, MET)
 
 
@@ -76,6 +102,16 @@ def test_promise_of_arrival():
         expect_met(text, [name], fewest)
     expect(site_counts(text, r"met of \d+") == SITE_COUNTS, text)
     expect(site_counts(text, "met with forked sites held there") == SITE_COUNTS - {"1"}, text)
+
+
+def test_shelves():
+    """Four campaigns with a shelf, shelves that no calls reach, and damaged ones."""
+    text = output_of([HARNESS, "--kind", "shelves", "--seed", "1", "--cases", str(SHELVES)])
+    expect(last_line(text) == f"{SHELVES} cases, 0 differences", text)
+    expect_answered(text, "gt_arrive")
+    expect_met(text, SHELVED)
+    for name, fewest in FEWEST_ALONE.items():
+        expect_met(text, [name], fewest)
 
 
 def test_another_program_is_found():

@@ -51,3 +51,18 @@ pub struct AncestorPlaces {
     pub places: u64,
     pub count: u32,
 }
+
+/// What an arrival is answered, and how many blocks that waited were let in or dropped by it.
+#[repr(C)]
+#[derive(Clone, Copy, Debug, PartialEq, Eq)]
+pub struct ArrivalAnswer {
+    pub answer: Answer,
+    pub ended: usize,
+}
+
+impl ArrivalAnswer {
+    /// A refused arrival ends none.
+    pub fn refused(answer: Answer) -> ArrivalAnswer {
+        ArrivalAnswer { answer, ended: 0 }
+    }
+}

@@ -109,3 +109,8 @@ pub fn repeated_reference(block: &[u8]) -> Option<usize> {
     let references = references(block);
     (0..references.len()).find(|&index| references[..index].contains(&references[index]))
 }
+
+/// Whether the reader accepts it.
+pub fn accepted(block: &[u8]) -> bool {
+    misshapen(block).is_none() && bad_request(block).is_none() && repeated_reference(block).is_none()
+}

@@ -2,7 +2,7 @@
 //!
 //! Every buffer is lent writable, also where a call should only read: so a call that writes there is seen.
 
-use crate::answer::{AncestorPlaces, Answer, ForkedSites, Reading};
+use crate::answer::{AncestorPlaces, Answer, ArrivalAnswer, ForkedSites, Reading};
 use crate::ended::Ended;
 
 pub trait Calls {
@@ -16,6 +16,17 @@ pub trait Calls {
     fn build(&self, table: &mut [u8], site: u8, requests: &mut [u8], output: &mut [u8]) -> Answer;
     /// How many calls of the list ran.
     fn replay(&self, table: &mut [u8], records: &mut [u16], calls: &mut [u8], answers: &mut [u64]) -> usize;
+    fn shelf_in_form(&self, shelf: &mut [u8]) -> bool;
+    /// A block arrives for a campaign, whose table is lent with the shelf of all campaigns.
+    fn arrive(
+        &self,
+        table: &mut [u8],
+        shelf: &mut [u8],
+        campaign: u8,
+        block: &mut [u8],
+        verdict: u8,
+        outcomes: &mut [u64],
+    ) -> ArrivalAnswer;
     fn read_block(&self, block: &mut [u8]) -> Reading;
     fn digest(&self, message: &mut [u8], output: &mut [u8]) -> Answer;
     /// What the listing program leaves for an input, which goes to it by a pipe: it can't write there.

@@ -8,6 +8,7 @@ mod interpretations;
 mod listings;
 mod replays;
 mod setups;
+mod shelves;
 mod watches;
 
 use std::ops::Range;
@@ -25,7 +26,7 @@ pub struct Kind {
     run: fn(&Random, &mut Compare) -> Result<(), Difference>,
 }
 
-pub static KINDS: [Kind; 10] = [
+pub static KINDS: [Kind; 11] = [
     Kind { name: "setups", shares: 1, run: setups::run },
     Kind { name: "arrivals", shares: 2, run: admissions::arrivals },
     Kind { name: "tables", shares: 2, run: admissions::tables_in_form },
@@ -36,10 +37,12 @@ pub static KINDS: [Kind; 10] = [
     Kind { name: "watches", shares: 2, run: watches::run },
     Kind { name: "builds", shares: 2, run: builds::run },
     GROUPS,
+    SHELVES,
 ];
 
-/// Its cases are few, since they take long.
+// The self-test names these. Of groups there are few cases, since they take long.
 pub const GROUPS: Kind = Kind { name: "groups", shares: 1, run: groups::run };
+pub const SHELVES: Kind = Kind { name: "shelves", shares: 2, run: shelves::run };
 
 /// It is run only where it is named: its cases take a process each, of a program that not every run has.
 pub static LISTINGS: Kind = Kind { name: "listings", shares: 0, run: listings::run };

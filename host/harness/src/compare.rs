@@ -2,14 +2,14 @@
 
 use std::fmt::{self, Debug, Display, Formatter};
 
-use crate::answer::{AncestorPlaces, Answer, ForkedSites};
+use crate::answer::{AncestorPlaces, Answer, ArrivalAnswer, ForkedSites};
 use crate::calls::Calls;
 use crate::counts::Counts;
 use crate::lent::{first_other, hex, Lent, Sides};
 use crate::model::Model;
 use crate::record::record_at;
 use crate::replay;
-use crate::sizes::MAX_BLOCK_BYTES;
+use crate::sizes::{MAX_BLOCK_BYTES, OUTCOMES_NUMBERS};
 use crate::table::{places, Table};
 
 /// Something that the two sides have different, with what they were given.
@@ -49,6 +49,8 @@ pub struct Next<'a> {
 
 /// Bytes behind an output that aren't lent with it: a call that writes past the output's end is seen.
 const BEHIND_OUTPUT: usize = MAX_BLOCK_BYTES;
+/// The same of outcomes.
+const BEHIND_OUTCOMES: usize = OUTCOMES_NUMBERS;
 
 /// The library, or what stands in its place, beside the model.
 pub struct Compare<'a> {
@@ -213,6 +215,41 @@ impl Compare<'_> {
         }
         self.counts.replay(ran);
         Ok(())
+    }
+
+    pub fn shelf_in_form(&mut self, shelf: &[u8]) -> Result<bool, Difference> {
+        let (answer, _) =
+            self.on_copies("gt_shelf_in_form", [("shelf", shelf)], |calls, [shelf]| calls.shelf_in_form(shelf))?;
+        self.counts.shelves.form(answer);
+        Ok(answer)
+    }
+
+    /// A block arrives for a campaign, with the shelf that the sides have. What it wrote to the outcomes is left there.
+    pub fn arrive(
+        &mut self,
+        sides: &mut Sides,
+        campaign: u8,
+        block: &[u8],
+        verdict: u8,
+        outcomes: &[u64],
+    ) -> Result<ArrivalAnswer, Difference> {
+        let [table, shelf] = [&sides.expected.table, &sides.expected.shelf].map(Vec::clone);
+        let room = outcomes.len();
+        sides.each(|lent| {
+            lent.block = block.to_vec();
+            lent.outcomes = [outcomes, &[0; BEHIND_OUTCOMES]].concat();
+        });
+        let answer = self.on_sides(sides, |calls, Lent { table, shelf, block, outcomes, .. }| {
+            calls.arrive(table, shelf, campaign, block, verdict, &mut outcomes[..room])
+        });
+        let answer = answer.map_err(|what| {
+            let buffers = [shown("table", &table), shown("shelf", &shelf), shown("block", block)];
+            let numbers = [counted("campaign", campaign.into()), counted("verdict", verdict.into())];
+            let inputs = [&buffers[..], &numbers, &[counted("outcomes", room)]].concat();
+            Difference { call: "gt_arrive", what, inputs }
+        })?;
+        self.counts.arrival(answer);
+        Ok(answer)
     }
 
     pub fn read_block(&mut self, block: &[u8]) -> Result<(), Difference> {

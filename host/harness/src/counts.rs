@@ -4,22 +4,24 @@ mod built;
 mod campaigns;
 mod groups;
 mod listings;
+mod shelves;
 mod watched;
 
 use std::fmt::{self, Display, Formatter};
 
-use crate::answer::{AncestorPlaces, Answer, ForkedSites};
+use crate::answer::{AncestorPlaces, Answer, ArrivalAnswer, ForkedSites};
 use built::BuiltBlocks;
 use campaigns::Campaigns;
 use groups::Groups;
 use listings::Listings;
+use shelves::Shelves;
 use watched::Watched;
 
 pub use groups::Met;
 
-/// How often a call gave each answer, by its refusal number: these end at 17.
+/// How often a call gave each answer, by its refusal number: these end at 21.
 #[derive(Default)]
-struct Answered([u64; 18]);
+struct Answered([u64; 22]);
 
 /// What each call answers.
 const ADMISSION_ANSWERS: &[u8] = &[0, 2, 3, 4, 5, 6, 7, 8, 9, 10, 11];
@@ -27,6 +29,7 @@ const INTERPRETATION_ANSWERS: &[u8] = &[0, 2, 12, 13, 14, 15];
 const FORKS_ANSWERS: &[u8] = &[0, 2];
 const ANCESTORS_ANSWERS: &[u8] = &[0, 2, 13];
 const BUILDING_ANSWERS: &[u8] = &[0, 2, 3, 4, 6, 16, 17];
+const ARRIVAL_ANSWERS: &[u8] = &[0, 2, 3, 4, 5, 6, 7, 8, 9, 10, 11, 17, 19, 20, 21];
 
 impl Answered {
     fn note(&mut self, refusal: u8) {
@@ -53,12 +56,14 @@ pub struct Counts {
     pub groups: Groups,
     pub watched: Watched,
     pub built: BuiltBlocks,
+    pub shelves: Shelves,
     pub listings: Listings,
     admissions: Answered,
     interpretations: Answered,
     forks: Answered,
     ancestors: Answered,
     buildings: Answered,
+    arrivals: Answered,
     replays: u64,
     /// The calls that ran in replays.
     replayed: u64,
@@ -95,6 +100,10 @@ impl Counts {
         self.buildings.note(answer.refusal);
     }
 
+    pub fn arrival(&mut self, answer: ArrivalAnswer) {
+        self.arrivals.note(answer.answer.refusal);
+    }
+
     pub fn replay(&mut self, calls: usize) {
         self.replays += 1;
         self.replayed += calls as u64;
@@ -113,6 +122,7 @@ impl Display for Counts {
             ("gt_forks", &self.forks, FORKS_ANSWERS),
             ("gt_ancestors", &self.ancestors, ANCESTORS_ANSWERS),
             ("gt_build", &self.buildings, BUILDING_ANSWERS),
+            ("gt_arrive", &self.arrivals, ARRIVAL_ANSWERS),
         ];
         writeln!(to, "gt_fresh      {:>8} calls", self.fresh)?;
         writeln!(to, "gt_in_form    {:>8} calls", self.in_form + self.not_in_form)?;
@@ -129,6 +139,6 @@ impl Display for Counts {
         }
         writeln!(to, "tables in form     {:>8}", self.in_form)?;
         writeln!(to, "tables not in form {:>8}", self.not_in_form)?;
-        write!(to, "{}{}{}{}", self.campaigns, self.watched, self.built, self.groups)
+        write!(to, "{}{}{}{}{}", self.campaigns, self.watched, self.built, self.groups, self.shelves)
     }
 }

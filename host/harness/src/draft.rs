@@ -4,7 +4,7 @@ use crate::block::Request;
 use crate::random::Random;
 use crate::sha256::Digest;
 use crate::sizes::{DIGEST_BYTES, MAX_REFERENCES, MAX_REQUESTS, SLOTS};
-use crate::table::{places, Table};
+use crate::table::{places, Row, Table};
 
 /// A block's fields, and the verdict that it comes with.
 pub struct Draft {
@@ -88,6 +88,17 @@ pub fn lawful(random: &Random, table: &Table) -> Draft {
 pub fn longest(random: &Random, table: &Table) -> Draft {
     let mut draft = lawful(random, table);
     fill_references(random, &mut draft, MAX_REFERENCES);
+    fill_requests(random, &mut draft, MAX_REQUESTS);
+    draft
+}
+
+/// The same with as many references to held blocks as a block may have: the table admits it if it holds enough.
+pub fn longest_lawful(random: &Random, table: &Table) -> Draft {
+    let mut draft = lawful(random, table);
+    let parent = |row: &Row| row.site == draft.site && row.sequence + 1 == draft.sequence;
+    let others = table.held().iter().filter(|row| !parent(row) && !draft.references.contains(&row.digest));
+    let others: Vec<Digest> = others.map(|row| row.digest).collect();
+    draft.references.extend(others.iter().take(MAX_REFERENCES - draft.references.len()));
     fill_requests(random, &mut draft, MAX_REQUESTS);
     draft
 }
@@ -184,7 +195,7 @@ fn repeated_reference(random: &Random, _: &Table, draft: &mut Draft) {
     put_in(random, &mut draft.references, MAX_REFERENCES, reference);
 }
 
-fn missing_reference(random: &Random, table: &Table, draft: &mut Draft) {
+pub fn missing_reference(random: &Random, table: &Table, draft: &mut Draft) {
     // A zero digest is what entries from the count on hold.
     let mut reference = random.pick(&[random.array(), [0; DIGEST_BYTES]]);
     if table.count > 0 && random.one_in(2) {

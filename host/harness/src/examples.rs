@@ -8,6 +8,8 @@ mod interpreted;
 mod listed;
 mod lists;
 mod promised;
+mod shelf_forms;
+mod shelved;
 mod watched;
 
 use crate::block::Request;
@@ -43,6 +45,8 @@ pub fn failed(calls: &dyn Calls) -> Vec<&'static str> {
     examples.extend(built::all(calls));
     examples.extend(listed::all(calls));
     examples.extend(promised::all(calls));
+    examples.extend(shelf_forms::all(calls));
+    examples.extend(shelved::all(calls));
     examples.into_iter().filter(|(_, holds)| !holds).map(|(name, _)| name).collect()
 }
 

@@ -4,15 +4,21 @@ use crate::setup::{owners_lawful, site_count_lawful};
 use crate::sizes::{MAX_REFERENCES, PLACES, TABLE_BYTES};
 use crate::table::{places, Row, Table};
 
-#[derive(Clone, Copy)]
-pub struct Condition {
+/// One condition of a table's form, or of a shelf's.
+pub struct Condition<Of> {
     pub name: &'static str,
-    pub holds: fn(&Table) -> bool,
+    pub holds: fn(&Of) -> bool,
+}
+
+impl<Of> Clone for Condition<Of> {
+    fn clone(&self) -> Self {
+        Condition { name: self.name, holds: self.holds }
+    }
 }
 
 /// All conditions must hold.
-pub fn in_form(conditions: &[Condition], table: &Table) -> bool {
-    conditions.iter().all(|condition| (condition.holds)(table))
+pub fn in_form<Of>(conditions: &[Condition<Of>], of: &Of) -> bool {
+    conditions.iter().all(|condition| (condition.holds)(of))
 }
 
 pub const LENGTH: &str = "the buffer has a table's length";
@@ -28,7 +34,7 @@ pub const MARKS: &str = "a mark is 0 or 1";
 pub const MARKS_CLOSED: &str = "an interpreted place has all its references interpreted";
 pub const PARENT_RULE: &str = "the parent rule holds";
 
-pub const DOCUMENT: [Condition; 12] = [
+pub const DOCUMENT: [Condition<Table>; 12] = [
     Condition { name: LENGTH, holds: |table| table.length == TABLE_BYTES },
     Condition { name: SITE_COUNT, holds: |table| site_count_lawful(table.sites) },
     Condition { name: OWNERS, holds: |table| owners_lawful(table.sites, &table.owners) },

@@ -1,19 +1,24 @@
 //! What must hold of the answers, whatever rules the model has: equal calls on both sides of the comparison don't show
 //! it, since the model could be wrong itself. Each set of laws is about one thing.
 
+mod brought;
 mod built;
 mod ends;
 mod promised;
 mod seen;
+mod told;
 
+use crate::brought::Brought;
 use crate::compare::{shown, Difference};
 use crate::ends::Ends;
 use crate::seen::Seen;
 
+pub use brought::{ACCOUNTED_FOR, NEVER_19, ONLY_BY_9, PLAIN, STAYS_IN_FORM, TRIED_OUT};
 pub use built::{Built, LET_IN, READS_BACK, REFERS, REST_STAYS};
 pub use ends::{EQUAL_PARTS, ONE_NUMBER, REQUESTED, WATCHED};
 pub use promised::{Promised, DELIVERED, FULL, PASSED_ON};
 pub use seen::{CLOSED, LOWER, MORE_BLOCKS, NAMED, ONES, THIRD};
+pub use told::{Told, ANSWERED_9, INDEPENDENT};
 
 /// A law says where it is broken, if it is.
 struct Law<Of> {
@@ -49,4 +54,19 @@ pub fn check_built(built: &Built) -> Result<(), Difference> {
 /// What one site of a group holds.
 pub fn check_promised(promised: &Promised) -> Result<(), Difference> {
     check(&promised::laws(), promised, || vec![shown("table", &promised.held.table().to_bytes())])
+}
+
+/// An arrival with a shelf.
+pub fn check_brought(brought: &Brought) -> Result<(), Difference> {
+    let inputs = || {
+        let Brought { campaign, sent, before, .. } = brought;
+        let buffers = [shown("table", &before.table), shown("shelf", &before.shelf.to_bytes())];
+        [&buffers[..], &[shown("campaign", &[*campaign]), shown("block", &sent.block)]].concat()
+    };
+    check(&brought::LAWS, brought, inputs)
+}
+
+/// All calls of one campaign.
+pub fn check_told(told: &Told) -> Result<(), Difference> {
+    check(&told::laws(), told, || vec![shown("table", &told.among_others.table)])
 }

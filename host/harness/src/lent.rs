@@ -13,6 +13,9 @@ pub struct Lent {
     pub block: Vec<u8>,
     pub calls: Vec<u8>,
     pub answers: Vec<u64>,
+    /// All campaigns of a controller share one; it goes from one to the other.
+    pub shelf: Vec<u8>,
+    pub outcomes: Vec<u64>,
 }
 
 impl Lent {
@@ -27,6 +30,8 @@ impl Lent {
             .or_else(|| first_other("block", &self.block, &expected.block))
             .or_else(|| first_other("calls", &self.calls, &expected.calls))
             .or_else(|| first_other("answers", &self.answers, &expected.answers))
+            .or_else(|| first_other("shelf", &self.shelf, &expected.shelf))
+            .or_else(|| first_other("outcomes", &self.outcomes, &expected.outcomes))
     }
 
     fn first_other_record(&self, expected: &[u16]) -> Option<String> {
@@ -64,6 +69,12 @@ impl Sides {
     pub fn each(&mut self, change: impl Fn(&mut Lent)) {
         change(&mut self.tested);
         change(&mut self.expected);
+    }
+
+    /// Each side exchanges its shelf with that of another campaign.
+    pub fn swap_shelf(&mut self, other: &mut Sides) {
+        std::mem::swap(&mut self.tested.shelf, &mut other.tested.shelf);
+        std::mem::swap(&mut self.expected.shelf, &mut other.expected.shelf);
     }
 
     /// The slot in which the sides' records first differ, if they do.

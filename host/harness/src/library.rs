@@ -1,6 +1,6 @@
 //! The library's C functions, and the listing program, as `Calls`. The only unsafe code of the harness.
 
-use crate::answer::{AncestorPlaces, Answer, ForkedSites, Reading};
+use crate::answer::{AncestorPlaces, Answer, ArrivalAnswer, ForkedSites, Reading};
 use crate::calls::Calls;
 use crate::ended::Ended;
 use crate::program::Program;
@@ -38,6 +38,19 @@ extern "C" {
         answers: *mut u64,
         answers_length: usize,
     ) -> usize;
+    fn gt_shelf_in_form(shelf: *const u8, shelf_length: usize) -> bool;
+    fn gt_arrive(
+        table: *mut u8,
+        table_length: usize,
+        shelf: *mut u8,
+        shelf_length: usize,
+        campaign: u8,
+        block: *const u8,
+        block_length: usize,
+        verdict: u8,
+        outcomes: *mut u64,
+        outcomes_length: usize,
+    ) -> ArrivalAnswer;
 }
 
 // As declared in giangotum.h.
@@ -104,6 +117,35 @@ impl Calls for Library {
                 calls.len(),
                 answers.as_mut_ptr(),
                 answers.len(),
+            )
+        }
+    }
+
+    fn shelf_in_form(&self, shelf: &mut [u8]) -> bool {
+        unsafe { gt_shelf_in_form(shelf.as_mut_ptr(), shelf.len()) }
+    }
+
+    fn arrive(
+        &self,
+        table: &mut [u8],
+        shelf: &mut [u8],
+        campaign: u8,
+        block: &mut [u8],
+        verdict: u8,
+        outcomes: &mut [u64],
+    ) -> ArrivalAnswer {
+        unsafe {
+            gt_arrive(
+                table.as_mut_ptr(),
+                table.len(),
+                shelf.as_mut_ptr(),
+                shelf.len(),
+                campaign,
+                block.as_mut_ptr(),
+                block.len(),
+                verdict,
+                outcomes.as_mut_ptr(),
+                outcomes.len(),
             )
         }
     }

@@ -1,5 +1,5 @@
-//! Compares the library with an implementation of document 01 of its own, on seeded random and damaged input, and looks
-//! whether what the library leaves keeps what the documents promise.
+//! Compares the library with an implementation of its own of documents 01 and 02, on seeded random and damaged input,
+//! and looks whether what the library leaves keeps what the documents promise.
 //!
 //!     harness [--seed S] [--cases N] [--only K] [--kind NAME]   compares the library with the model
 //!     harness --listing PATH [--seed S] [--cases N] [--only K]  compares a listing program with the model
@@ -9,9 +9,11 @@
 //! Status 0: no difference. 1: a difference, or a mistake that wasn't found. 2: bad arguments.
 
 mod admission;
+mod alone;
 mod answer;
 mod arrivals;
 mod block;
+mod brought;
 mod building;
 mod calls;
 mod campaign;
@@ -19,12 +21,14 @@ mod cases;
 mod checks;
 mod compare;
 mod contents;
+mod controller;
 mod counts;
 mod damage;
 mod draft;
 mod ended;
 mod ends;
 mod examples;
+mod feed;
 mod forked;
 mod form;
 mod group;
@@ -48,6 +52,11 @@ mod seen;
 mod self_test;
 mod setup;
 mod sha256;
+mod shelf;
+mod shelf_damage;
+mod shelf_form;
+mod shelves;
+mod shelving;
 mod sizes;
 mod streams;
 mod table;

@@ -1,7 +1,7 @@
 //! The model: the calls answered by the document's rules. Nothing of the library is used.
 
 use crate::admission::{self, Arrival};
-use crate::answer::{AncestorPlaces, Answer, Fields, ForkedSites, Reading};
+use crate::answer::{AncestorPlaces, Answer, ArrivalAnswer, Fields, ForkedSites, Reading};
 use crate::block;
 use crate::building::{Building, Task};
 use crate::calls::Calls;
@@ -13,6 +13,8 @@ use crate::listing::{Line, Listing};
 use crate::replay::{Call, Replay};
 use crate::setup;
 use crate::sha256::{sha256, Digest};
+use crate::shelf::Shelf;
+use crate::shelving::{Coming, Shelving};
 use crate::sizes::{DIGEST_BYTES, PLACES, SLOTS, TABLE_BYTES};
 use crate::table::{Row, Table};
 use crate::watch::{Question, Watch};
@@ -27,7 +29,7 @@ pub struct Wanted {
 /// The rules that the model follows. Each is a value, so that the self-test can change one.
 pub struct Model {
     pub fresh: Vec<Check<Wanted>>,
-    pub form: Vec<Condition>,
+    pub form: Vec<Condition<Table>>,
     pub admission: Vec<Check<Arrival>>,
     pub row: fn(&Arrival) -> Row,
     pub put: fn(&mut Table, Row),
@@ -35,6 +37,7 @@ pub struct Model {
     pub watch: Watch,
     pub building: Building,
     pub replay: Replay,
+    pub shelving: Shelving,
     pub reading: Vec<Check<[u8]>>,
     pub fields: fn(&[u8]) -> Fields,
     pub digest: fn(&[u8]) -> Digest,
@@ -56,6 +59,7 @@ impl Model {
             watch: Watch::document(),
             building: Building::document(),
             replay: Replay::document(),
+            shelving: Shelving::document(),
             // "Reading checks 3, 6 and 7".
             reading: vec![
                 Check { number: 3, finds: block::misshapen },
@@ -77,6 +81,13 @@ impl Model {
     fn held(&self, table: &[u8]) -> (Table, bool) {
         let held = Table::from_bytes(table);
         let in_form = form::in_form(&self.form, &held);
+        (held, in_form)
+    }
+
+    /// A shelf's bytes as fields, and whether it is in form.
+    fn shelved(&self, shelf: &[u8]) -> (Shelf, bool) {
+        let held = Shelf::from_bytes(shelf);
+        let in_form = form::in_form(&self.shelving.form, &held);
         (held, in_form)
     }
 }
@@ -168,6 +179,46 @@ impl Calls for Model {
             }
         }
         ran
+    }
+
+    fn shelf_in_form(&self, shelf: &mut [u8]) -> bool {
+        self.shelved(shelf).1
+    }
+
+    fn arrive(
+        &self,
+        table: &mut [u8],
+        shelf: &mut [u8],
+        campaign: u8,
+        block: &mut [u8],
+        verdict: u8,
+        outcomes: &mut [u64],
+    ) -> ArrivalAnswer {
+        let rules = &self.shelving;
+        // On a copy: a check may refuse what admission alone would let in.
+        let mut after = table.to_vec();
+        let admission = self.admit(&mut after, block, verdict);
+        let (held, shelf_in_form) = self.shelved(shelf);
+        let takes = (rules.takes)(&held, campaign);
+        let (block, room) = (block.to_vec(), outcomes.len());
+        let coming = Coming { campaign, shelf: held, shelf_in_form, block, admission, takes, room };
+        if let Some(refusal) = first_refusal(&rules.checks, &coming) {
+            return ArrivalAnswer::refused(refusal);
+        }
+        table.copy_from_slice(&after);
+        let mut held = coming.shelf;
+        if admission.refusal == 9 {
+            (rules.put)(&mut held, campaign, &coming.block);
+        }
+        let mut ended = Vec::new();
+        if (rules.tries_after)(admission) {
+            // A try is an admission of its own.
+            let admit = |block: &[u8]| self.admit(table, &mut block.to_vec(), rules.verdict);
+            ended = rules.tries(&mut held, campaign, admit);
+        }
+        held.write(shelf);
+        (rules.note)(outcomes, &ended);
+        ArrivalAnswer { answer: admission, ended: ended.len() }
     }
 
     fn read_block(&self, block: &mut [u8]) -> Reading {

@@ -4,6 +4,7 @@
 //! buffers that it was lent.
 
 mod admission;
+mod arrival;
 mod building;
 mod form;
 mod fresh;
@@ -13,10 +14,13 @@ mod meaning;
 mod process;
 mod reading;
 mod replay;
+mod shelf_form;
+mod shelf_rule;
+mod tries;
 mod watch;
 
 use crate::admission::Arrival;
-use crate::answer::{AncestorPlaces, Answer, ForkedSites, Reading};
+use crate::answer::{AncestorPlaces, Answer, ArrivalAnswer, ForkedSites, Reading};
 use crate::building::Task;
 use crate::calls::Calls;
 use crate::checks::Check;
@@ -39,6 +43,8 @@ pub struct Mutant {
     after_ancestors: AfterAncestors,
     after_building: AfterBuilding,
     after_replay: AfterReplay,
+    after_shelf_form: AfterForm,
+    after_arrival: AfterArrival,
     after_reading: AfterReading,
     after_digest: AfterCall,
     after_listing: AfterListing,
@@ -52,6 +58,7 @@ type AfterForks = Box<dyn Fn(ForkedSites, &mut [u8]) -> ForkedSites>;
 type AfterAncestors = Box<dyn Fn(AncestorPlaces, &mut [u8], usize) -> AncestorPlaces>;
 type AfterBuilding = Box<dyn Fn(Answer, Building) -> Answer>;
 type AfterReplay = Box<dyn Fn(usize, &mut [u8], &mut [u16], &mut [u8], &mut [u64]) -> usize>;
+type AfterArrival = Box<dyn Fn(ArrivalAnswer, Arriving) -> ArrivalAnswer>;
 type AfterListing = Box<dyn Fn(Ended, &[u8]) -> Ended>;
 type AfterCall = Box<dyn Fn(Answer, &mut [u8], &mut [u8]) -> Answer>;
 
@@ -61,6 +68,15 @@ struct Building<'a> {
     site: u8,
     requests: &'a mut [u8],
     output: &'a mut [u8],
+}
+
+/// What an arrival with a shelf was given, as the call left it.
+struct Arriving<'a> {
+    table: &'a mut [u8],
+    shelf: &'a mut [u8],
+    campaign: u8,
+    block: &'a mut [u8],
+    outcomes: &'a mut [u64],
 }
 
 /// A mistake by its name.
@@ -81,6 +97,14 @@ pub fn all() -> Vec<Mutant> {
 /// Those that cases of listings find.
 pub fn of_listings() -> Vec<Mutant> {
     mistaken(listing::MISTAKES)
+}
+
+/// Those that cases of shelves find.
+pub fn of_shelves() -> Vec<Mutant> {
+    let mut mutants = shelf_form::conditions_left_out();
+    mutants.extend(arrival::checks_exchanged());
+    mutants.extend(mistaken(&mistakes_with_shelves()));
+    mutants
 }
 
 fn mistaken(mistakes: &[Mistake]) -> Vec<Mutant> {
@@ -149,6 +173,43 @@ pub fn lawless_in_groups() -> Vec<(Mutant, &'static str)> {
     ])
 }
 
+/// The same of laws about arrivals with a shelf.
+pub fn lawless_with_shelves() -> Vec<(Mutant, &'static str)> {
+    with_laws(&[
+        (&[shelf_rule::OTHERS_NOT_COVERED], STAYS_IN_FORM),
+        (&[shelf_rule::ANY_FREE_PLACE], STAYS_IN_FORM),
+        (&[shelf_rule::NOT_AFTER_TAKING], STAYS_IN_FORM),
+        (&[arrival::LAST_COMPARED_ALONE], STAYS_IN_FORM),
+        (&[shelf_rule::OWN_LACK_TOO], NEVER_19),
+        (&[shelf_rule::THREE_RESERVED], NEVER_19),
+        (&[tries::AFTER_EVERY_ARRIVAL], ONLY_BY_9),
+        (&[shelf_rule::NOTHING_WAITS], ACCOUNTED_FOR),
+        (&[shelf_rule::FOR_CAMPAIGN_0], ACCOUNTED_FOR),
+        (&[shelf_rule::OLDEST_PUSHED_OUT], ACCOUNTED_FOR),
+        (&[shelf_rule::TAKEN_FROM_ANOTHER], ACCOUNTED_FOR),
+        (&[tries::ALL_CAMPAIGNS], ACCOUNTED_FOR),
+        (&[tries::STAYS_ON_SHELF], ACCOUNTED_FOR),
+        (&[tries::FIRST_OF_EQUAL_BYTES], ACCOUNTED_FOR),
+        (&[tries::NOTHING_LISTED], ACCOUNTED_FOR),
+        (&[tries::PLACE_FIRST], ACCOUNTED_FOR),
+        (&[tries::NO_TRIES], TRIED_OUT),
+        (&[tries::ONE_PASS], TRIED_OUT),
+        (&[tries::ENDS_WITH_9], TRIED_OUT),
+        (&[tries::NOTHING_DROPPED], TRIED_OUT),
+        (&[tries::IN_REVERSE], PLAIN),
+        (&[tries::HELD_COUNTS_AS_LET_IN], PLAIN),
+        (&[arrival::FOR_ANY_CAMPAIGN], INDEPENDENT),
+        (&[shelf_rule::TAKEN_FROM_ANOTHER], INDEPENDENT),
+        (&[tries::SECOND_HALF_FIRST], INDEPENDENT),
+        (&[tries::ALL_CAMPAIGNS], INDEPENDENT),
+        (&[tries::NEXT_CAMPAIGN], INDEPENDENT),
+        (&[tries::FIRST_OF_EQUAL_BYTES], INDEPENDENT),
+        (&[shelf_rule::NOTHING_WAITS], ANSWERED_9),
+        (&[shelf_rule::OLDEST_PUSHED_OUT], ANSWERED_9),
+        (&[tries::STAYS_ON_SHELF], ANSWERED_9),
+    ])
+}
+
 /// Mutants by the names of their mistakes.
 fn with_laws(names: &[(&[&str], &'static str)]) -> Vec<(Mutant, &'static str)> {
     names.iter().map(|(names, law)| (Mutant::of(names), *law)).collect()
@@ -161,12 +222,17 @@ fn mistakes() -> Vec<Mistake> {
     [tables.concat(), records.concat(), readers.concat()].concat()
 }
 
+fn mistakes_with_shelves() -> Vec<Mistake> {
+    [shelf_form::MISTAKES, arrival::MISTAKES, shelf_rule::MISTAKES, tries::MISTAKES].concat()
+}
+
 impl Mutant {
     /// With all mistakes of these names.
     fn of(names: &[&str]) -> Mutant {
         let make = |mutant: &mut Mutant| {
+            let all = [mistakes(), mistakes_with_shelves()].concat();
             for wanted in names {
-                let (_, mistake) = mistakes().into_iter().find(|(name, _)| name == wanted).expect("a mistake's name");
+                let (_, mistake) = all.iter().find(|(name, _)| name == wanted).expect("a mistake's name");
                 mistake(mutant);
             }
         };
@@ -190,6 +256,8 @@ impl Mutant {
             after_ancestors: Box::new(|answer, _, _| answer),
             after_building: Box::new(|answer, _| answer),
             after_replay: Box::new(|ran, _, _, _, _| ran),
+            after_shelf_form: Box::new(|answer, _| answer),
+            after_arrival: Box::new(|answer, _| answer),
             after_reading: Box::new(|reading, _| reading),
             after_digest: Box::new(|answer, _, _| answer),
             after_listing: Box::new(|ended, _| ended),
@@ -271,6 +339,14 @@ impl Mutant {
         self.after_replay = Box::new(after);
     }
 
+    fn after_shelf_form(&mut self, after: impl Fn(bool, &mut [u8]) -> bool + 'static) {
+        self.after_shelf_form = Box::new(after);
+    }
+
+    fn after_arrival(&mut self, after: impl Fn(ArrivalAnswer, Arriving) -> ArrivalAnswer + 'static) {
+        self.after_arrival = Box::new(after);
+    }
+
     fn after_digest(&mut self, after: impl Fn(Answer, &mut [u8], &mut [u8]) -> Answer + 'static) {
         self.after_digest = Box::new(after);
     }
@@ -337,6 +413,24 @@ impl Calls for Mutant {
     fn replay(&self, table: &mut [u8], records: &mut [u16], calls: &mut [u8], answers: &mut [u64]) -> usize {
         let ran = self.model.replay(table, records, calls, answers);
         (self.after_replay)(ran, table, records, calls, answers)
+    }
+
+    fn shelf_in_form(&self, shelf: &mut [u8]) -> bool {
+        let answer = self.model.shelf_in_form(shelf);
+        (self.after_shelf_form)(answer, shelf)
+    }
+
+    fn arrive(
+        &self,
+        table: &mut [u8],
+        shelf: &mut [u8],
+        campaign: u8,
+        block: &mut [u8],
+        verdict: u8,
+        outcomes: &mut [u64],
+    ) -> ArrivalAnswer {
+        let answer = self.model.arrive(table, shelf, campaign, block, verdict, outcomes);
+        (self.after_arrival)(answer, Arriving { table, shelf, campaign, block, outcomes })
     }
 
     fn read_block(&self, block: &mut [u8]) -> Reading {

@@ -4,7 +4,7 @@
 use std::ops::Range;
 
 use crate::calls::Calls;
-use crate::cases::{first_difference, Cases, Found, Kind, GROUPS, LISTINGS};
+use crate::cases::{first_difference, Cases, Found, Kind, GROUPS, LISTINGS, SHELVES};
 use crate::counts::Counts;
 use crate::examples;
 use crate::model::Model;
@@ -21,21 +21,29 @@ pub fn run(options: &Options) -> bool {
     }
     let listings = first(MOST_LISTINGS, &options.cases, &LISTINGS);
     let groups = first(MOST_GROUPS, &options.cases, &GROUPS);
+    let shelves = first(MOST_SHELVES, &options.cases, &SHELVES);
     // The other way round: what follows the rules must not be found to differ.
-    for cases in [&options.cases, &listings] {
+    for cases in [&options.cases, &listings, &shelves] {
         if let Some(found) = find(&model, &model, &mut cases.clone()) {
             println!("the model differs from itself, case {}, kind {}: {}", found.case, found.kind, found.difference);
             return false;
         }
     }
     let mut tally = Tally::default();
-    for (mutants, cases) in [(mutants::all(), &options.cases), (mutants::of_listings(), &listings)] {
+    let by_cases =
+        [(mutants::all(), &options.cases), (mutants::of_listings(), &listings), (mutants::of_shelves(), &shelves)];
+    for (mutants, cases) in by_cases {
         for mutant in mutants {
             let found = find(&mutant, &model, &mut cases.clone());
             tally.note(cases, found.map(|found| found.case), &mutant.name);
         }
     }
-    for (lawless, cases) in [(mutants::lawless(), &options.cases), (mutants::lawless_in_groups(), &groups)] {
+    let by_laws = [
+        (mutants::lawless(), &options.cases),
+        (mutants::lawless_in_groups(), &groups),
+        (mutants::lawless_with_shelves(), &shelves),
+    ];
+    for (lawless, cases) in by_laws {
         for (mutant, law) in lawless {
             let name = format!("{law}: broken by {}", mutant.name);
             tally.note(cases, find_law(mutant.model(), law, cases), &name);
@@ -48,6 +56,7 @@ pub fn run(options: &Options) -> bool {
 // These take longer than other cases, and their mutants are found sooner.
 const MOST_LISTINGS: u64 = 400;
 const MOST_GROUPS: u64 = 1000;
+const MOST_SHELVES: u64 = 1000;
 
 /// The first of the cases, so many at most, all of one kind.
 fn first(most: u64, cases: &Cases, kind: &'static Kind) -> Cases {

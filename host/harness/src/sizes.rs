@@ -23,6 +23,18 @@ pub const RECORD_NUMBERS: usize = 4 + 2 * MAX_SITES + 4;
 pub const PART_NUMBERS: usize = SLOTS * RECORD_NUMBERS;
 pub const BUFFER_NUMBERS: usize = PLACES * PART_NUMBERS;
 
+/// Campaigns that share a shelf.
+pub const CAMPAIGNS: usize = 4;
+pub const SHELF_PLACES: usize = 16;
+/// How many places of the shelf a campaign may always hold, and how many at most.
+pub const RESERVED: usize = 2;
+pub const MOST_HELD: usize = 10;
+/// A campaign, a length and a block.
+pub const ENTRY_BYTES: usize = 1 + 2 + MAX_BLOCK_BYTES;
+pub const SHELF_BYTES: usize = 1 + SHELF_PLACES * ENTRY_BYTES;
+/// Two for each block that may wait for a campaign.
+pub const OUTCOMES_NUMBERS: usize = 2 * MOST_HELD;
+
 // The sums as the documents give them.
 const _: () = assert!(MAX_BLOCK_BYTES == 541);
 const _: () = assert!(ROW_BYTES == 60);
@@ -30,3 +42,6 @@ const _: () = assert!(TABLE_BYTES == 3850);
 const _: () = assert!(RECORD_NUMBERS == 40);
 const _: () = assert!(PART_NUMBERS == 320);
 const _: () = assert!(BUFFER_NUMBERS == 20_480);
+const _: () = assert!(ENTRY_BYTES == 544);
+const _: () = assert!(SHELF_BYTES == 8705);
+const _: () = assert!(OUTCOMES_NUMBERS == 20);

@@ -15,8 +15,12 @@ pub fn empty(random: &Random) -> Table {
 
 /// A table in form, with 0 to 64 places. Full tables and nearly full ones come often.
 pub fn in_form(random: &Random) -> Table {
-    let mut table = empty(random);
-    let count = some_count(random);
+    let table = empty(random);
+    grown(random, table, some_count(random))
+}
+
+/// A table in form with so many places, of the setup of an empty one.
+pub fn grown(random: &Random, mut table: Table, count: usize) -> Table {
     let growth = Growth::drawn(random);
     while table.count < count {
         let lineage = lineage(random, &table);

@@ -8,7 +8,7 @@ use crate::table::{places, Row, Table};
 
 /// For each condition a mutant without it.
 pub fn conditions_left_out() -> Vec<Mutant> {
-    let mutant = |left_out: &Condition| {
+    let mutant = |left_out: &Condition<Table>| {
         let name = left_out.name;
         Mutant::with(format!("form without: {name}"), |mutant| mutant.form(name, |_| true))
     };
