@@ -1,6 +1,6 @@
--- The case of a full table. That a table of 63 blocks is in form is slower to compute than all the other cases together, so it is computed
--- once: admission keeps form. Assumes nothing.
-use mathlib.Core.Path.{_≡_, refl, ap, ap₂, _∙_}
+-- The full table. That a table of 63 blocks is in form is slower to compute than all the other cases together, so it is computed once: admission
+-- keeps form. Assumes nothing.
+use mathlib.Core.Path.{_≡_, refl, ap, ap₂, _∙_, subst}
 use mathlib.Core.Bool.{true, cond}
 use mathlib.Core.List.{List, [], _∷_, map}
 use lib.Dec.{eqb}
@@ -19,21 +19,21 @@ use Rattle.cases.proofs.Toy.{toyDigest}
 use Rattle.cases.proofs.Opened.{openedTable}
 
 -- the answer of an admission at a table in form, and the table that it leaves
-unfoldable answerAt : Bytes → Bytes → Answer
+unfoldable pub answerAt : Bytes → Bytes → Answer
 answerAt t b = answerTo (admissionChecks toy true (setupOf t) (viewOf t) b 1) (countOf t)
 
-unfoldable nextTable : Bytes → Bytes → Bytes
+unfoldable pub nextTable : Bytes → Bytes → Bytes
 nextTable t b = cond (eqb (answerAt t b .refusal) 0) (withRow t (rowFor toy (viewOf t) b)) t
 
 unfoldable answersAt : Bytes → List Bytes → List Answer
 answersAt t [] = []
 answersAt t (b ∷ bs) = answerAt t b ∷ answersAt (nextTable t b) bs
 
-answer-is : (t b : Bytes) → inForm t ≡ true → admission toy t b 1 ≡ answerAt t b
+pub answer-is : (t b : Bytes) → inForm t ≡ true → admission toy t b 1 ≡ answerAt t b
 unfolding admission answerAt
 answer-is t b e = rw e
 
-table-is : (t b : Bytes) → inForm t ≡ true → admitted toy t b 1 ≡ nextTable t b
+pub table-is : (t b : Bytes) → inForm t ≡ true → admitted toy t b 1 ≡ nextTable t b
 unfolding admitted nextTable
 table-is t b e = rw (answer-is t b e)
 
@@ -47,6 +47,24 @@ in-form t (b ∷ bs) e =
 formed : inForm (holding 63) ≡ true
 unfolding openedTable
 formed = refl
+
+-- with the next of the numbered blocks it is full
+filling : answerAt (holding 63) (numbered 63) ≡ placed 63
+unfolding openedTable answerAt
+filling = refl
+
+filled : nextTable (holding 63) (numbered 63) ≡ holding 64
+unfolding openedTable answerAt nextTable
+filled = refl
+
+pub last-placed : admission toy (holding 63) (numbered 63) 1 ≡ placed 63
+last-placed = answer-is (holding 63) (numbered 63) formed ∙ filling
+
+pub last-leaves : admitted toy (holding 63) (numbered 63) 1 ≡ holding 64
+last-leaves = table-is (holding 63) (numbered 63) formed ∙ filled
+
+pub full-formed : inForm (holding 64) ≡ true
+full-formed = subst (λ (t : Bytes). inForm t ≡ true) last-leaves (promises toy (toyDigest .size) .kept (holding 63) (numbered 63) 1 formed)
 
 last : answersAt (holding 63) (numbered 63 ∷ numbered 5 ∷ block 0 1 [] [] ∷ block 0 0 [] [] ∷ []) ≡ placed 63 ∷ refused 8 5 ∷ refused 10 0 ∷ refused 11 0 ∷ []
 unfolding openedTable answerAt nextTable answersAt

@@ -15,3 +15,5 @@ pub mod Premises
 mod Covered
 pub mod Arrival
 pub mod Builders
+pub mod Shelf
+pub mod Arrivals

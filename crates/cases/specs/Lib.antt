@@ -1,4 +1,4 @@
--- Cases of document 01's rules: how they are written down, how they are run, and what each gives.
+-- Cases of document 01's rules and of request Three's: how they are written down, how they are run, and what each gives.
 pub mod Toy
 pub mod Run
 pub mod Blocks
@@ -13,3 +13,5 @@ pub mod Traps
 pub mod Premises
 pub mod Arrival
 pub mod Builders
+pub mod Shelf
+pub mod Arrivals

@@ -1,0 +1,98 @@
+-- The cases of the shelf, by computing. Assumes nothing.
+use mathlib.Core.Path.{refl}
+use mathlib.Core.Bool.{Bool, true}
+use Rattle.base.specs.Count.{sumBelow}
+use Rattle.base.specs.List.{someIn, countIn}
+use Rattle.shelf.specs.Layout.{waitingIn, entryBytes, shelfBytes}
+use Rattle.shelf.specs.Rules.{holds, hasPlace, waits, eachSound, shared, rulesHold}
+use Rattle.shelf.specs.Form.{inForm}
+use Rattle.cases.specs.Shelf.{lacking, longest, sharing, threeWaiting, ofThree, LimitCases, PlaceCases, SameBytesCases, ShelfBytesCases, ShelfFormCases}
+use Rattle.cases.proofs.Opened.{openedTable}
+
+-- what the rules of the shelf and its form are computed by
+unfoldable pub openedShelf : Bool
+unfolding openedTable sumBelow someIn countIn waitingIn entryBytes shelfBytes holds hasPlace waits eachSound shared rulesHold inForm lacking longest
+    sharing threeWaiting ofThree
+openedShelf = true
+
+pub limits : LimitCases
+limits =
+    record {
+      places = refl;
+      campaigns = refl;
+      lastCampaign = refl;
+      always = refl;
+      most = refl;
+      leftByTheOthers = refl;
+      entry = refl;
+      shelf = refl;
+      outcomes = refl;
+    }
+
+pub places : PlaceCases
+unfolding openedShelf
+places =
+    record {
+      nothingHeld = refl;
+      oneHeld = refl;
+      twoHeld = refl;
+      tenth = refl;
+      eleventh = refl;
+      tenthBesideTwos = refl;
+      eleventhBesideTwos = refl;
+      othersHoldNone = (refl, refl);
+      othersHoldOne = (refl, refl);
+      othersHoldTwo = (refl, refl);
+      othersMixed = (refl, refl);
+      ownLack = (refl, refl);
+      ownLackOfTheLast = (refl, refl);
+      full = refl;
+    }
+
+pub sameBytes : SameBytesCases
+unfolding openedShelf
+sameBytes = record { theyWait = refl; forAnother = refl; otherBytes = refl; longerOne = refl; shorterOne = refl }
+
+pub shelfBytesCases : ShelfBytesCases
+unfolding openedShelf
+shelfBytesCases = record { entry = refl; highByte = refl; inOrder = refl; nothing = refl; shown = refl }
+
+pub shelfForm : ShelfFormCases
+unfolding openedShelf
+shelfForm =
+    record {
+      formed = refl;
+      empty = refl;
+      shorter = refl;
+      longer = refl;
+      noBytes = refl;
+      sixteen = refl;
+      seventeen = refl;
+      countSeventeen = refl;
+      countMore = refl;
+      countLess = refl;
+      campaignThree = refl;
+      campaignFour = refl;
+      byteFour = refl;
+      slotSeven = refl;
+      slotEight = refl;
+      misshapen = refl;
+      repeatedReference = refl;
+      lengthOver = refl;
+      firstBehindBlock = refl;
+      lastBehindBlock = refl;
+      firstBehindEntries = refl;
+      lastBehindEntries = refl;
+      sameForAnother = refl;
+      sameTwice = refl;
+      sameTwiceApart = refl;
+      tenHeld = refl;
+      elevenHeld = refl;
+      coveredOne = refl;
+      coveredTwo = refl;
+      coveredEach = refl;
+      shortOfOne = refl;
+      shortOfEach = refl;
+      lacksNothing = refl;
+      anySite = refl;
+    }

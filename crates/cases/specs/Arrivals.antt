@@ -1,0 +1,287 @@
+-- Request Three: arrivals, the order of their checks, and what waits, is let in or is dropped. Rows about the first checks are over the bytes of a
+-- shelf, most others over what waits. The digest is the toy one.
+use mathlib.Core.Path.{_≡_}
+use mathlib.Core.List.{List, [], _∷_, _++_, map}
+use Prim.Native.Nat.{ℕ, _+_, _-_}
+use lib.ListN.{replicate}
+use Rattle.base.specs.Bytes.{Bytes}
+use Rattle.base.specs.List.{listBelow}
+use Rattle.block.specs.Answers.{putAnswers}
+use Rattle.block.specs.declared.Answer.{Answer}
+use Rattle.table.specs.Checks.{success, refused}
+use Rattle.admission.specs.Admission.{admission}
+use Rattle.shelf.specs.Layout.{Waiting, shelfSize, shelfBytes}
+use Rattle.shelf.specs.Rules.{hasPlace}
+use Rattle.shelf.specs.Form.{emptyShelf}
+use Rattle.campaigns.specs.Passes.{Try, outcomesOf}
+use Rattle.campaigns.specs.Arriving.{Arrived, Called, arrived, arrival}
+use Rattle.cases.specs.Toy.{toy, request, block}
+use Rattle.cases.specs.Run.{good, placed, tableAfter}
+use Rattle.cases.specs.Blocks.{fresh, unlawful, fork, stranger, numbered, holding}
+use Rattle.cases.specs.Form.{changed}
+use Rattle.cases.specs.Starred.{chained}
+use Rattle.cases.specs.Shelf.{_for_, lacking, longest, sharing, ofThree, takers, allOfThem, noneOfThem}
+
+-- ---- blocks
+
+-- a block of site p that refers to the chain's first block
+unfoldable pub beside : ℕ → Bytes
+beside p = block p 0 (toy (chained 0) ∷ []) []
+
+-- one of site 1 that refers to a block that never arrives, too
+unfoldable pub partly : Bytes
+partly = block 1 0 (toy (chained 0) ∷ toy stranger ∷ []) []
+
+-- blocks of sequence 2 that refer to one of sequence 0 and so have no parent. They differ in the number requested
+unfoldable pub orphan : ℕ → Bytes
+orphan i = block 0 2 (toy (chained 0) ∷ []) (request 0 (i + 1) ∷ [])
+
+-- one that refers to the last of 64
+unfoldable pub afterLast : Bytes
+afterLast = block 1 0 (toy (numbered 63) ∷ []) []
+
+-- ---- tables, shelves and what is left
+
+-- the table that holds these blocks, and the one that holds the first k of the chain
+unfoldable pub tableOf : List Bytes → Bytes
+tableOf bs = tableAfter toy fresh (map good bs)
+
+unfoldable pub chain : ℕ → Bytes
+chain k = tableOf (listBelow chained k)
+
+-- a shelf whose last byte is not 0
+unfoldable pub damaged : Bytes
+damaged = changed emptyShelf (shelfSize - 1) 1
+
+-- b arrives for campaign c, where ws wait
+abbrev pub arrives : Bytes → List Waiting → ℕ → Bytes → ℕ → Arrived
+arrives t ws c b verdict = arrived toy (hasPlace c ws) t ws c b verdict
+
+-- the answer, the table and what waits afterwards, and the tries
+abbrev pub leaving : Answer → Bytes → List Waiting → List Try → Arrived
+leaving a t ws ys = record { answer = a; table = t; waiting = ws; tries = ys }
+
+-- the same over a shelf's bytes
+abbrev pub calling : Answer → Bytes → Bytes → List Try → Called
+calling a t s ys = record { answer = a; table = t; shelf = s; tries = ys }
+
+-- a waiting block was tried and got this answer
+infix 70 _getting_
+abbrev pub _getting_ : Bytes → Answer → Try
+b getting a = record { block = b; answer = a }
+
+-- 9: reference not held, with the index of the first such
+abbrev pub lacks : ℕ → Answer
+lacks index = refused 9 index
+
+-- what waits when the chain's first block arrives: two are then let in, one is dropped, and two wait on
+abbrev pub mixture : List Waiting
+mixture = partly for 0 ∷ chained 2 for 0 ∷ orphan 0 for 0 ∷ lacking 0 for 0 ∷ chained 1 for 0 ∷ []
+
+-- a full shelf, of which one is let in, one is dropped, and one of campaign 0 waits on
+abbrev pub crowded : List Waiting
+crowded = orphan 0 for 0 ∷ chained 1 for 0 ∷ lacking 0 for 0 ∷ sharing 0 2 5 6
+
+-- ---- cases
+
+abbrev pub noBlock : Bytes
+noBlock = 0 ∷ 0 ∷ 0 ∷ 0 ∷ []
+
+-- The checks of an arrival: 21, 17, 2, then admission's. A row for each two neighbours. The first call has both causes and gets the earlier number;
+-- in the second only the earlier cause is mended, and it gets the later number. No refusal here changes anything.
+pub record ArrivalOrderCases : Type 0 where
+  -- "21, campaign above 3, checked first": nothing else is right
+  pub twentyOneFirst : arrival toy [] [] 4 [] 0 0 ≡ calling (refused 21 0) [] [] []
+  -- 21, 17: campaign 4 with room for 19 numbers, then campaign 3
+  pub campaignBeforeRoom :
+      (arrival toy fresh emptyShelf 4 (chained 0) 1 19 ≡ calling (refused 21 0) fresh emptyShelf [])
+      × (arrival toy fresh emptyShelf 3 (chained 0) 1 19 ≡ calling (refused 17 20) fresh emptyShelf [])
+  -- 17, 2: a shelf that is not in form and room for 19 numbers, then for 20
+  pub roomBeforeShelf :
+      (arrival toy fresh damaged 0 (chained 0) 1 19 ≡ calling (refused 17 20) fresh damaged [])
+      × (arrival toy fresh damaged 0 (chained 0) 1 20 ≡ calling (refused 2 0) fresh damaged [])
+  -- 2, 3: four bytes and a shelf that is not in form, then one that is
+  pub shelfBeforeBlock :
+      (arrival toy fresh damaged 0 noBlock 1 20 ≡ calling (refused 2 0) fresh damaged [])
+      × (arrival toy fresh emptyShelf 0 noBlock 1 20 ≡ calling (refused 3 0) fresh emptyShelf [])
+  -- 2, 3: four bytes and a table that is not in form; one that is stands above
+  pub tableBeforeBlock : arrival toy unlawful emptyShelf 0 noBlock 1 20 ≡ calling (refused 2 0) unlawful emptyShelf []
+  -- campaign 3 and 20 numbers are enough, and so are more
+  pub enough : arrival toy fresh emptyShelf 3 (chained 0) 1 20 ≡ calling (placed 0) (chain 1) emptyShelf []
+  pub more : arrival toy fresh emptyShelf 0 (chained 0) 1 21 ≡ calling (placed 0) (chain 1) emptyShelf []
+
+-- "where an arrival would get 9". `partly` lacks its second reference in a table that holds its first: 9 with index 1.
+pub record MissingCases : Type 0 where
+  -- "still answered 9 and waits, with its bytes": behind all others, and with the index
+  pub waitsBehind :
+      arrives (chain 1) (sharing 1 1 0 0) 0 partly 1
+      ≡ leaving (lacks 1) (chain 1) (lacking 0 for 0 ∷ lacking 0 for 1 ∷ partly for 0 ∷ []) []
+  -- the same over the shelf's bytes
+  pub waitsInBytes :
+      arrival toy (chain 1) ofThree 1 partly 1 20
+      ≡ calling (lacks 1) (chain 1) (shelfBytes (lacking 0 for 0 ∷ lacking 0 for 3 ∷ longest for 0 ∷ partly for 1 ∷ [])) []
+  -- "instead of it 20, its bytes already wait for that campaign", with 0 beside it
+  pub waitsAlready :
+      arrives (chain 1) (lacking 0 for 0 ∷ partly for 0 ∷ []) 0 partly 1
+      ≡ leaving (refused 20 0) (chain 1) (lacking 0 for 0 ∷ partly for 0 ∷ []) []
+  pub waitsAlreadyInBytes : arrival toy fresh ofThree 3 (lacking 0) 1 20 ≡ calling (refused 20 0) fresh ofThree []
+  -- they wait for another campaign alone
+  pub waitsForAnother :
+      arrives (chain 1) (lacking 0 for 0 ∷ partly for 1 ∷ []) 0 partly 1
+      ≡ leaving (lacks 1) (chain 1) (lacking 0 for 0 ∷ partly for 1 ∷ partly for 0 ∷ []) []
+  -- "else 19, no place by the shelf rule", with 0 beside it: 10 are held; no place is free; those that are free are lacked by another
+  pub tenHeld :
+      arrives (chain 1) (sharing 10 0 0 0) 0 partly 1
+      ≡ leaving (refused 19 0) (chain 1) (sharing 10 0 0 0) []
+  pub noneFree :
+      arrives (chain 1) (sharing 5 2 2 7) 0 partly 1
+      ≡ leaving (refused 19 0) (chain 1) (sharing 5 2 2 7) []
+  pub lackedByAnother :
+      arrives (chain 1) (sharing 6 0 2 6) 0 partly 1
+      ≡ leaving (refused 19 0) (chain 1) (sharing 6 0 2 6) []
+  -- on the same shelf that other one, which holds fewer than 2, gets 9
+  pub belowTwo :
+      arrives (chain 1) (sharing 6 0 2 6) 1 partly 1
+      ≡ leaving (lacks 1) (chain 1) (sharing 6 0 2 6 ++ (partly for 1 ∷ [])) []
+  -- 19 over the shelf's bytes
+  pub noneFreeInBytes :
+      arrival toy fresh (shelfBytes (sharing 10 2 2 2)) 1 partly 1 20 ≡ calling (refused 19 0) fresh (shelfBytes (sharing 10 2 2 2)) []
+  -- 20, 19: its bytes wait for the campaign and no place is free
+  pub sameBeforeNoPlace :
+      arrives (chain 1) (sharing 5 2 2 6 ++ (partly for 0 ∷ [])) 0 partly 1
+      ≡ leaving (refused 20 0) (chain 1) (sharing 5 2 2 6 ++ (partly for 0 ∷ [])) []
+  -- 5, 9: with verdict 0 nothing waits
+  pub verdictBefore :
+      arrives (chain 1) [] 0 partly 0 ≡ leaving (refused 5 0) (chain 1) [] []
+  -- 5 although its bytes wait, and although no place is free
+  pub verdictBeforeSame :
+      arrives fresh (sharing 10 2 2 2) 0 (lacking 0) 0 ≡ leaving (refused 5 0) fresh (sharing 10 2 2 2) []
+  -- 8, 9: a held block has its digest
+  pub heldBefore :
+      arrives (tableOf (chained 0 ∷ fork ∷ block 1 0 (toy (chained 0) ∷ toy fork ∷ []) [] ∷ [])) [] 0 partly 1
+      ≡ leaving (refused 8 2) (tableOf (chained 0 ∷ fork ∷ block 1 0 (toy (chained 0) ∷ toy fork ∷ []) [] ∷ [])) [] []
+  -- 9, 11: it waits though the table is full
+  pub fullTable : arrives (holding 64) [] 0 (lacking 0) 1 ≡ leaving (lacks 0) (holding 64) (lacking 0 for 0 ∷ []) []
+
+-- "After each admission of an arrival the campaign's waiting blocks are tried in passes, in the order they came, until a pass admits none; one refused
+-- by another number than 9 is dropped".
+pub record PassCases : Type 0 where
+  -- one is let in
+  pub oneLetIn :
+      arrives fresh (chained 1 for 0 ∷ []) 0 (chained 0) 1
+      ≡ leaving (placed 0) (chain 2) [] (chained 1 getting placed 1 ∷ [])
+  -- a chain that waits in its order: each is let in by the one before it, in the same pass
+  pub chainInOrder :
+      arrives fresh (chained 1 for 0 ∷ chained 2 for 0 ∷ chained 3 for 0 ∷ []) 0 (chained 0) 1
+      ≡ leaving (placed 0) (chain 4) []
+      (chained 1 getting placed 1 ∷ chained 2 getting placed 2 ∷ chained 3 getting placed 3 ∷ [])
+  -- one that came in reverse order: three passes let one in each
+  pub chainReversed :
+      arrives fresh (chained 3 for 0 ∷ chained 2 for 0 ∷ chained 1 for 0 ∷ []) 0 (chained 0) 1
+      ≡ leaving (placed 0) (chain 4) []
+      (chained 3 getting lacks 0
+      ∷ chained 2 getting lacks 0
+      ∷ chained 1 getting placed 1
+      ∷ chained 3 getting lacks 0
+      ∷ chained 2 getting placed 2
+      ∷ chained 3 getting placed 3
+      ∷ [])
+  -- "in the order they came", whatever their sites: the oldest has the lowest place
+  pub oldestFirst :
+      arrives fresh (beside 2 for 0 ∷ beside 3 for 0 ∷ beside 1 for 0 ∷ []) 0 (chained 0) 1
+      ≡ leaving (placed 0) (tableOf (chained 0 ∷ beside 2 ∷ beside 3 ∷ beside 1 ∷ [])) []
+      (beside 2 getting placed 1 ∷ beside 3 getting placed 2 ∷ beside 1 getting placed 3 ∷ [])
+  -- a pass that lets one in is followed by another, also if none is let in by that
+  pub oneMorePass :
+      arrives fresh (lacking 0 for 0 ∷ chained 1 for 0 ∷ []) 0 (chained 0) 1
+      ≡ leaving (placed 0) (chain 2) (lacking 0 for 0 ∷ [])
+      (lacking 0 getting lacks 0 ∷ chained 1 getting placed 1 ∷ lacking 0 getting lacks 0 ∷ [])
+  -- one that only drops is the last
+  pub onlyDrops :
+      arrives fresh (lacking 0 for 0 ∷ orphan 0 for 0 ∷ []) 0 (chained 0) 1
+      ≡ leaving (placed 0) (chain 1) (lacking 0 for 0 ∷ [])
+      (lacking 0 getting lacks 0 ∷ orphan 0 getting refused 10 0 ∷ [])
+  -- and so is one that does neither
+  pub nothingEnds :
+      arrives fresh (lacking 0 for 0 ∷ partly for 0 ∷ []) 0 (chained 0) 1
+      ≡ leaving (placed 0) (chain 1) (lacking 0 for 0 ∷ partly for 0 ∷ [])
+      (lacking 0 getting lacks 0 ∷ partly getting lacks 1 ∷ [])
+  -- one dropped is not tried again, and what waits on keeps its order
+  pub mixed :
+      arrives fresh mixture 0 (chained 0) 1
+      ≡ leaving (placed 0) (chain 3) (partly for 0 ∷ lacking 0 for 0 ∷ [])
+      (partly getting lacks 1
+      ∷ chained 2 getting lacks 0
+      ∷ orphan 0 getting refused 10 0
+      ∷ lacking 0 getting lacks 0
+      ∷ chained 1 getting placed 1
+      ∷ partly getting lacks 1
+      ∷ chained 2 getting placed 2
+      ∷ lacking 0 getting lacks 0
+      ∷ partly getting lacks 1
+      ∷ lacking 0 getting lacks 0
+      ∷ [])
+  -- dropped by 8: the block could have been admitted, and then it arrived once more
+  pub droppedBy8 :
+      arrives (chain 1) (chained 1 for 0 ∷ []) 0 (chained 1) 1
+      ≡ leaving (placed 1) (chain 2) [] (chained 1 getting refused 8 1 ∷ [])
+  -- by 10: it has no parent
+  pub droppedBy10 :
+      arrives fresh (orphan 0 for 0 ∷ []) 0 (chained 0) 1 ≡ leaving (placed 0) (chain 1) [] (orphan 0 getting refused 10 0 ∷ [])
+  -- by 11: 64 blocks are held, and with the last of them it lacks nothing
+  pub droppedBy11 :
+      arrives (holding 63) (afterLast for 0 ∷ []) 0 (numbered 63) 1 ≡ leaving (placed 63) (holding 64) [] (afterLast getting refused 11 0 ∷ [])
+  -- by 4: no arrival leaves such a block on the shelf, but the form of a shelf does not ask for its site
+  pub droppedBy4 :
+      arrives fresh (beside 4 for 0 ∷ []) 0 (chained 0) 1 ≡ leaving (placed 0) (chain 1) [] (beside 4 getting refused 4 0 ∷ [])
+  -- what waits for other campaigns is not tried, and stays in its order, though the reference is the same
+  pub otherCampaigns :
+      arrives fresh (chained 1 for 1 ∷ chained 1 for 0 ∷ chained 1 for 3 ∷ []) 0 (chained 0) 1
+      ≡ leaving (placed 0) (chain 2) (chained 1 for 1 ∷ chained 1 for 3 ∷ []) (chained 1 getting placed 1 ∷ [])
+  -- after a refusal none is tried, though it could be admitted: 8, and 9
+  pub afterRefusal :
+      arrives (chain 1) (chained 1 for 0 ∷ []) 0 (chained 0) 1
+      ≡ leaving (refused 8 0) (chain 1) (chained 1 for 0 ∷ []) []
+  pub afterMissing :
+      arrives (chain 1) (chained 1 for 0 ∷ []) 0 partly 1
+      ≡ leaving (lacks 1) (chain 1) (chained 1 for 0 ∷ partly for 0 ∷ []) []
+  -- after an admission it is, also if it does not refer to the block admitted
+  pub afterAnother :
+      arrives (chain 1) (chained 1 for 0 ∷ []) 0 fork 1
+      ≡ leaving (placed 1) (tableOf (chained 0 ∷ fork ∷ chained 1 ∷ [])) [] (chained 1 getting placed 2 ∷ [])
+  -- over the shelf's bytes, for campaign 2
+  pub inBytes :
+      arrival toy fresh (shelfBytes (lacking 0 for 0 ∷ chained 2 for 2 ∷ chained 1 for 2 ∷ partly for 2 ∷ [])) 2 (chained 0) 1 20
+      ≡ calling (placed 0) (chain 3) (shelfBytes (lacking 0 for 0 ∷ partly for 2 ∷ []))
+      (chained 2 getting lacks 0
+      ∷ chained 1 getting placed 1
+      ∷ partly getting lacks 1
+      ∷ chained 2 getting placed 2
+      ∷ partly getting lacks 1
+      ∷ partly getting lacks 1
+      ∷ [])
+  -- a refusal of admission's leaves the shelf's bytes
+  pub refusedInBytes :
+      arrival toy (chain 1) ofThree 0 (chained 0) 1 20 ≡ calling (refused 8 0) (chain 1) ofThree []
+
+-- "The answer lists, in the order tried, the place of each block let in and the number of each dropped".
+pub record OutcomeCases : Type 0 where
+  -- one dropped stands before those let in after it, and those that wait on are not listed
+  pub listed : outcomesOf (arrives fresh mixture 0 (chained 0) 1 .tries) ≡ refused 10 0 ∷ success 1 ∷ success 2 ∷ []
+  -- beside the number of one dropped is 0: 8 has a place otherwise
+  pub noPlace : outcomesOf (chained 1 getting refused 8 1 ∷ []) ≡ refused 8 0 ∷ []
+  -- all 10 that a campaign may hold end
+  pub ten :
+      outcomesOf (arrives fresh (listBelow (λ i. orphan i for 0) 10 ++ (orphan 0 for 1 ∷ [])) 0 (chained 0) 1 .tries) ≡ replicate 10 (refused 10 0)
+  -- in the buffer two numbers for each, and the others stay
+  pub inBuffer : putAnswers (replicate 20 7) 0 (outcomesOf (arrives fresh mixture 0 (chained 0) 1 .tries)) ≡ 10 ∷ 0 ∷ 0 ∷ 1 ∷ 0 ∷ 2 ∷ replicate 14 7
+
+-- What an arrival leaves to the next.
+pub record LeftCases : Type 0 where
+  -- what waits on for the campaign gets 9 from the table as it is, each with its index
+  pub stillLacking :
+      map (λ w. admission toy (arrives fresh mixture 0 (chained 0) 1 .table) (w .block) 1) (arrives fresh mixture 0 (chained 0) 1 .waiting)
+      ≡ lacks 1 ∷ lacks 0 ∷ []
+  -- "A place is free again once its block is let in or dropped": no campaign has a further place, and then all have
+  pub noPlaceBefore : takers crowded ≡ noneOfThem
+  pub placesAfter : takers (arrives fresh crowded 0 (chained 0) 1 .waiting) ≡ allOfThem

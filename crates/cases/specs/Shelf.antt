@@ -1,0 +1,187 @@
+-- Request Three: the shelf, its limits, the rule by which a campaign takes a further place, its bytes and its form. The digest is the toy one.
+use mathlib.Core.Path.{_≡_}
+use mathlib.Core.Bool.{Bool, true, false}
+use mathlib.Core.List.{List, [], _∷_, _++_}
+use Prim.Native.Nat.{ℕ, _+_, _-_, _*_}
+use lib.ListN.{take, replicate}
+use Rattle.base.specs.Bytes.{Bytes, splice}
+use Rattle.base.specs.List.{listBelow}
+use Rattle.shelf.specs.Layout.{maxWaiting, Waiting, entryHeader, entrySize, entryStart, shelfSize, waitingIn, entryBytes, shelfBytes}
+use Rattle.shelf.specs.Rules.{campaignCount, maxCampaign, reserved, maxShare, hasPlace, waits, rulesHold}
+use Rattle.shelf.specs.Form.{inForm, emptyShelf}
+use Rattle.campaigns.specs.Arriving.{outcomesSize}
+use Rattle.cases.specs.Toy.{toy, request, block}
+use Rattle.cases.specs.Blocks.{first, stranger, numbered}
+use Rattle.cases.specs.Form.{changed}
+
+-- ---- what waits
+
+-- the block b waits for campaign c
+infix 70 _for_
+abbrev pub _for_ : Bytes → ℕ → Waiting
+b for c = record { campaign = c; block = b }
+
+-- blocks of site 2 that refer to one that never arrives, and differ in the number requested
+unfoldable pub lacking : ℕ → Bytes
+lacking i = block 2 0 (toy stranger ∷ []) (request 0 (i + 1) ∷ [])
+
+-- 16 references and 8 requests: 541 bytes
+unfoldable pub longest : Bytes
+longest = block 2 0 (listBelow (λ i. toy (numbered i)) 16) (listBelow (λ i. request i 1) 8)
+
+-- so many of those blocks wait for each campaign, 0 to 3
+unfoldable pub sharing : ℕ → ℕ → ℕ → ℕ → List Waiting
+sharing k₀ k₁ k₂ k₃ =
+    listBelow (λ i. lacking i for 0) k₀
+    ++ (listBelow (λ i. lacking i for 1) k₁
+    ++ (listBelow (λ i. lacking i for 2) k₂
+    ++ listBelow (λ i. lacking i for 3) k₃))
+
+-- the same bytes for campaigns 0 and 3, and the longest block for campaign 0
+unfoldable pub threeWaiting : List Waiting
+threeWaiting = lacking 0 for 0 ∷ lacking 0 for 3 ∷ longest for 0 ∷ []
+
+unfoldable pub ofThree : Bytes
+ofThree = shelfBytes threeWaiting
+
+-- ---- cases
+
+pub record LimitCases : Type 0 where
+  -- "a shelf of 16 places"
+  pub places : maxWaiting ≡ 16
+  -- "up to four campaigns", "a campaign up to 3"
+  pub campaigns : campaignCount ≡ 4
+  pub lastCampaign : maxCampaign ≡ 3
+  -- "may always hold 2 places and never more than 10"
+  pub always : reserved ≡ 2
+  pub most : maxShare ≡ 10
+  -- 10 is what the others' 2 leave of the 16: who holds 10 has no further place by what the others lack, either
+  pub leftByTheOthers : maxShare ≡ maxWaiting - reserved * maxCampaign
+  -- campaign, length and the longest block's bytes; the count and 16 such entries
+  pub entry : entrySize ≡ 3 + 541
+  pub shelf : shelfSize ≡ 8705
+  -- two numbers for each outcome
+  pub outcomes : outcomesSize ≡ 20
+
+-- whether each campaign, 0 to 3, has a further place
+abbrev pub takers : List Waiting → List Bool
+takers ws = listBelow (λ c. hasPlace c ws) 4
+
+abbrev pub allOfThem : List Bool
+allOfThem = true ∷ true ∷ true ∷ true ∷ []
+
+abbrev pub noneOfThem : List Bool
+noneOfThem = false ∷ false ∷ false ∷ false ∷ []
+
+-- "It takes a further one exactly when it holds fewer than 10 and the free places then still cover what the others lack of their 2". Where a case
+-- has two shelves, campaign 0 may take one place of the first, and the second has one free place fewer.
+pub record PlaceCases : Type 0 where
+  -- campaign 0 holds none, 1, 2
+  pub nothingHeld : takers (sharing 0 0 0 0) ≡ allOfThem
+  pub oneHeld : takers (sharing 1 0 0 0) ≡ allOfThem
+  pub twoHeld : takers (sharing 2 0 0 0) ≡ allOfThem
+  -- 9, and 10, beside others that hold none and others that hold their 2
+  pub tenth : takers (sharing 9 0 0 0) ≡ allOfThem
+  pub eleventh : takers (sharing 10 0 0 0) ≡ false ∷ true ∷ true ∷ true ∷ []
+  pub tenthBesideTwos : takers (sharing 9 2 2 2) ≡ allOfThem
+  pub eleventhBesideTwos : takers (sharing 10 2 2 1) ≡ false ∷ false ∷ false ∷ true ∷ []
+  -- two others hold none and lack 4
+  pub othersHoldNone :
+      (takers (sharing 5 0 0 6) ≡ allOfThem)
+      × (takers (sharing 5 0 0 7) ≡ false ∷ true ∷ true ∷ false ∷ [])
+  -- two others hold 1 and lack 2
+  pub othersHoldOne :
+      (takers (sharing 5 1 1 6) ≡ allOfThem)
+      × (takers (sharing 5 1 1 7) ≡ false ∷ true ∷ true ∷ false ∷ [])
+  -- all others hold 2 or more and lack nothing
+  pub othersHoldTwo :
+      (takers (sharing 5 2 2 6) ≡ allOfThem)
+      × (takers (sharing 5 2 2 7) ≡ noneOfThem)
+  -- one holds none, one 1, and one more than its 2, which makes up for nothing that the others lack
+  pub othersMixed :
+      (takers (sharing 6 0 1 5) ≡ allOfThem)
+      × (takers (sharing 6 0 1 6) ≡ false ∷ true ∷ true ∷ false ∷ [])
+  -- a campaign's own lack does not count: 2 places are free and campaign 0 lacks 2, then 1 and 1. It has a place, as a campaign below 2 always
+  -- has on a shelf in form (these are: `coveredTwo`, `coveredOne`), and the others have none
+  pub ownLack :
+      (takers (sharing 0 2 6 6) ≡ true ∷ false ∷ false ∷ false ∷ [])
+      × (takers (sharing 1 2 6 6) ≡ true ∷ false ∷ false ∷ false ∷ [])
+  -- and so with campaign 3
+  pub ownLackOfTheLast :
+      (takers (sharing 6 6 2 0) ≡ false ∷ false ∷ false ∷ true ∷ [])
+      × (takers (sharing 6 6 2 1) ≡ false ∷ false ∷ false ∷ true ∷ [])
+  -- no place is free
+  pub full : takers (sharing 10 2 2 2) ≡ noneOfThem
+
+-- "its bytes already wait for that campaign"
+pub record SameBytesCases : Type 0 where
+  pub theyWait : waits 0 (lacking 1) (sharing 2 1 0 0) ≡ true
+  pub forAnother : waits 1 (lacking 1) (sharing 2 1 0 0) ≡ false
+  pub otherBytes : waits 0 (lacking 2) (sharing 2 1 0 0) ≡ false
+  -- one is the beginning of the other
+  pub longerOne : waits 0 first ((first ++ (0 ∷ [])) for 0 ∷ []) ≡ false
+  pub shorterOne : waits 0 (first ++ (0 ∷ [])) (first for 0 ∷ []) ≡ false
+
+-- The layout of what waits.
+pub record ShelfBytesCases : Type 0 where
+  -- campaign, length, the block and zeros up to 541 bytes
+  pub entry : entryBytes (first for 3) ≡ 3 ∷ 0 ∷ 8 ∷ (first ++ replicate 533 0)
+  -- both bytes of a length: 541 is 2 * 256 + 29
+  pub highByte : entryBytes (longest for 2) ≡ 2 ∷ 2 ∷ 29 ∷ longest
+  -- the count, the entries in the order of arrival, and zeros
+  pub inOrder :
+      ofThree ≡ 3 ∷ (entryBytes (lacking 0 for 0) ++ (entryBytes (lacking 0 for 3) ++ (entryBytes (longest for 0) ++ replicate (13 * 544) 0)))
+  pub nothing : shelfBytes [] ≡ emptyShelf
+  -- what the bytes show
+  pub shown : waitingIn ofThree ≡ threeWaiting
+
+-- "The shelf is in form if ..": each condition broken alone where that can be, in the bytes of the shelf of three or in what waits.
+pub record ShelfFormCases : Type 0 where
+  pub formed : inForm ofThree ≡ true
+  pub empty : inForm emptyShelf ≡ true
+  -- the buffer's length
+  pub shorter : inForm (take (shelfSize - 1) ofThree) ≡ false
+  pub longer : inForm (ofThree ++ (0 ∷ [])) ≡ false
+  pub noBytes : inForm [] ≡ false
+  -- "16 places": all are taken, and one block more waits; a count of 17
+  pub sixteen : rulesHold (sharing 10 2 2 2) ≡ true
+  pub seventeen : rulesHold (sharing 10 3 2 2) ≡ false
+  pub countSeventeen : inForm (changed (shelfBytes (sharing 10 2 2 2)) 0 17) ≡ false
+  -- a count of one more than wait, and of one fewer
+  pub countMore : inForm (changed ofThree 0 4) ≡ false
+  pub countLess : inForm (changed ofThree 0 2) ≡ false
+  -- "for a campaign up to 3"
+  pub campaignThree : rulesHold (first for 3 ∷ []) ≡ true
+  pub campaignFour : rulesHold (first for 4 ∷ []) ≡ false
+  pub byteFour : inForm (changed ofThree (entryStart 1) 4) ≡ false
+  -- "one that the reader accepts": a request of slot 7 in the first block, and of slot 8, which is the reader's 6
+  pub slotSeven : inForm (changed ofThree (entryStart 0 + entryHeader + 37) 7) ≡ true
+  pub slotEight : inForm (changed ofThree (entryStart 0 + entryHeader + 37) 8) ≡ false
+  -- the reader's 3 and 7: one byte less; a repeated reference
+  pub misshapen : rulesHold (take 7 first for 0 ∷ []) ≡ false
+  pub repeatedReference : rulesHold (block 2 0 (toy first ∷ toy first ∷ []) [] for 0 ∷ []) ≡ false
+  -- a length over 541
+  pub lengthOver : inForm (splice ofThree (entryStart 2 + 1) (2 ∷ 30 ∷ [])) ≡ false
+  -- a byte behind a block that is not 0: the first, and the last of its entry
+  pub firstBehindBlock : inForm (changed ofThree (entryStart 0 + entryHeader + 40) 1) ≡ false
+  pub lastBehindBlock : inForm (changed ofThree (entryStart 1 - 1) 1) ≡ false
+  -- a byte behind the last entry that is not 0: the first, and the last of the shelf
+  pub firstBehindEntries : inForm (changed ofThree (entryStart 3) 1) ≡ false
+  pub lastBehindEntries : inForm (changed ofThree (shelfSize - 1) 1) ≡ false
+  -- "no campaign has the same bytes waiting twice": the second block, for campaign 3 in the shelf of three, is for campaign 2, and for campaign 0
+  pub sameForAnother : inForm (changed ofThree (entryStart 1) 2) ≡ true
+  pub sameTwice : inForm (changed ofThree (entryStart 1) 0) ≡ false
+  -- the same where others stand between
+  pub sameTwiceApart : rulesHold (lacking 0 for 1 ∷ lacking 1 for 1 ∷ lacking 0 for 2 ∷ lacking 0 for 1 ∷ []) ≡ false
+  -- "or holds more than 10 places"
+  pub tenHeld : rulesHold (sharing 2 10 2 2) ≡ true
+  pub elevenHeld : rulesHold (sharing 0 11 0 0) ≡ false
+  -- "the free places cover what the campaigns lack of their 2": one campaign lacks 1, one 2, two lack 1 each, and so many are free; then one fewer is
+  pub coveredOne : rulesHold (sharing 1 2 6 6) ≡ true
+  pub coveredTwo : rulesHold (sharing 0 2 6 6) ≡ true
+  pub coveredEach : rulesHold (sharing 6 1 6 1) ≡ true
+  pub shortOfOne : rulesHold (sharing 0 3 6 6) ≡ false
+  pub shortOfEach : rulesHold (sharing 7 1 6 1) ≡ false
+  -- whether a block lacks a reference, or has a site below n, is no question of form
+  pub lacksNothing : rulesHold (first for 0 ∷ []) ≡ true
+  pub anySite : rulesHold (block 255 0 [] [] for 0 ∷ []) ≡ true
