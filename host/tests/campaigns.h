@@ -141,6 +141,25 @@ static inline table with_row(table t, block b, uint64_t places)
     return t;
 }
 
+/* ---- Chains of site 0, each block referring to the one before */
+
+static inline block chain_block(uint16_t sequence)
+{
+    block b = block_of(0, sequence);
+
+    return sequence == 0 ? b : referring_to(b, chain_block((uint16_t)(sequence - 1)));
+}
+
+/* The table that holds this many of them. */
+static inline table chain(uint8_t sites, uint16_t blocks)
+{
+    table t = empty_table(sites);
+
+    for (uint16_t i = 0; i < blocks; i++)
+        put_row(&t, chain_block(i), i > 0 ? (uint64_t)1 << (i - 1) : 0);
+    return t;
+}
+
 /* ---- Admission, on exact copies. What the call left in its copy of the table is put back. */
 
 static inline gt_answer admit_of_length(table *t, size_t table_length, block b, uint8_t verdict)

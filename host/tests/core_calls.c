@@ -390,13 +390,6 @@ static void check_order(void)
 
 /* ---- A full table: n is 1, and each block refers to the one before. */
 
-static block chain_block(uint16_t sequence)
-{
-    block b = block_of(0, sequence);
-
-    return sequence == 0 ? b : referring_to(b, chain_block((uint16_t)(sequence - 1)));
-}
-
 static void check_full(void)
 {
     table t = empty_table(1), wanted = t;

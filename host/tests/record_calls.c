@@ -75,26 +75,26 @@ static bool refused(table t, size_t place, uint8_t refusal, size_t value)
 
 /* ---- Document 01's chain of four: n is 1, and the first block requests 7 in slot 0. */
 
-static block chain_block(uint16_t sequence)
+static block example_block(uint16_t sequence)
 {
     block b = block_of(0, sequence);
 
-    return sequence == 0 ? with_request(b, 0, 7) : referring_to(b, chain_block((uint16_t)(sequence - 1)));
+    return sequence == 0 ? with_request(b, 0, 7) : referring_to(b, example_block((uint16_t)(sequence - 1)));
 }
 
-static table chain(uint16_t blocks)
+static table example(uint16_t blocks)
 {
     table t = empty_table(1);
 
     for (uint16_t i = 0; i < blocks; i++)
-        admit(&t, chain_block(i));
+        admit(&t, example_block(i));
     return t;
 }
 
 /* The buffer's content is no matter: only the place's numbers are written, and all of them. */
 static bool chain_interpreted(uint16_t content)
 {
-    table t = chain(4), wanted = t;
+    table t = example(4), wanted = t;
     buffer b = of_number(content), rest;
 
     for (size_t place = 0; place < 4; place++) {
@@ -117,7 +117,7 @@ static void check_interpreted(void)
 
 static void check_refused(void)
 {
-    table t = chain(3), marked = chain(3), unlawful = filled_with(0);
+    table t = example(3), marked = example(3), unlawful = filled_with(0);
     uint16_t none = 0;
 
     row(&marked, 0)[MARK] = 1;
@@ -175,10 +175,10 @@ static list chain_list(void)
     list l = {.length = 0};
 
     put_interpretation(&l, 0);
-    put_admission(&l, chain_block(1), 1);
+    put_admission(&l, example_block(1), 1);
     for (uint16_t i = 0; i < 4; i++) {
-        put_admission(&l, chain_block(i), 2);
-        put_admission(&l, chain_block(i), 1);
+        put_admission(&l, example_block(i), 2);
+        put_admission(&l, example_block(i), 1);
         put_interpretation(&l, i);
     }
     put_interpretation(&l, (uint64_t)1 << 40);
@@ -252,7 +252,7 @@ static bool cut_anywhere(void)
 
 static bool nothing_run(list l)
 {
-    table t = chain(2), before = t;
+    table t = example(2), before = t;
     buffer b = of_number(3), numbers_before = b;
 
     return replay(&t, &b, l, l.length, NULL, 0) == 0 && same(&t, &before) && same_numbers(&b, &numbers_before);

@@ -209,23 +209,6 @@ static block child_of(uint8_t site)
     return referring_to(block_of(site, 0), first_block());
 }
 
-static block chain_block(uint16_t sequence)
-{
-    block b = block_of(0, sequence);
-
-    return sequence == 0 ? b : referring_to(b, chain_block((uint16_t)(sequence - 1)));
-}
-
-/* This many blocks of site 0, each referring to the one before. */
-static table chain(uint8_t sites, uint16_t blocks)
-{
-    table t = empty_table(sites);
-
-    for (uint16_t i = 0; i < blocks; i++)
-        put_row(&t, chain_block(i), i > 0 ? (uint64_t)1 << (i - 1) : 0);
-    return t;
-}
-
 /* ---- Before admission: 21, 17, 2 */
 
 static shelf of_byte(uint8_t byte)

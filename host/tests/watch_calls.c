@@ -103,23 +103,6 @@ static table with_forks(uint8_t sites, uint8_t forked)
     return t;
 }
 
-static block chain_block(uint16_t sequence)
-{
-    block b = block_of(0, sequence);
-
-    return sequence == 0 ? b : referring_to(b, chain_block((uint16_t)(sequence - 1)));
-}
-
-/* Blocks of site 0, each referring to the one before. */
-static table chain(uint8_t sites, uint16_t blocks)
-{
-    table t = empty_table(sites);
-
-    for (uint16_t i = 0; i < blocks; i++)
-        put_row(&t, chain_block(i), i > 0 ? (uint64_t)1 << (i - 1) : 0);
-    return t;
-}
-
 /* Site 2 has sequence number 1 twice, and one block of sequence number 2. */
 static table forked_below(void)
 {
