@@ -22,7 +22,7 @@ use Rattle.shelf.proofs.Formed.{of-ruled, formed-bytes}
 use Rattle.shelf.proofs.Ruled.{ruled-empty}
 use Rattle.shelf.proofs.Laid.{empty-laid, waiting-laid}
 use Rattle.campaigns.specs.Promises.{only, timesWaiting}
-use Rattle.controller.specs.Run.{CampaignCall, OwnCall, Alone, Controller, emptyStart, after, ownRun, aloneAfter, aloneReplies}
+use Rattle.controller.specs.Run.{ControllerCall, OwnCall, Alone, Controller, emptyStart, after, ownRun, aloneAfter, aloneReplies}
 use Rattle.controller.specs.Promises.{begin, plainCalls, RunKeeps, Independent, CampaignKeeps}
 use Rattle.controller.proofs.Runs.{run-formed, run-plain, run-alone, run-replies, run-listed, run-accounted}
 
@@ -44,7 +44,7 @@ none-times c b = ap (timesWaiting c b) empty-waiting
 
 -- ---- one controller
 
-module _ (digest : Bytes → Bytes) (sized : (b : Bytes) → length (digest b) ≡ referenceSize) (setups : ℕ → Setup) (buffers : ℕ → List ℕ) (calls : List CampaignCall)
+module _ (digest : Bytes → Bytes) (sized : (b : Bytes) → length (digest b) ≡ referenceSize) (setups : ℕ → Setup) (buffers : ℕ → List ℕ) (calls : List ControllerCall)
     (c : ℕ) (low : c ≤ maxCampaign) where
   abbrev start : Controller
   start = emptyStart setups buffers
@@ -71,12 +71,12 @@ module _ (digest : Bytes → Bytes) (sized : (b : Bytes) → length (digest b) �
         accounted = λ b. omega (arith, run-accounted digest sized c low b calls start empty-formed, none-times c b);
       }
 
-pub runs : (setups : ℕ → Setup) (buffers : ℕ → List ℕ) (calls : List CampaignCall) (c : ℕ) → c ≤ maxCampaign → RunKeeps sha256 setups buffers calls c
+pub runs : (setups : ℕ → Setup) (buffers : ℕ → List ℕ) (calls : List ControllerCall) (c : ℕ) → c ≤ maxCampaign → RunKeeps sha256 setups buffers calls c
 runs = run-keeps sha256 sha256-length
 
 -- ---- two runs
 
-pub independent : (c : ℕ) → c ≤ maxCampaign → (setups₁ setups₂ : ℕ → Setup) (buffers₁ buffers₂ : ℕ → List ℕ) (calls₁ calls₂ : List CampaignCall)
+pub independent : (c : ℕ) → c ≤ maxCampaign → (setups₁ setups₂ : ℕ → Setup) (buffers₁ buffers₂ : ℕ → List ℕ) (calls₁ calls₂ : List ControllerCall)
     → setups₁ c ≡ setups₂ c → buffers₁ c ≡ buffers₂ c
     → ownRun sha256 c (begin sha256 setups₁ buffers₁ calls₁) calls₁ ≡ ownRun sha256 c (begin sha256 setups₂ buffers₂ calls₂) calls₂
     → Independent sha256 c setups₁ setups₂ buffers₁ buffers₂ calls₁ calls₂
@@ -94,7 +94,7 @@ independent c low setups₁ setups₂ buffers₁ buffers₂ calls₁ calls₂ es
 -- ---- two controllers
 
 pub campaigns : (c : ℕ) → c ≤ maxCampaign → (s : Setup) → lawful s ≡ true → (setups₁ setups₂ : ℕ → Setup) (buffers₁ buffers₂ : ℕ → List ℕ)
-    (calls₁ calls₂ : List CampaignCall) → setups₁ c ≡ s → setups₂ c ≡ s → CampaignKeeps sha256 c s setups₁ setups₂ buffers₁ buffers₂ calls₁ calls₂
+    (calls₁ calls₂ : List ControllerCall) → setups₁ c ≡ s → setups₂ c ≡ s → CampaignKeeps sha256 c s setups₁ setups₂ buffers₁ buffers₂ calls₁ calls₂
 campaigns c low s law setups₁ setups₂ buffers₁ buffers₂ calls₁ calls₂ e₁ e₂ =
     let plain₁ = plainCalls sha256 setups₁ buffers₁ calls₁ c in
     let plain₂ = plainCalls sha256 setups₂ buffers₂ calls₂ c in

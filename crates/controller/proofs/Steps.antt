@@ -17,7 +17,7 @@ use Rattle.block.specs.Limits.{referenceSize}
 use Rattle.block.specs.declared.Answer.{Answer}
 use Rattle.table.specs.Checks.{answerTo, refused}
 use Rattle.admission.specs.Admission.{admission, admitted}
-use Rattle.agreement.specs.Ledger.{Call, admit, interpret}
+use Rattle.agreement.specs.Ledger.{admit}
 use Rattle.agreement.specs.Run.{Site, siteStep, siteAfter}
 use Rattle.shelf.specs.Layout.{Waiting, waitingIn}
 use Rattle.shelf.specs.Rules.{maxCampaign, isFor, hasPlace}
@@ -28,7 +28,7 @@ use Rattle.campaigns.specs.Promises.{only, timesWaiting, timesEnded, TriedFrom,
 use Rattle.campaigns.proofs.Tries.{refused-table}
 use Rattle.campaigns.proofs.Ways.{called-is, at17}
 use Rattle.campaigns.proofs.Promises.{call-keeps, called-waiting}
-use Rattle.controller.specs.Run.{Controller, Alone, arrivalAt, replyTo, step, triesBy, takenBy, plainBy, aloneArrived, aloneReply, aloneStep}
+use Rattle.controller.specs.Run.{CampaignCall, arrives, made, isTaken, Controller, Alone, arrivalAt, replyTo, step, triesBy, takenBy, plainBy, aloneArrived, aloneReply, aloneStep}
 use Rattle.controller.proofs.Own.{seenBy, arrived-only}
 
 -- tries as plain calls
@@ -42,52 +42,52 @@ module _ (digest : Bytes → Bytes) (sized : (b : Bytes) → length (digest b) �
   abbrev ws : List Waiting
   ws = waitingIn (x .shelf)
 
-  keeps : (c room : ℕ) (b : Bytes) (verdict : ℕ) → CallKeeps digest (x .site c .table) (x .shelf) c b verdict room
-  keeps c room b verdict = call-keeps digest sized (x .site c .table) (x .shelf) c b verdict room
+  keeps : (c : ℕ) (b : Bytes) (verdict room : ℕ) → CallKeeps digest (x .site c .table) (x .shelf) c b verdict room
+  keeps c b verdict room = call-keeps digest sized (x .site c .table) (x .shelf) c b verdict room
 
-  pub step-formed : (k room : ℕ) (call : Call) → inForm (step digest x k room call .shelf) ≡ true
+  pub step-formed : (k : ℕ) (call : CampaignCall) → inForm (step digest x k call .shelf) ≡ true
   unfolding step
-  step-formed k room (admit b verdict) = keeps k room b verdict .shelfFormed formed
-  step-formed k room (interpret place) = formed
+  step-formed k (arrives b verdict room) = keeps k b verdict room .shelfFormed formed
+  step-formed k (made call) = formed
 
   -- ---- a call of another campaign
 
   module _ (c k : ℕ) (other : k ≢ c) where
-    pub other-site : (room : ℕ) (call : Call) → step digest x k room call .site c ≡ x .site c
+    pub other-site : (call : CampaignCall) → step digest x k call .site c ≡ x .site c
     unfolding step
-    other-site room (admit b verdict) = rw (ne-eqb c k (λ q. other (sym q)))
-    other-site room (interpret place) = rw (ne-eqb c k (λ q. other (sym q)))
+    other-site (arrives b verdict room) = rw (ne-eqb c k (λ q. other (sym q)))
+    other-site (made call) = rw (ne-eqb c k (λ q. other (sym q)))
 
-    pub other-waiting : (room : ℕ) (call : Call) → only c (waitingIn (step digest x k room call .shelf)) ≡ only c ws
+    pub other-waiting : (call : CampaignCall) → only c (waitingIn (step digest x k call .shelf)) ≡ only c ws
     unfolding step
-    other-waiting room (admit b verdict) = keeps k room b verdict .otherCampaigns c other
-    other-waiting room (interpret place) = refl
+    other-waiting (arrives b verdict room) = keeps k b verdict room .otherCampaigns c other
+    other-waiting (made call) = refl
 
     -- so no block waits more often or less often for it
-    pub other-times : (room : ℕ) (call : Call) (b : Bytes) → timesWaiting c b (waitingIn (step digest x k room call .shelf)) ≡ timesWaiting c b ws
-    other-times room call b =
+    pub other-times : (call : CampaignCall) (b : Bytes) → timesWaiting c b (waitingIn (step digest x k call .shelf)) ≡ timesWaiting c b ws
+    other-times call b =
         let same : Waiting → Bool = λ w. sameBytes (w .block) b in
-        count-in-those (isFor c) same (waitingIn (step digest x k room call .shelf)) ∙ ap (countIn same) (other-waiting room call)
+        count-in-those (isFor c) same (waitingIn (step digest x k call .shelf)) ∙ ap (countIn same) (other-waiting call)
         ∙ sym (count-in-those (isFor c) same ws)
 
   -- ---- a call of its own
 
   module _ (c : ℕ) (low : c ≤ maxCampaign) where
-    pub own-accounted : (room : ℕ) (call : Call) (b : Bytes)
-        → timesWaiting c b (waitingIn (step digest x c room call .shelf)) + timesEnded b (triesBy digest c x room call)
-        ≡ timesWaiting c b ws + countIn (λ y. sameBytes y b) (takenBy digest c x room call)
-    unfolding step triesBy takenBy replyTo countIn
-    own-accounted room (admit y verdict) b =
-        keeps c room y verdict .accounted b
-        ∙ by-test (eqb (arrivalAt digest x c room y verdict .answer .refusal) 9) (λ e. rw e (omega arith)) (λ e. rw e (omega arith))
-    own-accounted room (interpret place) b = refl
+    pub own-accounted : (call : CampaignCall) (b : Bytes)
+        → timesWaiting c b (waitingIn (step digest x c call .shelf)) + timesEnded b (triesBy digest c x call)
+        ≡ timesWaiting c b ws + countIn (λ y. sameBytes y b) (takenBy digest c x call)
+    unfolding step triesBy takenBy isTaken countIn
+    own-accounted (arrives y verdict room) b =
+        keeps c y verdict room .accounted b
+        ∙ by-test (eqb (arrivalAt digest x c y verdict room .answer .refusal) 9) (λ e. rw e (omega arith)) (λ e. rw e (omega arith))
+    own-accounted (made call) b = refl
 
-    module _ (room : ℕ) (b : Bytes) (verdict : ℕ) where
+    module _ (b : Bytes) (verdict room : ℕ) where
       abbrev t : Bytes
       t = x .site c .table
 
       abbrev called : Called
-      called = arrivalAt digest x c room b verdict
+      called = arrivalAt digest x c b verdict room
 
       tested : outcomesSize ≤ room → Tested digest t (x .shelf) c b verdict room
       tested r = record { campaign = low; outcomes = r; formed = formed }
@@ -115,7 +115,7 @@ module _ (digest : Bytes → Bytes) (sized : (b : Bytes) → length (digest b) �
           rw n (record { answer = ap (λ (z : Called). z .answer) e; table = ap (λ (z : Called). z .table) e; tries = ap (λ (z : Called). z .tries) e; waiting = ap (λ (z : Called). waitingIn (z .shelf)) e }))
 
       -- alone, told whether the shelf took the block
-      alone-is : aloneArrived digest c (record { site = x .site c; waiting = only c ws }) room (eqb (called .answer .refusal) 9) b verdict ≡ seenBy c result
+      alone-is : aloneArrived digest c (record { site = x .site c; waiting = only c ws }) (eqb (called .answer .refusal) 9) b verdict room ≡ seenBy c result
       alone-is =
           by-test (leb outcomesSize room)
           (λ y.
@@ -124,16 +124,16 @@ module _ (digest : Bytes → Bytes) (sized : (b : Bytes) → length (digest b) �
           (ap (λ (z : Called). arrived digest (eqb (z .answer .refusal) 9) t (only c ws) c b verdict) e ∙ arrived-only digest (hasPlace c ws) t ws c b verdict))
           (λ n. rw n)
 
-      own-site : step digest x c room (admit b verdict) .site c ≡ record { table = result .table; records = x .site c .records }
+      own-site : step digest x c (arrives b verdict room) .site c ≡ record { table = result .table; records = x .site c .records }
       unfolding step
       own-site = rw (eq-eqb c c refl) (ap (λ (z : Bytes). record { table = z; records = x .site c .records }) (shown .table))
 
       -- an arrival that is refused after the first checks was refused by admission
       admission-refused : Tested digest t (x .shelf) c b verdict room → called .answer .refusal ≢ 0 → admission digest t b verdict .refusal ≢ 0
-      admission-refused k m z = m (ap (λ (a : Answer). a .refusal) (keeps c room b verdict .causes .others k (λ q. omega arith)) ∙ z)
+      admission-refused k m z = m (ap (λ (a : Answer). a .refusal) (keeps c b verdict room .causes .others k (λ q. omega arith)) ∙ z)
 
       -- its own admission, and the tries
-      arrival-plain : step digest x c room (admit b verdict) .site c ≡ siteAfter digest (x .site c) (plainBy digest c x room (admit b verdict))
+      arrival-plain : step digest x c (arrives b verdict room) .site c ≡ siteAfter digest (x .site c) (plainBy digest c x (arrives b verdict room))
       unfolding step plainBy siteAfter siteStep answerTo
       arrival-plain =
           by-test (leb outcomesSize room)
@@ -141,11 +141,11 @@ module _ (digest : Bytes → Bytes) (sized : (b : Bytes) → length (digest b) �
           let k = tested (leb-true outcomesSize room y) in
           rw (eq-eqb c c refl, le-leb c maxCampaign low, y, formed)
           (by-test (eqb (called .answer .refusal) 0)
-          (λ z. sym (tries-plain digest (x .site c .records) (called .tries) (admitted digest t b verdict) (called .table) (keeps c room b verdict .triedFrom (eqb-true (called .answer .refusal) 0 z))))
+          (λ z. sym (tries-plain digest (x .site c .records) (called .tries) (admitted digest t b verdict) (called .table) (keeps c b verdict room .triedFrom (eqb-true (called .answer .refusal) 0 z))))
           (λ z.
           let m = eqb-false (called .answer .refusal) 0 z in
-          ap (λ (v : Bytes). record { table = v; records = x .site c .records }) (keeps c room b verdict .tableLeft m ∙ sym (refused-table digest t b verdict (admission-refused k m)))
-          ∙ sym (ap (λ (ys : List Try). siteAfter digest (record { table = admitted digest t b verdict; records = x .site c .records }) (map (λ (y : Try). admit (y .block) 1) ys)) (keeps c room b verdict .noneTried m)))))
+          ap (λ (v : Bytes). record { table = v; records = x .site c .records }) (keeps c b verdict room .tableLeft m ∙ sym (refused-table digest t b verdict (admission-refused k m)))
+          ∙ sym (ap (λ (ys : List Try). siteAfter digest (record { table = admitted digest t b verdict; records = x .site c .records }) (map (λ (y : Try). admit (y .block) 1) ys)) (keeps c b verdict room .noneTried m)))))
           (λ n.
           let e = at17 digest t (x .shelf) c b verdict room low (leb-false outcomesSize room n) in
           rw (eq-eqb c c refl, le-leb c maxCampaign low, n) (ap (λ (z : Called). record { table = z .table; records = x .site c .records }) e))
@@ -153,24 +153,24 @@ module _ (digest : Bytes → Bytes) (sized : (b : Bytes) → length (digest b) �
     abbrev view : Controller → Alone
     view z = record { site = z .site c; waiting = only c (waitingIn (z .shelf)) }
 
-    abbrev told : ℕ → Call → Bool
-    told room call = eqb (replyTo digest x c room call .answer .refusal) 9
+    abbrev told : CampaignCall → Bool
+    told call = isTaken digest c x call
 
-    pub own-plain : (room : ℕ) (call : Call) → step digest x c room call .site c ≡ siteAfter digest (x .site c) (plainBy digest c x room call)
+    pub own-plain : (call : CampaignCall) → step digest x c call .site c ≡ siteAfter digest (x .site c) (plainBy digest c x call)
     unfolding step plainBy siteAfter siteStep
-    own-plain room (admit b verdict) = arrival-plain room b verdict
-    own-plain room (interpret place) = rw (eq-eqb c c refl)
+    own-plain (arrives b verdict room) = arrival-plain b verdict room
+    own-plain (made call) = rw (eq-eqb c c refl)
 
-    pub own-reply : (room : ℕ) (call : Call) → aloneReply digest c (view x) room (told room call) call ≡ replyTo digest x c room call
-    unfolding replyTo aloneReply
-    own-reply room (admit b verdict) =
-        ap (λ (r : Arrived). record { answer = r .answer; outcomes = outcomesOf (r .tries) }) (alone-is room b verdict)
-        ∙ ap₂ (λ (a : Answer) (ys : List Try). record { answer = a; outcomes = outcomesOf ys }) (sym (shown room b verdict .answer)) (sym (shown room b verdict .tries))
-    own-reply room (interpret place) = refl
+    pub own-reply : (call : CampaignCall) → aloneReply digest c (view x) (told call) call ≡ replyTo digest x c call
+    unfolding replyTo aloneReply isTaken
+    own-reply (arrives b verdict room) =
+        ap (λ (r : Arrived). record { answer = r .answer; outcomes = outcomesOf (r .tries) }) (alone-is b verdict room)
+        ∙ ap₂ (λ (a : Answer) (ys : List Try). record { answer = a; outcomes = outcomesOf ys }) (sym (shown b verdict room .answer)) (sym (shown b verdict room .tries))
+    own-reply (made call) = refl
 
-    pub own-view : (room : ℕ) (call : Call) → aloneStep digest c (view x) room (told room call) call ≡ view (step digest x c room call)
-    unfolding aloneStep step replyTo
-    own-view room (admit b verdict) =
-        ap (λ (r : Arrived). record { site = record { table = r .table; records = x .site c .records }; waiting = r .waiting }) (alone-is room b verdict)
-        ∙ ap₂ (λ (y : Site) (l : List Waiting). record { site = y; waiting = l }) (sym (own-site room b verdict)) (ap (only c) (sym (shown room b verdict .waiting)))
-    own-view room (interpret place) = rw (eq-eqb c c refl)
+    pub own-view : (call : CampaignCall) → aloneStep digest c (view x) (told call) call ≡ view (step digest x c call)
+    unfolding aloneStep step isTaken
+    own-view (arrives b verdict room) =
+        ap (λ (r : Arrived). record { site = record { table = r .table; records = x .site c .records }; waiting = r .waiting }) (alone-is b verdict room)
+        ∙ ap₂ (λ (y : Site) (l : List Waiting). record { site = y; waiting = l }) (sym (own-site b verdict room)) (ap (only c) (sym (shown b verdict room .waiting)))
+    own-view (made call) = rw (eq-eqb c c refl)

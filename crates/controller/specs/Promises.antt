@@ -15,12 +15,12 @@ use Rattle.shelf.specs.Layout.{waitingIn}
 use Rattle.shelf.specs.Form.{inForm}
 use Rattle.campaigns.specs.Passes.{outcomesOf}
 use Rattle.campaigns.specs.Promises.{only, timesWaiting, timesEnded}
-use Rattle.controller.specs.Run.{CampaignCall, Controller, Alone, emptyStart, after, replies, outcomes, tries, taken, plainRun, ownRun, aloneAfter, aloneReplies}
+use Rattle.controller.specs.Run.{ControllerCall, Controller, Alone, emptyStart, after, replies, outcomes, tries, taken, plainRun, ownRun, aloneAfter, aloneReplies}
 
 module _ (digest : Bytes → Bytes) where
   -- ---- one controller
 
-  module _ (setups : ℕ → Setup) (buffers : ℕ → List ℕ) (calls : List CampaignCall) where
+  module _ (setups : ℕ → Setup) (buffers : ℕ → List ℕ) (calls : List ControllerCall) where
     abbrev pub begin : Controller
     begin = emptyStart setups buffers
 
@@ -56,7 +56,7 @@ module _ (digest : Bytes → Bytes) where
   -- ---- two runs in which a campaign's own calls, and what the shelf took of its blocks, are the same: whatever the other campaigns do, they
   -- leave it the same and reply to it the same
 
-  pub record Independent (c : ℕ) (setups₁ setups₂ : ℕ → Setup) (buffers₁ buffers₂ : ℕ → List ℕ) (calls₁ calls₂ : List CampaignCall) : Type 0 where
+  pub record Independent (c : ℕ) (setups₁ setups₂ : ℕ → Setup) (buffers₁ buffers₂ : ℕ → List ℕ) (calls₁ calls₂ : List ControllerCall) : Type 0 where
     pub site : final setups₁ buffers₁ calls₁ .site c ≡ final setups₂ buffers₂ calls₂ .site c
     pub waiting : only c (waitingIn (final setups₁ buffers₁ calls₁ .shelf)) ≡ only c (waitingIn (final setups₂ buffers₂ calls₂ .shelf))
     pub answers : replies digest c (begin setups₁ buffers₁ calls₁) calls₁ ≡ replies digest c (begin setups₂ buffers₂ calls₂) calls₂
@@ -64,7 +64,7 @@ module _ (digest : Bytes → Bytes) where
   -- ---- two controllers: "The two-site statement holds for each campaign alone", and so does the promise of arrival
 
   -- s is the campaign's setup at both; each controller has its own calls, and other campaigns as it likes
-  module _ (c : ℕ) (s : Setup) (setups₁ setups₂ : ℕ → Setup) (buffers₁ buffers₂ : ℕ → List ℕ) (calls₁ calls₂ : List CampaignCall) where
+  module _ (c : ℕ) (s : Setup) (setups₁ setups₂ : ℕ → Setup) (buffers₁ buffers₂ : ℕ → List ℕ) (calls₁ calls₂ : List ControllerCall) where
     pub record CampaignKeeps : Type 0 where
       -- what stands at each is what its plain calls leave at a site of that setup
       pub first : final setups₁ buffers₁ calls₁ .site c ≡ siteWith digest s (buffers₁ c) (plainCalls setups₁ buffers₁ calls₁ c)
