@@ -10,7 +10,6 @@ DOME, DIGESTS, CALLS, CORE_CALLS, RECORD_CALLS, WATCH_CALLS, SHELF_CALLS, TWO_CA
                                    "two_campaigns"))
 LISTING = str(ROOT / "target" / "bin" / "listing")
 HARNESS = str(ROOT / "target" / "harness" / "release" / "harness")
-LISTING = str(ROOT / "target" / "bin" / "listing")
 VALGRIND_ERROR = 99
 VALGRIND = ["valgrind", "--quiet", f"--error-exitcode={VALGRIND_ERROR}", "--leak-check=full"]
 LONGEST_RUN = 60  # seconds, so that a program that hangs is a failed test
