@@ -124,4 +124,4 @@ outcomes = record { listed = refl; noPlace = refl; ten = refl; inBuffer = refl }
 
 pub left : LeftCases
 unfolding openedArrivals
-left = record { stillLacking = refl; noPlaceBefore = refl; placesAfter = refl }
+left = record { stillLacking = refl; freeByLettingIn = (refl, refl); freeByDropping = (refl, refl) }

@@ -78,9 +78,9 @@ lacks index = refused 9 index
 abbrev pub mixture : List Waiting
 mixture = partly for 0 ∷ chained 2 for 0 ∷ orphan 0 for 0 ∷ lacking 0 for 0 ∷ chained 1 for 0 ∷ []
 
--- a full shelf, of which one is let in, one is dropped, and one of campaign 0 waits on
-abbrev pub crowded : List Waiting
-crowded = orphan 0 for 0 ∷ chained 1 for 0 ∷ lacking 0 for 0 ∷ sharing 0 2 5 6
+-- a full shelf, on which b is the first
+abbrev pub fullWith : Bytes → List Waiting
+fullWith b = b for 0 ∷ sharing 2 2 5 6
 
 -- ---- cases
 
@@ -170,11 +170,16 @@ pub record PassCases : Type 0 where
   pub oneLetIn :
       arrives fresh (chained 1 for 0 ∷ []) 0 (chained 0) 1
       ≡ leaving (placed 0) (chain 2) [] (chained 1 getting placed 1 ∷ [])
-  -- a chain that waits in its order: each is let in by the one before it, in the same pass
+  -- a chain that waits in its order behind one that waits on: each is let in by the one before it, in the same pass
   pub chainInOrder :
-      arrives fresh (chained 1 for 0 ∷ chained 2 for 0 ∷ chained 3 for 0 ∷ []) 0 (chained 0) 1
-      ≡ leaving (placed 0) (chain 4) []
-      (chained 1 getting placed 1 ∷ chained 2 getting placed 2 ∷ chained 3 getting placed 3 ∷ [])
+      arrives fresh (lacking 0 for 0 ∷ chained 1 for 0 ∷ chained 2 for 0 ∷ chained 3 for 0 ∷ []) 0 (chained 0) 1
+      ≡ leaving (placed 0) (chain 4) (lacking 0 for 0 ∷ [])
+      (lacking 0 getting lacks 0
+      ∷ chained 1 getting placed 1
+      ∷ chained 2 getting placed 2
+      ∷ chained 3 getting placed 3
+      ∷ lacking 0 getting lacks 0
+      ∷ [])
   -- one that came in reverse order: three passes let one in each
   pub chainReversed :
       arrives fresh (chained 3 for 0 ∷ chained 2 for 0 ∷ chained 1 for 0 ∷ []) 0 (chained 0) 1
@@ -283,5 +288,9 @@ pub record LeftCases : Type 0 where
       map (λ w. admission toy (arrives fresh mixture 0 (chained 0) 1 .table) (w .block) 1) (arrives fresh mixture 0 (chained 0) 1 .waiting)
       ≡ lacks 1 ∷ lacks 0 ∷ []
   -- "A place is free again once its block is let in or dropped": no campaign has a further place, and then all have
-  pub noPlaceBefore : takers crowded ≡ noneOfThem
-  pub placesAfter : takers (arrives fresh crowded 0 (chained 0) 1 .waiting) ≡ allOfThem
+  pub freeByLettingIn :
+      (takers (fullWith (chained 1)) ≡ noneOfThem)
+      × (takers (arrives fresh (fullWith (chained 1)) 0 (chained 0) 1 .waiting) ≡ allOfThem)
+  pub freeByDropping :
+      (takers (fullWith (orphan 0)) ≡ noneOfThem)
+      × (takers (arrives fresh (fullWith (orphan 0)) 0 (chained 0) 1 .waiting) ≡ allOfThem)
