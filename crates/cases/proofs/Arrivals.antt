@@ -69,8 +69,8 @@ order =
       roomBeforeShelf = (refl, refl);
       shelfBeforeBlock = (refl, refl);
       tableBeforeBlock = refl;
-      enough = refl;
-      more = refl;
+      enoughRoom = refl;
+      moreRoom = refl;
     }
 
 pub missing : MissingCases
@@ -82,11 +82,11 @@ missing =
       waitsAlready = refl;
       waitsAlreadyInBytes = refl;
       waitsForAnother = refl;
-      tenHeld = refl;
+      noEleventh = refl;
       noneFree = refl;
       lackedByAnother = refl;
       belowTwo = refl;
-      noneFreeInBytes = refl;
+      ruleInBytes = (refl, refl);
       sameBeforeNoPlace = refl;
       verdictBefore = refl;
       verdictBeforeSame = refl;
@@ -105,7 +105,7 @@ passing =
       oneMorePass = refl;
       onlyDrops = refl;
       nothingEnds = refl;
-      mixed = refl;
+      mixedPasses = refl;
       droppedBy8 = refl;
       droppedBy10 = refl;
       droppedBy11 = dropped-by-11;
@@ -114,13 +114,13 @@ passing =
       afterRefusal = refl;
       afterMissing = refl;
       afterAnother = refl;
-      inBytes = refl;
+      passesInBytes = refl;
       refusedInBytes = refl;
     }
 
 pub outcomes : OutcomeCases
 unfolding openedArrivals
-outcomes = record { listed = refl; noPlace = refl; ten = refl; inBuffer = refl }
+outcomes = record { outcomesListed = refl; numberAlone = refl; tenOutcomes = refl; outcomesInBuffer = refl }
 
 pub left : LeftCases
 unfolding openedArrivals

@@ -1,5 +1,4 @@
--- The full table. That a table of 63 blocks is in form is slower to compute than all the other cases together, so it is computed once: admission
--- keeps form. Assumes nothing.
+-- The full table. That a table of 63 blocks is in form is slow to compute, so it is computed once: admission keeps form. Assumes nothing.
 use mathlib.Core.Path.{_≡_, refl, ap, ap₂, _∙_, subst}
 use mathlib.Core.Bool.{true, cond}
 use mathlib.Core.List.{List, [], _∷_, map}

@@ -24,16 +24,16 @@ limits =
       always = refl;
       most = refl;
       leftByTheOthers = refl;
-      entry = refl;
-      shelf = refl;
-      outcomes = refl;
+      entryLength = refl;
+      shelfLength = refl;
+      outcomeNumbers = refl;
     }
 
 pub places : PlaceCases
 unfolding openedShelf
 places =
     record {
-      nothingHeld = refl;
+      noneHeld = refl;
       oneHeld = refl;
       twoHeld = refl;
       tenth = refl;
@@ -46,7 +46,7 @@ places =
       othersMixed = (refl, refl);
       ownLack = (refl, refl);
       ownLackOfTheLast = (refl, refl);
-      full = refl;
+      fullShelf = refl;
     }
 
 pub sameBytes : SameBytesCases
@@ -55,27 +55,27 @@ sameBytes = record { theyWait = refl; forAnother = refl; otherBytes = refl; long
 
 pub shelfBytesCases : ShelfBytesCases
 unfolding openedShelf
-shelfBytesCases = record { entry = refl; highByte = refl; inOrder = refl; nothing = refl; shown = refl }
+shelfBytesCases = record { entryWritten = refl; highLength = refl; entriesInOrder = refl; nothingWaits = refl; shown = refl }
 
 pub shelfForm : ShelfFormCases
 unfolding openedShelf
 shelfForm =
     record {
-      formed = refl;
-      empty = refl;
-      shorter = refl;
-      longer = refl;
+      shelfFormed = refl;
+      emptyFormed = refl;
+      shelfShorter = refl;
+      shelfLonger = refl;
       noBytes = refl;
-      sixteen = refl;
-      seventeen = refl;
+      sixteenWait = refl;
+      seventeenWait = refl;
       countSeventeen = refl;
       countMore = refl;
       countLess = refl;
       campaignThree = refl;
       campaignFour = refl;
       byteFour = refl;
-      slotSeven = refl;
-      slotEight = refl;
+      readable = refl;
+      unreadable = refl;
       misshapen = refl;
       repeatedReference = refl;
       lengthOver = refl;

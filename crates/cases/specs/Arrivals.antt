@@ -107,8 +107,8 @@ pub record ArrivalOrderCases : Type 0 where
   -- 2, 3: four bytes and a table that is not in form; one that is stands above
   pub tableBeforeBlock : arrival toy unlawful emptyShelf 0 noBlock 1 20 ≡ calling (refused 2 0) unlawful emptyShelf []
   -- campaign 3 and 20 numbers are enough, and so are more
-  pub enough : arrival toy fresh emptyShelf 3 (chained 0) 1 20 ≡ calling (placed 0) (chain 1) emptyShelf []
-  pub more : arrival toy fresh emptyShelf 0 (chained 0) 1 21 ≡ calling (placed 0) (chain 1) emptyShelf []
+  pub enoughRoom : arrival toy fresh emptyShelf 3 (chained 0) 1 20 ≡ calling (placed 0) (chain 1) emptyShelf []
+  pub moreRoom : arrival toy fresh emptyShelf 0 (chained 0) 1 21 ≡ calling (placed 0) (chain 1) emptyShelf []
 
 -- "where an arrival would get 9". `partly` lacks its second reference in a table that holds its first: 9 with index 1.
 pub record MissingCases : Type 0 where
@@ -130,7 +130,7 @@ pub record MissingCases : Type 0 where
       arrives (chain 1) (lacking 0 for 0 ∷ partly for 1 ∷ []) 0 partly 1
       ≡ leaving (lacks 1) (chain 1) (lacking 0 for 0 ∷ partly for 1 ∷ partly for 0 ∷ []) []
   -- "else 19, no place by the shelf rule", with 0 beside it: 10 are held; no place is free; those that are free are lacked by another
-  pub tenHeld :
+  pub noEleventh :
       arrives (chain 1) (sharing 10 0 0 0) 0 partly 1
       ≡ leaving (refused 19 0) (chain 1) (sharing 10 0 0 0) []
   pub noneFree :
@@ -143,9 +143,11 @@ pub record MissingCases : Type 0 where
   pub belowTwo :
       arrives (chain 1) (sharing 6 0 2 6) 1 partly 1
       ≡ leaving (lacks 1) (chain 1) (sharing 6 0 2 6 ++ (partly for 1 ∷ [])) []
-  -- 19 over the shelf's bytes
-  pub noneFreeInBytes :
-      arrival toy fresh (shelfBytes (sharing 10 2 2 2)) 1 partly 1 20 ≡ calling (refused 19 0) fresh (shelfBytes (sharing 10 2 2 2)) []
+  -- both over the shelf's bytes
+  pub ruleInBytes :
+      (arrival toy (chain 1) (shelfBytes (sharing 6 0 2 6)) 3 partly 1 20 ≡ calling (refused 19 0) (chain 1) (shelfBytes (sharing 6 0 2 6)) [])
+      × (arrival toy (chain 1) (shelfBytes (sharing 6 0 2 6)) 1 partly 1 20
+      ≡ calling (lacks 1) (chain 1) (shelfBytes (sharing 6 0 2 6 ++ (partly for 1 ∷ []))) [])
   -- 20, 19: its bytes wait for the campaign and no place is free
   pub sameBeforeNoPlace :
       arrives (chain 1) (sharing 5 2 2 6 ++ (partly for 0 ∷ [])) 0 partly 1
@@ -212,7 +214,7 @@ pub record PassCases : Type 0 where
       ≡ leaving (placed 0) (chain 1) (lacking 0 for 0 ∷ partly for 0 ∷ [])
       (lacking 0 getting lacks 0 ∷ partly getting lacks 1 ∷ [])
   -- one dropped is not tried again, and what waits on keeps its order
-  pub mixed :
+  pub mixedPasses :
       arrives fresh mixture 0 (chained 0) 1
       ≡ leaving (placed 0) (chain 3) (partly for 0 ∷ lacking 0 for 0 ∷ [])
       (partly getting lacks 1
@@ -255,7 +257,7 @@ pub record PassCases : Type 0 where
       arrives (chain 1) (chained 1 for 0 ∷ []) 0 fork 1
       ≡ leaving (placed 1) (tableOf (chained 0 ∷ fork ∷ chained 1 ∷ [])) [] (chained 1 getting placed 2 ∷ [])
   -- over the shelf's bytes, for campaign 2
-  pub inBytes :
+  pub passesInBytes :
       arrival toy fresh (shelfBytes (lacking 0 for 0 ∷ chained 2 for 2 ∷ chained 1 for 2 ∷ partly for 2 ∷ [])) 2 (chained 0) 1 20
       ≡ calling (placed 0) (chain 3) (shelfBytes (lacking 0 for 0 ∷ partly for 2 ∷ []))
       (chained 2 getting lacks 0
@@ -272,14 +274,14 @@ pub record PassCases : Type 0 where
 -- "The answer lists, in the order tried, the place of each block let in and the number of each dropped".
 pub record OutcomeCases : Type 0 where
   -- one dropped stands before those let in after it, and those that wait on are not listed
-  pub listed : outcomesOf (arrives fresh mixture 0 (chained 0) 1 .tries) ≡ refused 10 0 ∷ success 1 ∷ success 2 ∷ []
+  pub outcomesListed : outcomesOf (arrives fresh mixture 0 (chained 0) 1 .tries) ≡ refused 10 0 ∷ success 1 ∷ success 2 ∷ []
   -- beside the number of one dropped is 0: 8 has a place otherwise
-  pub noPlace : outcomesOf (chained 1 getting refused 8 1 ∷ []) ≡ refused 8 0 ∷ []
+  pub numberAlone : outcomesOf (chained 1 getting refused 8 1 ∷ []) ≡ refused 8 0 ∷ []
   -- all 10 that a campaign may hold end
-  pub ten :
+  pub tenOutcomes :
       outcomesOf (arrives fresh (listBelow (λ i. orphan i for 0) 10 ++ (orphan 0 for 1 ∷ [])) 0 (chained 0) 1 .tries) ≡ replicate 10 (refused 10 0)
   -- in the buffer two numbers for each, and the others stay
-  pub inBuffer : putAnswers (replicate 20 7) 0 (outcomesOf (arrives fresh mixture 0 (chained 0) 1 .tries)) ≡ 10 ∷ 0 ∷ 0 ∷ 1 ∷ 0 ∷ 2 ∷ replicate 14 7
+  pub outcomesInBuffer : putAnswers (replicate 20 7) 0 (outcomesOf (arrives fresh mixture 0 (chained 0) 1 .tries)) ≡ 10 ∷ 0 ∷ 0 ∷ 1 ∷ 0 ∷ 2 ∷ replicate 14 7
 
 -- What an arrival leaves to the next.
 pub record LeftCases : Type 0 where

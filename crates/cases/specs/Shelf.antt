@@ -58,10 +58,10 @@ pub record LimitCases : Type 0 where
   -- 10 is what the others' 2 leave of the 16: who holds 10 has no further place by what the others lack, either
   pub leftByTheOthers : maxShare ≡ maxWaiting - reserved * maxCampaign
   -- campaign, length and the longest block's bytes; the count and 16 such entries
-  pub entry : entrySize ≡ 3 + 541
-  pub shelf : shelfSize ≡ 8705
+  pub entryLength : entrySize ≡ 3 + 541
+  pub shelfLength : shelfSize ≡ 8705
   -- two numbers for each outcome
-  pub outcomes : outcomesSize ≡ 20
+  pub outcomeNumbers : outcomesSize ≡ 20
 
 -- whether each campaign, 0 to 3, has a further place
 abbrev pub takers : List Waiting → List Bool
@@ -77,7 +77,7 @@ noneOfThem = false ∷ false ∷ false ∷ false ∷ []
 -- has two shelves, campaign 0 may take one place of the first, and the second has one free place fewer.
 pub record PlaceCases : Type 0 where
   -- campaign 0 holds none, 1, 2
-  pub nothingHeld : takers (sharing 0 0 0 0) ≡ allOfThem
+  pub noneHeld : takers (sharing 0 0 0 0) ≡ allOfThem
   pub oneHeld : takers (sharing 1 0 0 0) ≡ allOfThem
   pub twoHeld : takers (sharing 2 0 0 0) ≡ allOfThem
   -- 9, and 10, beside others that hold none and others that hold their 2
@@ -111,7 +111,7 @@ pub record PlaceCases : Type 0 where
       (takers (sharing 6 6 2 0) ≡ false ∷ false ∷ false ∷ true ∷ [])
       × (takers (sharing 6 6 2 1) ≡ false ∷ false ∷ false ∷ true ∷ [])
   -- no place is free
-  pub full : takers (sharing 10 2 2 2) ≡ noneOfThem
+  pub fullShelf : takers (sharing 10 2 2 2) ≡ noneOfThem
 
 -- "its bytes already wait for that campaign"
 pub record SameBytesCases : Type 0 where
@@ -125,27 +125,27 @@ pub record SameBytesCases : Type 0 where
 -- The layout of what waits.
 pub record ShelfBytesCases : Type 0 where
   -- campaign, length, the block and zeros up to 541 bytes
-  pub entry : entryBytes (first for 3) ≡ 3 ∷ 0 ∷ 8 ∷ (first ++ replicate 533 0)
+  pub entryWritten : entryBytes (first for 3) ≡ 3 ∷ 0 ∷ 8 ∷ (first ++ replicate 533 0)
   -- both bytes of a length: 541 is 2 * 256 + 29
-  pub highByte : entryBytes (longest for 2) ≡ 2 ∷ 2 ∷ 29 ∷ longest
+  pub highLength : entryBytes (longest for 2) ≡ 2 ∷ 2 ∷ 29 ∷ longest
   -- the count, the entries in the order of arrival, and zeros
-  pub inOrder :
+  pub entriesInOrder :
       ofThree ≡ 3 ∷ (entryBytes (lacking 0 for 0) ++ (entryBytes (lacking 0 for 3) ++ (entryBytes (longest for 0) ++ replicate (13 * 544) 0)))
-  pub nothing : shelfBytes [] ≡ emptyShelf
+  pub nothingWaits : shelfBytes [] ≡ emptyShelf
   -- what the bytes show
   pub shown : waitingIn ofThree ≡ threeWaiting
 
 -- "The shelf is in form if ..": each condition broken alone where that can be, in the bytes of the shelf of three or in what waits.
 pub record ShelfFormCases : Type 0 where
-  pub formed : inForm ofThree ≡ true
-  pub empty : inForm emptyShelf ≡ true
+  pub shelfFormed : inForm ofThree ≡ true
+  pub emptyFormed : inForm emptyShelf ≡ true
   -- the buffer's length
-  pub shorter : inForm (take (shelfSize - 1) ofThree) ≡ false
-  pub longer : inForm (ofThree ++ (0 ∷ [])) ≡ false
+  pub shelfShorter : inForm (take (shelfSize - 1) ofThree) ≡ false
+  pub shelfLonger : inForm (ofThree ++ (0 ∷ [])) ≡ false
   pub noBytes : inForm [] ≡ false
   -- "16 places": all are taken, and one block more waits; a count of 17
-  pub sixteen : rulesHold (sharing 10 2 2 2) ≡ true
-  pub seventeen : rulesHold (sharing 10 3 2 2) ≡ false
+  pub sixteenWait : rulesHold (sharing 10 2 2 2) ≡ true
+  pub seventeenWait : rulesHold (sharing 10 3 2 2) ≡ false
   pub countSeventeen : inForm (changed (shelfBytes (sharing 10 2 2 2)) 0 17) ≡ false
   -- a count of one more than wait, and of one fewer
   pub countMore : inForm (changed ofThree 0 4) ≡ false
@@ -154,9 +154,9 @@ pub record ShelfFormCases : Type 0 where
   pub campaignThree : rulesHold (first for 3 ∷ []) ≡ true
   pub campaignFour : rulesHold (first for 4 ∷ []) ≡ false
   pub byteFour : inForm (changed ofThree (entryStart 1) 4) ≡ false
-  -- "one that the reader accepts": a request of slot 7 in the first block, and of slot 8, which is the reader's 6
-  pub slotSeven : inForm (changed ofThree (entryStart 0 + entryHeader + 37) 7) ≡ true
-  pub slotEight : inForm (changed ofThree (entryStart 0 + entryHeader + 37) 8) ≡ false
+  -- "one that the reader accepts": the first block has a request of slot 7; of slot 8, which is the reader's 6
+  pub readable : inForm (changed ofThree (entryStart 0 + entryHeader + 37) 7) ≡ true
+  pub unreadable : inForm (changed ofThree (entryStart 0 + entryHeader + 37) 8) ≡ false
   -- the reader's 3 and 7: one byte less; a repeated reference
   pub misshapen : rulesHold (take 7 first for 0 ∷ []) ≡ false
   pub repeatedReference : rulesHold (block 2 0 (toy first ∷ toy first ∷ []) [] for 0 ∷ []) ≡ false
