@@ -13,10 +13,10 @@ use Rattle.sha256.specs.Sha256.{sha256}
 use Rattle.admission.specs.Admission.{admission, admitted}
 use Rattle.shelf.specs.Layout.{maxWaiting, Waiting, waitingIn, shelfBytes}
 use Rattle.shelf.specs.Rules.{isFor}
-use Rattle.shelf.specs.Steps.{AllFit, Laid, without}
+use Rattle.shelf.specs.Steps.{noWaiting, AllFit, Laid, without}
 use Rattle.shelf.proofs.Laid.{fit-without, laid-own, laid-waiting}
 use Rattle.campaigns.specs.Passes.{waitsOn, outcomesOf, admits, pass}
-use Rattle.campaigns.specs.Steps.{Passable, nothing, Turned, passedBy, takenOut, turned}
+use Rattle.campaigns.specs.Steps.{Passable, Turned, passedBy, takenOut, turned}
 use Rattle.campaigns.specs.declared.Pass.{Pass}
 use Rattle.campaigns.proofs.Inductions.{pass-length, pass-fewer}
 use Rattle.campaigns.proofs.Kept.{pass-fit}
@@ -29,12 +29,12 @@ module _ (t : Bytes) (ws : List Waiting) (o : List ℕ) (c : ℕ) (p : Pass) whe
   turn = turned sha256 t ws o c p
 
   abbrev block : Bytes
-  block = getD ws (p .at) nothing .block
+  block = getD ws (p .at) noWaiting .block
 
   turned-cases : (turn ≡ passedBy t ws o p) ⊎ (turn ≡ takenOut (admission sha256 t block 1) (admitted sha256 t block 1) ws o p)
   unfolding turned
   turned-cases =
-      by-test (isFor c (getD ws (p .at) nothing))
+      by-test (isFor c (getD ws (p .at) noWaiting))
       (λ y. by-test (waitsOn (admission sha256 t block 1)) (λ z. inl (rw (y, z))) (λ z. inr (rw (y, z))))
       (λ y. inl (rw y))
 

@@ -1,5 +1,5 @@
 -- The turns of a pass, and of the passes: what is left to do comes to what all comes to. Assumes nothing.
-use mathlib.Core.Path.{_≡_, refl, sym, ap, ap₂, _∙_}
+use mathlib.Core.Path.{_≡_, sym, ap, ap₂, _∙_}
 use mathlib.Core.Bool.{Bool, true, false, cond, _||_}
 use mathlib.Core.List.{List, [], _∷_, _++_, append-assoc, append-nil}
 use Prim.Native.Nat.{ℕ, suc, _+_, _≤_, _<_}
@@ -11,16 +11,16 @@ use lib.Seq.{take-all, take-at, drop-at, drop-cons, take-suc, length-take-le}
 use borrow.Author.Tests.{eqb-true, ne-eqb}
 use Rattle.base.specs.Bytes.{Bytes}
 use Rattle.base.specs.List.{someIn}
-use Rattle.base.proofs.Tests.{by-test}
+use Rattle.base.proofs.Tests.{by-test, or-false, or-assoc}
 use Rattle.block.specs.Answers.{putAnswers}
 use Rattle.block.specs.declared.Answer.{Answer}
 use Rattle.block.proofs.Answered.{put-append}
 use Rattle.admission.specs.Admission.{admission, admitted}
 use Rattle.shelf.specs.Layout.{Waiting}
 use Rattle.shelf.specs.Rules.{isFor}
-use Rattle.shelf.specs.Steps.{without}
+use Rattle.shelf.specs.Steps.{noWaiting, without}
 use Rattle.campaigns.specs.Passes.{Passed, waitsOn, outcome, outcomesOf, triedBefore, leftBefore, admits, pass, passes, settled}
-use Rattle.campaigns.specs.Steps.{Turned, nothing, passedBy, takenOut, turned}
+use Rattle.campaigns.specs.Steps.{Turned, passedBy, takenOut, turned}
 use Rattle.campaigns.specs.declared.Pass.{Pass}
 use Rattle.campaigns.proofs.Inductions.{pass-fewer, passes-enough}
 use Rattle.campaigns.proofs.Tries.{outcomes-append, refused-table}
@@ -53,14 +53,6 @@ pub record Result : Type 0 where
 -- what waits before the entries that are left, what has been noted and admitted, and what a pass over the rest leaves
 abbrev pub resumed : List Waiting → Noted → Bool → Passed → Result
 resumed us e adm q = record { table = q .table; waiting = us ++ q .waiting; outcomes = noted e (outcomesOf (q .tries)); admitted = adm || admits (q .tries) }
-
-or-assoc : (a b c : Bool) → ((a || b) || c) ≡ (a || (b || c))
-or-assoc true b c = refl
-or-assoc false b c = refl
-
-or-false : (a : Bool) → (a || false) ≡ a
-or-false true = refl
-or-false false = refl
 
 module _ (us : List Waiting) (e : Noted) (adm : Bool) (w : Waiting) (q : Passed) where
   snoc : (us ++ (w ∷ [])) ++ q .waiting ≡ us ++ (w ∷ q .waiting)
@@ -110,7 +102,7 @@ module _ (digest : Bytes → Bytes) (c : ℕ) where
 
   module _ (t : Bytes) (ws : List Waiting) (o : List ℕ) (p : Pass) (below : p .at < length ws) where
     abbrev here : Waiting
-    here = getD ws (p .at) nothing
+    here = getD ws (p .at) noWaiting
 
     abbrev answer : Answer
     answer = admission digest t (here .block) 1
@@ -127,14 +119,14 @@ module _ (digest : Bytes → Bytes) (c : ℕ) where
     -- the entry here is first
     left-here : leftOf t ws o p ≡ resumed front before (p .admitted) (pass digest t c (here ∷ rest))
     unfolding leftOf
-    left-here = ap (λ (vs : List Waiting). resumed front before (p .admitted) (pass digest t c vs)) (drop-cons ws (p .at) nothing below)
+    left-here = ap (λ (vs : List Waiting). resumed front before (p .admitted) (pass digest t c vs)) (drop-cons ws (p .at) noWaiting below)
 
     -- the pass goes by it
     left-by : leftOf t ws o (passedBy t ws o p .next) ≡ resumed (front ++ (here ∷ [])) before (p .admitted) (pass digest t c rest)
     unfolding leftOf
     left-by =
         ap (λ (n : ℕ). resumed (take n ws) before (p .admitted) (pass digest t c (drop n ws))) (add-one (p .at))
-        ∙ ap (λ (us : List Waiting). resumed us before (p .admitted) (pass digest t c rest)) (take-suc ws (p .at) nothing below)
+        ∙ ap (λ (us : List Waiting). resumed us before (p .admitted) (pass digest t c rest)) (take-suc ws (p .at) noWaiting below)
 
     front-length : length front ≡ p .at
     front-length = length-take-le (p .at) ws (omega arith)

@@ -2,7 +2,6 @@
 use mathlib.Core.Path.{_≡_, refl, sym, ap, subst}
 use mathlib.Core.Logic.{_≢_}
 use mathlib.Core.List.{List, [], _∷_, _++_}
-use lib.Dec.{eqb}
 use borrow.Author.Tests.{ne-eqb}
 use Rattle.base.specs.Bytes.{Bytes}
 use Rattle.base.proofs.Tests.{by-test}
@@ -19,9 +18,6 @@ outcomes-append (x ∷ xs) ys =
     by-test (waitsOn (x .answer))
     (λ z. rw z (outcomes-append xs ys))
     (λ n. rw n (ap (λ (l : List Answer). outcome (x .answer) ∷ l) (outcomes-append xs ys)))
-
-pub outcome-refusal : (a : Answer) → outcome a .refusal ≡ a .refusal
-outcome-refusal a = by-test (eqb (a .refusal) 0) (λ e. rw e) (λ e. rw e)
 
 module _ (digest : Bytes → Bytes) where
   -- a refusal leaves the table

@@ -11,7 +11,7 @@ use Rattle.block.specs.declared.Answer.{Answer}
 use Rattle.admission.specs.Admission.{admission, admitted}
 use Rattle.shelf.specs.Layout.{maxWaiting, Waiting, waitingIn}
 use Rattle.shelf.specs.Rules.{isFor, hasPlace}
-use Rattle.shelf.specs.Steps.{Laid, without}
+use Rattle.shelf.specs.Steps.{noWaiting, Laid, without}
 use Rattle.campaigns.specs.Passes.{waitsOn, outcome}
 use Rattle.campaigns.specs.Arriving.{Arrived, shelved}
 use Rattle.campaigns.specs.declared.Pass.{Pass}
@@ -42,9 +42,6 @@ pub record Turned : Type 0 where
   pub outcomes : List ℕ
   pub next : Pass
 
-abbrev pub nothing : Waiting
-nothing = record { campaign = 0; block = [] }
-
 abbrev pub passedBy : Bytes → List Waiting → List ℕ → Pass → Turned
 passedBy t ws o p = record { table = t; waiting = ws; outcomes = o; next = record { at = p .at + 1; admitted = p .admitted; ended = p .ended } }
 
@@ -61,7 +58,7 @@ module _ (digest : Bytes → Bytes) where
   -- the entry at which a pass stands, tried if it is the campaign's
   unfoldable pub turned : Bytes → List Waiting → List ℕ → ℕ → Pass → Turned
   turned t ws o c p =
-      let b = getD ws (p .at) nothing .block in
-      cond (isFor c (getD ws (p .at) nothing))
+      let b = getD ws (p .at) noWaiting .block in
+      cond (isFor c (getD ws (p .at) noWaiting))
       (cond (waitsOn (admission digest t b 1)) (passedBy t ws o p) (takenOut (admission digest t b 1) (admitted digest t b 1) ws o p))
       (passedBy t ws o p)

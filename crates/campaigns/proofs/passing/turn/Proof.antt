@@ -1,5 +1,5 @@
 -- `turn` meets its contract: another campaign's entry, one that waits on, one that is let in or dropped. Assumes nothing.
-use mathlib.Core.Path.{_≡_, refl, sym, ap, _∙_}
+use mathlib.Core.Path.{_≡_, sym, ap, _∙_}
 use mathlib.Core.Bool.{Bool, true, false, _||_}
 use mathlib.Core.Logic.{_≢_}
 use mathlib.Core.List.{List}
@@ -10,35 +10,28 @@ use lib.ListN.{getD}
 use borrow.Author.Needs.{needs}
 use borrow.Author.Tests.{eq-eqb, ne-eqb}
 use Rattle.base.specs.Bytes.{Bytes}
+use Rattle.base.proofs.Tests.{or-true, or-false}
 use Rattle.sha256.specs.Sha256.{sha256}
 use Rattle.block.specs.Answers.{putAnswer}
 use Rattle.block.specs.declared.Answer.{Answer}
 use Rattle.admission.specs.Admission.{admission, admitted}
 use Rattle.shelf.specs.Layout.{Waiting, campaignAt, blockAt, waitingAt, waitingIn, shelfBytes}
 use Rattle.shelf.specs.Rules.{isFor}
-use Rattle.shelf.specs.Steps.{without}
+use Rattle.shelf.specs.Steps.{noWaiting, without}
 use Rattle.shelf.proofs.Laid.{laid-size, laid-entry, laid-entry-of}
 use Rattle.campaigns.specs.Passes.{outcome}
-use Rattle.campaigns.specs.Steps.{Standing, nothing, turned}
+use Rattle.campaigns.specs.Steps.{Standing, turned}
 use Rattle.campaigns.specs.declared.Pass.{Pass}
 use Rattle.campaigns.proofs.Tries.{refused-table}
 use Rattle.campaigns.proofs.passing.turn.Statement.{statement}
 use Rattle.campaigns.proofs.passing.turn.Tie as tie
-
-or-true : (a : Bool) → true ≡ (a || true)
-or-true true = refl
-or-true false = refl
-
-or-false : (a : Bool) → a ≡ (a || false)
-or-false true = refl
-or-false false = refl
 
 module _ (t s : Bytes) (o : List ℕ) (c : ℕ) (p : Pass) (h : Standing s p) where
   abbrev ws : List Waiting
   ws = waitingIn s
 
   abbrev here : Waiting
-  here = getD ws (p .at) nothing
+  here = getD ws (p .at) noWaiting
 
   -- what a call promises
   abbrev Promised : Pass → Bytes → Bytes → List ℕ → Type 0
@@ -99,10 +92,10 @@ module _ (t s : Bytes) (o : List ℕ) (c : ℕ) (p : Pass) (h : Standing s p) wh
         noted = eo ∙ ap (putAnswer o (p .ended)) ex
 
         way-let-in : a .refusal ≡ 0 → Promised (record { at = p .at; admitted = true; ended = p .ended + 1 }) t′ s′ o′
-        way-let-in z = way-goes n s′ es o′ noted true (or-true (p .admitted) ∙ ap (λ (v : Bool). p .admitted || v) (sym (eq-eqb (a .refusal) 0 z)))
+        way-let-in z = way-goes n s′ es o′ noted true (sym (or-true (p .admitted)) ∙ ap (λ (v : Bool). p .admitted || v) (sym (eq-eqb (a .refusal) 0 z)))
 
         way-dropped : a .refusal ≢ 0 → Promised (record { at = p .at; admitted = p .admitted; ended = p .ended + 1 }) t′ s′ o′
-        way-dropped z = way-goes n s′ es o′ noted (p .admitted) (or-false (p .admitted) ∙ ap (λ (v : Bool). p .admitted || v) (sym (ne-eqb (a .refusal) 0 z)))
+        way-dropped z = way-goes n s′ es o′ noted (p .admitted) (sym (or-false (p .admitted)) ∙ ap (λ (v : Bool). p .admitted || v) (sym (ne-eqb (a .refusal) 0 z)))
 
 -- ---- the places of the walk
 
