@@ -156,6 +156,22 @@ bool gt_shelf_in_form(const uint8_t *shelf, size_t shelf_length);
 gt_arrival gt_arrive(uint8_t *table, size_t table_length, uint8_t *shelf, size_t shelf_length, uint8_t campaign,
                      const uint8_t *block, size_t block_length, uint8_t verdict, uint64_t *outcomes, size_t outcomes_length);
 
+/* Joins two controllers: makes the left's table that of both. The left's places come first, then the right's blocks that are
+ * not in the left, in their order, with their references at the places where those blocks now stand. A block that either side
+ * has interpreted is interpreted in the result, and its GT_PART_NUMBERS numbers are copied to the place's part of the third
+ * buffer: the left's where the left has interpreted it, else the right's. All other numbers of the third buffer stay. The value
+ * is how many blocks the result holds. The right's table and the two sides' records are only read.
+ *   2: the left's table is not in form, or the right's;
+ *   12: one of the three record buffers is not of GT_RECORDS_NUMBERS numbers;
+ *   23: the setups differ: n or an owner;
+ *   24, value the lowest such place of the left: a block of the right has the same digest and another site, sequence number,
+ *       counted request or other references;
+ *   25: the result would hold more than GT_MAX_PLACES blocks.
+ * The left's table and the third buffer stay as they were when the call refuses. */
+gt_answer gt_join(uint8_t *left, size_t left_length, const uint8_t *right, size_t right_length, const uint16_t *left_records,
+                  size_t left_records_length, const uint16_t *right_records, size_t right_records_length, uint16_t *third,
+                  size_t third_length);
+
 #ifdef __cplusplus
 }
 #endif

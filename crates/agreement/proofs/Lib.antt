@@ -16,6 +16,8 @@ pub mod Passed
 pub mod Shown
 pub mod Runs
 pub mod Theorem
+pub mod Reached
+pub mod Retraced
 pub mod Watched
 mod Encoded
 mod First

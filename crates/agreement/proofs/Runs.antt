@@ -2,7 +2,7 @@
 use mathlib.Core.Path.{_≡_, refl, sym, ap, ap₂, _∙_, subst}
 use mathlib.Core.Bool.{Bool, true, cond}
 use mathlib.Core.Logic.{_≢_, inl, inr}
-use mathlib.Core.List.{List, [], _∷_, List·Memᴰ, List·Memᴰ·not-nil, List·Memᴰ·cases-cons}
+use mathlib.Core.List.{List, [], _∷_, _++_, List·Memᴰ, List·Memᴰ·not-nil, List·Memᴰ·cases-cons}
 use Prim.Native.Nat.{ℕ, suc, _+_, _≤_, _<_}
 use native.Mathlib.Omega.{arith}
 use lib.Dec.{eqb}
@@ -37,6 +37,12 @@ use Rattle.agreement.proofs.Standing.{standing}
 use Rattle.agreement.proofs.Tied.{Tied, ledger-formed, answers-same, block-admitted, admitted-tied}
 use Rattle.agreement.proofs.Passed.{interpreted-tied}
 use Rattle.agreement.proofs.Shown.{Shown, written-is}
+
+-- a list of calls, then another
+pub after-append : (digest : Bytes → Bytes) (x : Site) (cs ds : List Call) → siteAfter digest x (cs ++ ds) ≡ siteAfter digest (siteAfter digest x cs) ds
+unfolding siteAfter
+after-append digest x [] ds = refl
+after-append digest x (k ∷ cs) ds = after-append digest (siteStep digest x k) cs ds
 
 pub meaning-length : (s : Setup) (h : History) → length (meaning s h) ≡ partSize
 unfolding meaning

@@ -1,5 +1,6 @@
 -- Laws of counts: the turns of the loop that counts, bounds, sets that are large enough to meet, and that as many numbers as are sent to
--- different numbers below p are at most p; and that one is counted where exactly one passes. Assumes nothing.
+-- different numbers below p are at most p, or that pass another test at most those; and that one is counted where exactly one passes. Assumes
+-- nothing.
 use mathlib.Core.Path.{_≡_, refl, sym, ap, _∙_}
 use mathlib.Core.Bool.{Bool, true, false, not, _&&_, cond}
 use mathlib.Core.Logic.{_⊎_, _≢_, inl, inr}
@@ -8,8 +9,8 @@ use native.Mathlib.Nat.{eq-or-lt-of-le, le-of-suc-le-suc}
 use native.Mathlib.Numerals.{add-one}
 use native.Mathlib.Omega.{arith}
 use native.Mathlib.Decide.{decLt}
-use lib.Dec.{eqb}
-use borrow.Author.Tests.{eqb-true, eqb-false, not-true, not-false}
+use lib.Dec.{eqb, ltb}
+use borrow.Author.Tests.{eqb-true, eqb-false, ltb-true, ltb-false, not-true, not-false}
 use Rattle.base.specs.Count.{countBelow}
 use Rattle.base.proofs.Tests.{by-test, true-not-false, and-left, and-right, and-not-right}
 
@@ -131,6 +132,26 @@ count-injective f g k (suc p) b d =
 
     last : (j : ℕ) → f j ≡ true → other j ≡ false → g j ≡ p
     last j y n = eqb-true (g j) p (not-false _ (and-not-right (f j) (not (eqb (g j) p)) n y))
+
+-- one that passes is counted among those below a greater number
+pub count-rises : (f : ℕ → Bool) (i k : ℕ) → f i ≡ true → i < k → countBelow f i < countBelow f k
+count-rises f i k y h = omega (arith, count-here f i y, count-grows f (i + 1) k (omega arith))
+
+-- and so those that pass have different numbers of others below them
+pub count-apart : (f : ℕ → Bool) (i j : ℕ) → f i ≡ true → f j ≡ true → countBelow f i ≡ countBelow f j → i ≡ j
+count-apart f i j y z e = by-test (ltb i j)
+    (λ o. absurd (omega (arith, count-rises f i j y (ltb-true i j o))))
+    (λ o. by-test (ltb j i)
+    (λ n. absurd (omega (arith, count-rises f j i z (ltb-true j i n))))
+    (λ n. omega (arith, ltb-false i j o, ltb-false j i n)))
+
+-- as many pass one test, at most, as pass another, where each is sent to another number that does
+pub count-sent : (f g : ℕ → Bool) (h : ℕ → ℕ) (k m : ℕ) → ((q : ℕ) → q < k → f q ≡ true → (h q < m) × (g (h q) ≡ true))
+    → ((p q : ℕ) → p < q → q < k → f p ≡ true → f q ≡ true → h p ≢ h q) → countBelow f k ≤ countBelow g m
+count-sent f g h k m into apart =
+    count-injective f (λ q. countBelow g (h q)) k (countBelow g m)
+    (λ q l y. let w = into q l y in count-rises g (h q) m (w .1) (w .0))
+    (λ p q l b y z e. apart p q l b y z (count-apart g (h p) (h q) (into p (omega arith) y .1) (into q b z .1) e))
 
 -- one that passes is counted
 pub count-member : (f : ℕ → Bool) (k i : ℕ) → i < k → f i ≡ true → 1 ≤ countBelow f k

@@ -1,20 +1,28 @@
 -- A mask's highest place j, and the mask without it: what is in the two, and one turn of a loop over the places of a mask, from the highest
 -- down. Assumes nothing.
 use mathlib.Core.Path.{_≡_, refl, sym, ap, _∙_, subst}
-use mathlib.Core.Bool.{Bool, true, false, cond, _&&_}
+use mathlib.Core.Bool.{Bool, true, false, cond, _&&_, _||_}
+use mathlib.Core.Logic.{inl, inr}
 use Prim.Native.Nat.{ℕ, zero, suc, _+_, _-_, _*_, _%_, _^_, _≤_, _<_}
 use native.Mathlib.Nat.{pow-suc, div-eq-of-lt, zero-div}
 use native.Mathlib.Decide.{decLt}
 use native.Mathlib.Omega.{arith}
-use lib.Dec.{eqb, ltb}
-use lib.Pow.{pow-mono, high}
+use lib.Dec.{eqb, ltb, lit<}
+use lib.Pow.{pow-mono, pow-pos, shl-exact, high}
 use borrow.Author.Tests.{lt-ltb, le-ltb}
+use Rattle.base.specs.Search.{anyBelow}
 use Rattle.base.specs.Count.{countBelow}
 use Rattle.base.specs.Mask.{inMask}
+use Rattle.base.proofs.Tests.{true-not-false, and-left, and-right, or-cases, or-true, same-tests}
+use Rattle.base.proofs.Search.{any-true, any-true-at, any-false}
 use Rattle.base.proofs.Mask.{bit-above}
 
+-- the mask of one place
+pub one-place : (j : ℕ) → j < 64 → 1 * 2 ^ j % 2 ^ 64 ≡ 2 ^ j
+one-place j h = shl-exact 1 j 64 (lit< tt) (omega arith) ∙ omega arith
+
 -- p is not in a mask that is below 2 ^ p
-not-in : (x p : ℕ) → x < 2 ^ p → inMask x p ≡ false
+pub not-in : (x p : ℕ) → x < 2 ^ p → inMask x p ≡ false
 not-in x p l = ap (λ (y : ℕ). eqb (y % 2) 1) (div-eq-of-lt l)
 
 module _ (m j : ℕ) (from : 2 ^ j ≤ m) (to : m < 2 ^ suc j) where
@@ -64,7 +72,36 @@ module _ (m j : ℕ) (from : 2 ^ j ≤ m) (to : m < 2 ^ suc j) where
     ]
   ]
 
--- where no place is left none is counted
+  -- the same of a loop that looks whether some place below k passes a test
+  pub any-highest : (g : ℕ → Bool) (k : ℕ) → j < k → anyBelow (λ p. inMask m p && g p) k ≡ (g j || anyBelow (λ p. inMask (m - 2 ^ j) p && g p) k)
+  any-highest g k h = same-tests _ _
+      (λ y. let w = any-true-at (λ p. inMask m p && g p) k y in
+      let p : ℕ = w .0 in
+      let i : inMask m p ≡ true = and-left (inMask m p) (g p) (w .2) in
+      let o : g p ≡ true = and-right (inMask m p) (g p) (w .2) in
+      elim (decLt p j) [
+        | yes l ↦ ap (λ (t : Bool). g j || t) (any-true (λ p. inMask (m - 2 ^ j) p && g p) k p (w .1) (rw (sym (lower-in p l) ∙ i, o))) ∙ or-true (g j)
+        | no n ↦ elim (decLt j p) [
+          | yes l ↦ absurd (true-not-false i (not-in m p (omega (arith, pow-mono {i = suc j} {j = p} l))))
+          | no u ↦ let e : p ≡ j = omega arith in let z : g j ≡ true = ap g (sym e) ∙ o in rw z
+        ]
+      ])
+      (λ y. elim (or-cases (g j) (anyBelow (λ p. inMask (m - 2 ^ j) p && g p) k) y) [
+        | inl z ↦ any-true (λ p. inMask m p && g p) k j h (rw (highest-in, z))
+        | inr z ↦ let w = any-true-at (λ p. inMask (m - 2 ^ j) p && g p) k z in
+            let p : ℕ = w .0 in
+            let i : inMask (m - 2 ^ j) p ≡ true = and-left (inMask (m - 2 ^ j) p) (g p) (w .2) in
+            let o : g p ≡ true = and-right (inMask (m - 2 ^ j) p) (g p) (w .2) in
+            elim (decLt p j) [
+              | yes l ↦ any-true (λ p. inMask m p && g p) k p (w .1) (rw (lower-in p l ∙ i, o))
+              | no n ↦ absurd (true-not-false i (not-in (m - 2 ^ j) p (omega (arith, rest-below, pow-mono {i = j} {j = p} (omega arith)))))
+            ]
+      ])
+
+-- where no place is left none passes, and none is counted
+pub any-no-place : (g : ℕ → Bool) (k : ℕ) → anyBelow (λ p. inMask 0 p && g p) k ≡ false
+any-no-place g k = any-false (λ p. inMask 0 p && g p) k (λ p h. rw (not-in 0 p (pow-pos p)))
+
 pub count-no-place : (g : ℕ → Bool) (k : ℕ) → countBelow (λ p. inMask 0 p && g p) k ≡ 0
 unfolding countBelow
 count-no-place g zero = refl

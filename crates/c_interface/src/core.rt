@@ -16,6 +16,7 @@ ghost use Rattle.watch.specs.Ancestors.{ancestors};
 ghost use Rattle.build.specs.Building.{building, built};
 ghost use Rattle.shelf.specs.Form as waiting;
 ghost use Rattle.campaigns.specs.Arriving.{listed, arrival};
+ghost use Rattle.join.specs.Join.{joinAnswer, joined, copied};
 ghost use Rattle.agreement.specs.Run.{siteAfter, siteAnswers};
 ghost use Rattle.agreement.specs.Encoding.{callsIn};
 
@@ -121,4 +122,20 @@ pub extern "C" fn gt_arrive(
     ensures { λ _. ⌜ now (outcomes .exit) ≡ putAnswers (now (outcomes .entry)) 0 (listed (arrival sha256 (now (table .entry)) (now (shelf .entry)) campaign (now (block .entry)) verdict (length (now (outcomes .entry))))) ⌝ }
 {
     campaigns::arrive(table, shelf, campaign, block, verdict, outcomes)
+}
+
+// Two controllers' tables and records made one.
+#[no_mangle]
+pub extern "C" fn gt_join<'a>(
+    left: &mut [u8],
+    right: &[u8],
+    left_records: &'a [u16],
+    right_records: &'a [u16],
+    third: &mut [u16],
+) -> Answer
+    ensures { λ r. ⌜ r ≡ joinAnswer (now (left .entry)) (now (right .entry)) (now («left_records» .entry)) (now («right_records» .entry)) (now (third .entry)) ⌝ }
+    ensures { λ _. ⌜ now (left .exit) ≡ joined (now (left .entry)) (now (right .entry)) (now («left_records» .entry)) (now («right_records» .entry)) (now (third .entry)) ⌝ }
+    ensures { λ _. ⌜ now (third .exit) ≡ copied (now (left .entry)) (now (right .entry)) (now («left_records» .entry)) (now («right_records» .entry)) (now (third .entry)) ⌝ }
+{
+    join::join(left, right, left_records, right_records, third)
 }

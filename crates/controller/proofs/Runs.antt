@@ -13,8 +13,8 @@ use Rattle.base.specs.List.{countIn}
 use Rattle.base.proofs.Tests.{by-test}
 use Rattle.base.proofs.Those.{count-in-append}
 use Rattle.block.specs.Limits.{referenceSize}
-use Rattle.agreement.specs.Ledger.{Call}
-use Rattle.agreement.specs.Run.{Site, siteStep, siteAfter}
+use Rattle.agreement.specs.Run.{Site, siteAfter}
+use Rattle.agreement.proofs.Runs.{after-append}
 use Rattle.shelf.specs.Layout.{Waiting, waitingIn}
 use Rattle.shelf.specs.Rules.{maxCampaign}
 use Rattle.shelf.specs.Form.{inForm}
@@ -23,12 +23,6 @@ use Rattle.campaigns.specs.Promises.{only, timesWaiting, isEnd, timesEnded}
 use Rattle.campaigns.proofs.Tries.{outcomes-append}
 use Rattle.controller.specs.Run.{CampaignCall, arrives, made, ControllerCall, Reply, Controller, Alone, replyTo, step, after, eachOwn, replies, outcomes, triesBy, tries, isTaken, takenBy, taken, plainBy, plainRun, ownRun, aloneStep, aloneAfter, aloneReplies}
 use Rattle.controller.proofs.Steps.{step-formed, other-site, other-waiting, other-times, own-accounted, own-plain, own-reply, own-view}
-
--- a list of calls, then another
-after-append : (digest : Bytes → Bytes) (x : Site) (cs ds : List Call) → siteAfter digest x (cs ++ ds) ≡ siteAfter digest (siteAfter digest x cs) ds
-unfolding siteAfter
-after-append digest x [] ds = refl
-after-append digest x (k ∷ cs) ds = after-append digest (siteStep digest x k) cs ds
 
 module _ (digest : Bytes → Bytes) (sized : (b : Bytes) → length (digest b) ≡ referenceSize) where
   -- what a call leaves

@@ -10,5 +10,6 @@ pub mod Parts
 mod Typed
 pub mod Causes
 pub mod Kept
+pub mod Directs
 mod Call
 pub mod Promises

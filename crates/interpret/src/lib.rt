@@ -1,7 +1,7 @@
 // Interpretation of a place: its records from those of the places that it refers to. Promises: `interpret` answers and leaves what
 // specs/Interpretation.antt says, for any table, record buffer and place; form is kept, and each of 12 to 15 comes under its cause and under
 // no other (specs/Promises.antt). Assumes nothing.
-mod buffer;
+pub mod buffer;
 mod hearing;
 
 use block::Answer;

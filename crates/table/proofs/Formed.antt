@@ -1,14 +1,17 @@
 -- What a table in form has. Assumes nothing.
-use mathlib.Core.Path.{_≡_}
+use mathlib.Core.Path.{_≡_, sym}
 use mathlib.Core.Bool.{true}
+use Prim.Native.Nat.{ℕ, _<_}
+use native.Mathlib.Omega.{arith}
+use lib.Dec.{ltb}
 use lib.ListN.{length, drop}
-use borrow.Author.Tests.{eq-eqb, eqb-true}
+use borrow.Author.Tests.{eq-eqb, eqb-true, ltb-true, ltb-false}
 use Rattle.base.specs.Bytes.{Bytes, allZero}
-use Rattle.base.proofs.Tests.{and-left, and-right}
-use Rattle.table.specs.Layout.{tableSize, rowStart, setupOf, countOf, viewOf}
+use Rattle.base.proofs.Tests.{by-test, and-left, and-right}
+use Rattle.table.specs.Layout.{tableSize, rowStart, setupOf, countOf, digestAt, viewOf}
 use Rattle.table.specs.Form.{inForm}
 use Rattle.table.specs.Steps.{Places}
-use Rattle.table.proofs.Views.{Held, held-of, held-in}
+use Rattle.table.proofs.Views.{RowForm, row-form, Held, held-of, held-in}
 
 pub record Formed (t : Bytes) : Type 0 where
   pub size : length t ≡ tableSize
@@ -27,6 +30,17 @@ formed-of t e =
 
 pub formed-places : (t : Bytes) → inForm t ≡ true → Places t (countOf t)
 formed-places t e = let f = formed-of t e in record { size = f .size; bound = f .held .fits }
+
+pub formed-row : (t : Bytes) → inForm t ≡ true → (i : ℕ) → i < countOf t → RowForm (setupOf t) (viewOf t) i
+formed-row t f i h = row-form (setupOf t) (viewOf t) i (formed-of t f .held .rows i h)
+
+-- a digest stands at one place
+pub one-place : (t : Bytes) → inForm t ≡ true → (i j : ℕ) → i < countOf t → j < countOf t → digestAt t i ≡ digestAt t j → i ≡ j
+one-place t f i j h l e = by-test (ltb i j)
+    (λ y. absurd (formed-row t f j l .new i (ltb-true i j y) e))
+    (λ n. by-test (ltb j i)
+    (λ y. absurd (formed-row t f i h .new j (ltb-true j i y) (sym e)))
+    (λ m. omega (arith, ltb-false i j n, ltb-false j i m)))
 
 pub in-formed : (t : Bytes) → Formed t → inForm t ≡ true
 unfolding inForm

@@ -5,14 +5,13 @@ use mathlib.Core.Bool.{true}
 use mathlib.Core.List.{[], _∷_, _++_}
 use Prim.Native.Nat.{ℕ, suc, _+_, _-_, _*_, _^_, _≤_, _<_}
 use native.Mathlib.Omega.{arith}
-use lib.ListN.{length, getD, take, drop, replicate, length-drop, take-append-drop, drop-of-length-le}
+use lib.ListN.{length, getD, take, drop, length-drop, take-append-drop, drop-of-length-le}
 use lib.Seq.{drop-drop, drop-cons, length-take-le}
 use Rattle.base.specs.Bytes.{Bytes, AllBytes, partAt, joined}
-use Rattle.base.specs.List.{listBelow}
 use Rattle.base.specs.Mask.{maskBelow, inMask}
 use Rattle.base.specs.Number.{pair}
 use Rattle.base.specs.Word.{wordSize, word, wordBytes}
-use Rattle.base.proofs.Bytes.{zeros-replicate, bytes-take, bytes-drop}
+use Rattle.base.proofs.Bytes.{bytes-take, bytes-drop}
 use Rattle.base.proofs.List.{list-same}
 use Rattle.base.proofs.Sets.{mask-members}
 use Rattle.base.proofs.Parts.{part-and-rest, parts-list, joined-parts}
@@ -20,10 +19,11 @@ use Rattle.base.proofs.Number.{part-of-number}
 use Rattle.base.proofs.Word.{word-below, bytes-of-word}
 use Rattle.block.specs.Limits.{referenceSize, slotCount}
 use Rattle.table.specs.View.{maxPlaces}
-use Rattle.table.specs.Layout.{ownersOffset, countOffset, rowsOffset, siteOffset, sequenceOffset, referencesOffset, requestsOffset, markOffset, rowSize, rowStart}
-use Rattle.table.specs.Layout.{setupOf, countOf, rowAt, viewOf, rowBytes, layout}
+use Rattle.table.specs.Layout.{siteOffset, sequenceOffset, referencesOffset, requestsOffset, markOffset, rowSize, rowStart}
+use Rattle.table.specs.Layout.{setupOf, rowAt, viewOf, rowBytes, layout}
 use Rattle.table.specs.Form.{inForm}
-use Rattle.table.proofs.Formed.{Formed, formed-of}
+use Rattle.table.proofs.Formed.{formed-of}
+use Rattle.table.proofs.Canonical.{canonical-laid}
 use Rattle.table.proofs.RowBytes.{rowIn, rowPart, row-in, requestPair, requestPairs, referenceMask, requestsOn, afterDigest, row-bytes-same}
 
 -- ---- bytes of a row
@@ -86,35 +86,5 @@ module _ (t : Bytes) (all : AllBytes t) where
       ∙ bytes-back (rowPart t i) (length-take-le rowSize (drop (rowStart i) t) (omega (arith, length-drop (rowStart i) t)))
       (bytes-take rowSize (drop (rowStart i) t) (bytes-drop (rowStart i) t all))
 
-  pub rows-laid : (k : ℕ) → rowStart k ≤ length t → joined (listBelow (λ i. rowBytes (rowAt t i)) k) ≡ take (rowSize * k) (drop rowsOffset t)
-  rows-laid k h =
-      ap joined (list-same (λ i. rowBytes (rowAt t i)) (partAt rowSize (drop rowsOffset t)) k
-      (λ i l. row-laid i (omega arith) ∙ ap (take rowSize) (sym (drop-drop (rowSize * i) rowsOffset t)))
-      ∙ sym (parts-list k rowSize (drop rowsOffset t)))
-      ∙ joined-parts k rowSize (drop rowsOffset t)
-
--- ---- the whole table, from its end to its start
-
-module _ (t : Bytes) (all : AllBytes t) (f : Formed t) where
-  zeros-length : rowSize * (maxPlaces - countOf t) ≡ length (drop (rowStart (countOf t)) t)
-  zeros-length = sym (length-drop (rowStart (countOf t)) t ∙ omega (arith, f .size, f .held .fits))
-
-  zeros-back : replicate (rowSize * (maxPlaces - countOf t)) 0 ≡ drop (rowStart (countOf t)) t
-  zeros-back = ap (λ (n : ℕ). replicate n 0) zeros-length ∙ sym (zeros-replicate (drop (rowStart (countOf t)) t) (f .zeros))
-
-  rows-back : joined (listBelow (λ i. rowBytes (rowAt t i)) (countOf t)) ++ replicate (rowSize * (maxPlaces - countOf t)) 0 ≡ drop rowsOffset t
-  rows-back =
-      ap₂ _++_ (rows-laid t all (countOf t) (omega (arith, f .size, f .held .fits))) zeros-back ∙ part-and-rest t rowsOffset (rowSize * countOf t)
-
-  count-back : countOf t ∷ drop rowsOffset t ≡ drop countOffset t
-  count-back = sym (drop-cons t countOffset 0 (omega (arith, f .size)))
-
-  formed-laid : t ≡ layout (setupOf t) (viewOf t)
-  unfolding layout
-  formed-laid =
-      drop-cons t 0 0 (omega (arith, f .size)) ∙ ap (λ (b : Bytes). getD t 0 0 ∷ b)
-      (sym (ap (λ (b : Bytes). take slotCount (drop ownersOffset t) ++ b) (ap (λ (b : Bytes). countOf t ∷ b) rows-back ∙ count-back)
-      ∙ part-and-rest t ownersOffset slotCount))
-
 pub laid : (t : Bytes) → AllBytes t → inForm t ≡ true → t ≡ layout (setupOf t) (viewOf t)
-laid t all e = formed-laid t all (formed-of t e)
+laid t all e = let f = formed-of t e in canonical-laid t f (λ i h. row-laid t all i (omega (arith, f .size, f .held .fits)))

@@ -4,7 +4,8 @@ pub mod Formed
 pub mod Checks
 pub mod RowBytes
 pub mod Put
-pub mod Laid
 pub mod Marked
+pub mod Canonical
+pub mod Laid
 pub mod Empty
 pub mod Promises

@@ -39,7 +39,7 @@ module _ (t : Bytes) (i : ℕ) (size : length t ≡ tableSize) (low : i < maxPla
   number-kept : (j : ℕ) → j + 1 < at → numberAt (withMark t i) j ≡ numberAt t j
   number-kept j h = ap₂ number (byte-kept j (omega arith)) (byte-kept (j + 1) h)
 
-  part-kept : (start n : ℕ) → start + n ≤ at → take n (drop start (withMark t i)) ≡ take n (drop start t)
+  pub part-kept : (start n : ℕ) → start + n ≤ at → take n (drop start (withMark t i)) ≡ take n (drop start t)
   unfolding withMark
   part-kept start n h = splice-part-low t at (1 ∷ []) within start n h
 
@@ -69,7 +69,7 @@ module _ (t : Bytes) (i : ℕ) (size : length t ≡ tableSize) (low : i < maxPla
       }
 
   -- any other
-  other : (j : ℕ) → eqb j i ≡ false → rowPart (withMark t i) j ≡ rowPart t j
+  pub other : (j : ℕ) → eqb j i ≡ false → rowPart (withMark t i) j ≡ rowPart t j
   other j n = by-test (ltb j i)
       (λ b. part-kept (rowStart j) rowSize (omega (arith, ltb-true j i b)))
       (λ b. ap (take rowSize) (behind (rowStart j) (omega (arith, ltb-false j i b, eqb-false j i n))))

@@ -18,7 +18,7 @@ use Rattle.table.specs.Rules.{rowInForm}
 use Rattle.table.specs.Promises.{Grown}
 use Rattle.table.proofs.Views.{row-trans, form-grows}
 use Rattle.table.proofs.Formed.{Formed}
-use Rattle.table.proofs.RowBytes.{rowIn, rowPart, row-in, part-same, length-row, row-back}
+use Rattle.table.proofs.RowBytes.{rowIn, rowPart, row-in, part-same, length-row, row-back, row-bytes-same}
 
 module _ (t : Bytes) (r : Row) (size : length t ≡ tableSize) (room : countOf t < maxPlaces) (whole : length (r .digest) ≡ referenceSize) where
   abbrev start : ℕ
@@ -64,12 +64,12 @@ module _ (t : Bytes) (r : Row) (size : length t ≡ tableSize) (room : countOf t
   unfolding withRow placed
   counted = splice-in placed countOffset next count-within 0 (omega arith) ∙ add-one (countOf t)
 
-  part-kept : (i : ℕ) → i < countOf t → rowPart t i ≡ rowPart (withRow t r) i
+  pub part-kept : (i : ℕ) → i < countOf t → rowPart t i ≡ rowPart (withRow t r) i
   unfolding placed
   part-kept i h =
       sym (ap (take rowSize) (behind (rowSize * i)) ∙ splice-part-low t start (rowBytes r) start-within (rowStart i) rowSize (omega arith))
 
-  part-here : rowPart (withRow t r) (countOf t) ≡ rowBytes r
+  pub part-here : rowPart (withRow t r) (countOf t) ≡ rowBytes r
   unfolding placed
   part-here =
       ap (take rowSize) (behind (rowSize * countOf t)) ∙ ap (λ (n : ℕ). take n (drop start placed)) (sym (length-row r whole))
@@ -97,6 +97,11 @@ module _ (t : Bytes) (r : Row) (size : length t ≡ tableSize) (room : countOf t
         here = row-here;
         rest = rest-kept;
       }
+
+-- rows that show the same are put the same
+pub put-same : (t : Bytes) (r q : Row) → SameRow r q → withRow t r ≡ withRow t q
+unfolding withRow
+put-same t r q e = ap (λ (b : Bytes). splice (splice t (rowStart (countOf t)) b) countOffset ((countOf t + 1) ∷ [])) (row-bytes-same r q e)
 
 -- one row more in form
 pub grown-formed : (t t′ : Bytes) (r : Row) → Formed t → countOf t < maxPlaces → Grown t t′ r → rowInForm (setupOf t) (viewOf t′) (countOf t) ≡ true → Formed t′

@@ -3,16 +3,16 @@
 use mathlib.Core.Path.{_≡_, sym, _∙_}
 use mathlib.Core.Bool.{Bool, _&&_, cond}
 use mathlib.Core.Logic.{⊎-elim}
-use Prim.Native.Nat.{ℕ, suc, _≤_, _<_, _-_, _+_, _*_, _%_, _^_}
+use Prim.Native.Nat.{ℕ, suc, _≤_, _<_, _-_, _+_, _^_}
 use native.Mathlib.Omega.{arith}
-use lib.Dec.{ltb, lit<}
-use lib.Pow.{pow-pos, shl-exact}
+use lib.Dec.{ltb}
+use lib.Pow.{pow-pos}
 use borrow.Author.Needs.{needs}
 use Rattle.base.specs.Bytes.{Bytes}
 use Rattle.base.specs.Count.{countBelow}
 use Rattle.base.specs.Mask.{inMask}
 use Rattle.base.proofs.Count.{count-le}
-use Rattle.base.proofs.TopPlace.{count-highest, count-no-place}
+use Rattle.base.proofs.TopPlace.{one-place, count-highest, count-no-place}
 use Rattle.table.specs.Layout.{viewOf}
 use Rattle.table.specs.Rules.{parents}
 use Rattle.table.specs.Steps.{Places, rowOf, parentAt}
@@ -25,10 +25,6 @@ Inv-loop table k references site sequence count₀ left₀ count left =
 
 abbrev μ-loop : tie.MeasureT-loop
 μ-loop table k references site sequence count₀ left₀ count left = left
-
--- the mask of one place
-one-place : (j : ℕ) → j < 64 → 1 * 2 ^ j % 2 ^ 64 ≡ 2 ^ j
-one-place j h = shl-exact 1 j 64 (lit< tt) (omega arith) ∙ omega arith
 
 -- the place j is taken out of the mask m
 turn : (g : ℕ → Bool) (k m j count next all : ℕ) → 2 ^ j ≤ m → m < 2 ^ suc j → next ≡ cond (ltb j k && g j) 1 0 + count

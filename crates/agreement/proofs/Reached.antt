@@ -1,0 +1,248 @@
+-- What every site that calls reached has: its table's rows stand as their bytes and show the blocks of its ledger, all of which the reader
+-- accepts; and the part of each marked place is what interpreting it now would write. Assumes nothing.
+use mathlib.Core.Path.{_≡_, refl, sym, ap, _∙_}
+use mathlib.Core.Bool.{true}
+use mathlib.Core.Logic.{_≢_, inl, inr}
+use mathlib.Core.List.{List, [], _∷_, List·Memᴰ}
+use Prim.Native.Nat.{ℕ, _+_, _≤_, _<_}
+use native.Mathlib.Nat.{eq-or-lt-of-le}
+use native.Mathlib.Omega.{arith}
+use lib.Dec.{eqb}
+use lib.ListN.{length}
+use borrow.Author.Tests.{eqb-true, eqb-false, lt-ltb}
+use Rattle.base.specs.Bytes.{Bytes, splice}
+use Rattle.base.proofs.Tests.{by-test}
+use Rattle.block.specs.Limits.{referenceSize, slotCount}
+use Rattle.block.specs.Layout.{siteOf, sequenceOf, referencesOf, requestFor}
+use Rattle.block.specs.Reading.{reading, fieldsOf}
+use Rattle.block.specs.declared.Reading.the-variants.{Block}
+use Rattle.block.specs.declared.Answer.{Answer}
+use Rattle.setup.specs.Setup.{Setup, lawful}
+use Rattle.table.specs.View.{maxPlaces}
+use Rattle.table.specs.Layout.{setupOf, countOf, digestAt, siteAt, sequenceAt, requestAt, markAt, rowAt, viewOf, withMark}
+use Rattle.table.specs.Form.{inForm}
+use Rattle.table.specs.Promises.{Grown, Marked}
+use Rattle.table.proofs.Views.{RowForm}
+use Rattle.table.proofs.Formed.{formed-of, formed-row}
+use Rattle.table.proofs.Canonical.{Canonical, row-canonical, mark-canonical}
+use Rattle.admission.specs.Admission.{lists, rowFor, admission, admitted}
+use Rattle.admission.proofs.Promises.{promises}
+use Rattle.interpret.specs.Buffer.{partStart, partSize, partOf}
+use Rattle.interpret.specs.Interpretation.{written, interpretation, marked, recorded}
+use Rattle.interpret.proofs.Causes.{causes}
+use Rattle.interpret.proofs.Parts.{part-written, part-other}
+use Rattle.interpret.proofs.Directs.{written-kept}
+use Rattle.interpret.proofs.Kept.{here, low, whole, is-marked, written-length}
+use Rattle.agreement.specs.Ledger.{Call, admit, interpret, Ledger, empty, taken, ledgerAnswer, ledgerStep, ledgerAfter}
+use Rattle.agreement.specs.Run.{Site, started, siteAnswer, siteStep, siteAfter}
+use Rattle.agreement.specs.Promises.{ledgerOf, siteWith}
+use Rattle.agreement.proofs.Tied.{Tied, answers-same}
+use Rattle.agreement.proofs.Standing.{Standing, standing}
+use Rattle.agreement.proofs.Ancestry.{admitted-in}
+use Rattle.agreement.proofs.Runs.{Together, step-together}
+use Rattle.agreement.proofs.Theorem.{run}
+
+-- the part of a marked place is what interpreting it now would write
+abbrev pub Fixed : Setup → Bytes → List ℕ → Type 0
+Fixed s t b = (i : ℕ) → i < countOf t → markAt t i ≡ 1 → partOf b i ≡ written s (viewOf t) b i
+
+module _ (digest : Bytes → Bytes) (sized : (b : Bytes) → length (digest b) ≡ referenceSize) (s : Setup) where
+  -- ---- the parts of marked places
+
+  module _ (x : Site) (f : inForm (x .table) ≡ true) (set : setupOf (x .table) ≡ s) (c : Canonical (x .table)) (k : Fixed s (x .table) (x .records)) where
+    abbrev t : Bytes
+    t = x .table
+
+    few : countOf t ≤ maxPlaces
+    few = formed-of t f .held .fits
+
+    admits-canonical : (b : Bytes) (verdict : ℕ) → admission digest t b verdict .refusal ≡ 0 → Canonical (admitted digest t b verdict)
+    unfolding admitted
+    admits-canonical b verdict e =
+        let room = promises digest sized .causes t b verdict .none .0 e .1 in
+        rw e (row-canonical t (rowFor digest (viewOf t) b) (formed-of t f .size) room (sized b) c)
+
+    admits-fixed : (b : Bytes) (verdict : ℕ) → admission digest t b verdict .refusal ≡ 0 → Fixed s (admitted digest t b verdict) (x .records)
+    admits-fixed b verdict e i h m = elim (eq-or-lt-of-le le) [
+      | inl q ↦ absurd (omega (arith, g .here .mark, ap (λ (n : ℕ). markAt t′ n) q))
+      | inr l ↦ let old = k i l (g .below i l .mark ∙ m) in
+          let r = formed-row t f i l in
+          old ∙ written-kept s t t′ (x .records) (x .records) i (omega (arith, few)) (r .parent) (g .below i l .site) (g .below i l .sequence) (g .below i l .request)
+          (λ j a. g .below i l .refersTo j (omega (arith, few)))
+          (λ j a y. let d = g .below j (omega arith) in (d .site, d .sequence, refl))
+    ]
+      where
+        t′ : Bytes
+        t′ = admitted digest t b verdict
+
+        g : Grown t t′ (rowFor digest (viewOf t) b)
+        g = promises digest sized .shown t b verdict e
+
+        le : i ≤ countOf t
+        le = omega (arith, g .count)
+
+    interprets-canonical : (i : ℕ) → interpretation t (x .records) i .refusal ≡ 0 → Canonical (withMark t i)
+    interprets-canonical i e = mark-canonical t i (formed-of t f .size) (here t (x .records) i e) few c
+
+    interprets-fixed : (i : ℕ) → interpretation t (x .records) i .refusal ≡ 0
+        → Fixed s (withMark t i) (splice (x .records) (partStart i) (written (setupOf t) (viewOf t) (x .records) i))
+    interprets-fixed i e j h m = by-test (eqb j i) (λ y. at-place (eqb-true j i y)) (λ n. elsewhere (eqb-false j i n) (sym (a .rows j .mark ∙ rw n) ∙ m))
+      where
+        new : List ℕ
+        new = written (setupOf t) (viewOf t) (x .records) i
+
+        after : List ℕ
+        after = splice (x .records) (partStart i) new
+
+        new-length : length new ≡ partSize
+        new-length = written-length (setupOf t) (viewOf t) (x .records) i (whole t (x .records) i e) (low t (x .records) i e)
+
+        fits : partStart i + partSize ≤ length (x .records)
+        fits = omega (arith, whole t (x .records) i e, low t (x .records) i e)
+
+        a : Marked t (withMark t i) i
+        a = is-marked t (x .records) i e
+
+        below : j < countOf t
+        below = omega (arith, a .count)
+
+        r : RowForm (setupOf t) (viewOf t) j
+        r = formed-row t f j below
+
+        -- what is written at j is the same before and after, where j refers to no changed part
+        written-is : ((p : ℕ) → p < j → rowAt t j .refersTo p ≡ true → p ≢ i) → written s (viewOf t) (x .records) j ≡ written s (viewOf (withMark t i)) after j
+        written-is other = written-kept s t (withMark t i) (x .records) after j (omega (arith, below, few)) (r .parent) (sym (a .rows j .site)) (sym (a .rows j .sequence))
+            (λ slot l. sym (a .rows j .request slot l)) (λ p l. sym (a .rows j .refersTo p (omega (arith, below, few))))
+            (λ p l y. (sym (a .rows p .site), sym (a .rows p .sequence), sym (part-other (x .records) new i new-length fits p (other p l y))))
+
+        at-place : j ≡ i → partOf after j ≡ written s (viewOf (withMark t i)) after j
+        at-place q =
+            ap (partOf after) q ∙ part-written (x .records) new i new-length fits
+            ∙ ap (λ (z : Setup). written z (viewOf t) (x .records) i) set
+            ∙ ap (written s (viewOf t) (x .records)) (sym q)
+            ∙ written-is (λ p l y z. omega arith)
+
+        elsewhere : j ≢ i → markAt t j ≡ 1 → partOf after j ≡ written s (viewOf (withMark t i)) after j
+        elsewhere n o =
+            part-other (x .records) new i new-length fits j n ∙ k j below o
+            ∙ written-is (λ p l y z. absurd (unmarked (ap (markAt t) (sym z) ∙ r .closed o p l y)))
+          where
+            unmarked : markAt t i ≢ 1
+            unmarked = causes t (x .records) i .none .0 e .0 .unmarked
+
+    -- ---- one call
+
+    call-canonical : (c : Call) → Canonical (siteStep digest x c .table)
+    unfolding siteStep admitted marked
+    call-canonical (admit b verdict) = by-test (eqb (admission digest t b verdict .refusal) 0)
+        (λ y. admits-canonical b verdict (eqb-true _ 0 y))
+        (λ n. rw n c)
+    call-canonical (interpret i) = by-test (eqb (interpretation t (x .records) i .refusal) 0)
+        (λ y. rw y (interprets-canonical i (eqb-true _ 0 y)))
+        (λ n. rw n c)
+
+    call-fixed : (c : Call) → Fixed s (siteStep digest x c .table) (siteStep digest x c .records)
+    unfolding siteStep admitted marked recorded
+    call-fixed (admit b verdict) = by-test (eqb (admission digest t b verdict .refusal) 0)
+        (λ y. admits-fixed b verdict (eqb-true _ 0 y))
+        (λ n. rw n k)
+    call-fixed (interpret i) = by-test (eqb (interpretation t (x .records) i .refusal) 0)
+        (λ y. rw y (interprets-fixed i (eqb-true _ 0 y)))
+        (λ n. rw n k)
+
+  -- ---- what calls reach
+
+  abbrev Accepted : Ledger → Type 0
+  Accepted l = (p : ℕ) → p < l .held → reading (l .block p) ≡ Block (fieldsOf (l .block p))
+
+  pub record Reached (size : ℕ) (l : Ledger) (x : Site) : Type 0 where
+    pub together : Together digest sized s size l x
+    pub canonical : Canonical (x .table)
+    pub fixed : Fixed s (x .table) (x .records)
+    pub accepted : (p : ℕ) → p < l .held → reading (l .block p) ≡ Block (fieldsOf (l .block p))
+
+  module _ (size : ℕ) where
+    call-accepted : (l : Ledger) (x : Site) → Reached size l x → (c : Call) → Accepted (ledgerStep digest s size l c)
+    unfolding ledgerStep taken siteAnswer
+    call-accepted l x r (admit b verdict) = by-test (eqb (ledgerAnswer digest s size l (admit b verdict) .refusal) 0)
+        (λ y. rw y (λ p h. by-test (eqb p (l .held))
+        (λ z. rw z (taken-read (eqb-true _ 0 y)))
+        (λ z. rw z (r .accepted p (omega (arith, eqb-false p (l .held) z))))))
+        (λ n. rw n (r .accepted))
+      where
+        taken-read : ledgerAnswer digest s size l (admit b verdict) .refusal ≡ 0 → reading b ≡ Block (fieldsOf b)
+        taken-read e =
+            let z : admission digest (x .table) b verdict .refusal ≡ 0 = ap (λ (a : Answer). a .refusal) (answers-same digest s size l x (r .together .tied) (admit b verdict)) ∙ e in
+            promises digest sized .causes (x .table) b verdict .none .0 z .0 .linked .isNew .readable .accepted
+    call-accepted l x r (interpret i) = by-test (eqb (ledgerAnswer digest s size l (interpret i) .refusal) 0)
+        (λ y. rw y (r .accepted))
+        (λ n. rw n (r .accepted))
+
+    call-reached : (l : Ledger) (x : Site) → Reached size l x → (c : Call) → Reached size (ledgerStep digest s size l c) (siteStep digest x c)
+    call-reached l x r c =
+        let t = r .together .tied in
+        record {
+          together = step-together digest sized s size l x (r .together) c;
+          canonical = call-canonical x (t .formed) (t .setup) (r .canonical) (r .fixed) c;
+          fixed = call-fixed x (t .formed) (t .setup) (r .canonical) (r .fixed) c;
+          accepted = call-accepted l x r c;
+        }
+
+    calls-reached : (l : Ledger) (x : Site) → Reached size l x → (cs : List Call) → Reached size (ledgerAfter digest s size l cs) (siteAfter digest x cs)
+    unfolding ledgerAfter siteAfter
+    calls-reached l x r [] = r
+    calls-reached l x r (c ∷ cs) = calls-reached (ledgerStep digest s size l c) (siteStep digest x c) (call-reached l x r c) cs
+
+  pub started-reached : lawful s ≡ true → (buffer : List ℕ) → Reached (length buffer) empty (started s buffer)
+  unfolding ledgerAfter siteAfter
+  started-reached law buffer =
+      let t : Together digest sized s (length buffer) empty (started s buffer) = run digest sized s law buffer [] in
+      record {
+        together = t;
+        canonical = λ i h. absurd (omega (arith, t .tied .count));
+        fixed = λ i h. absurd (omega (arith, t .tied .count));
+        accepted = λ p h. absurd (omega arith);
+      }
+
+  pub reached : lawful s ≡ true → (buffer : List ℕ) (calls : List Call) → Reached (length buffer) (ledgerOf digest s buffer calls) (siteWith digest s buffer calls)
+  reached law buffer calls = calls-reached (length buffer) empty (started s buffer) (started-reached law buffer) calls
+
+-- ---- the blocks of a table
+
+-- the rows of a table show these blocks, which the reader accepts and whose references are held
+pub record Rows (digest : Bytes → Bytes) (t : Bytes) (block : ℕ → Bytes) : Type 0 where
+  pub digests : (p : ℕ) → p < countOf t → digestAt t p ≡ digest (block p)
+  pub sites : (p : ℕ) → p < countOf t → siteAt t p ≡ siteOf (block p)
+  pub sequences : (p : ℕ) → p < countOf t → sequenceAt t p ≡ sequenceOf (block p)
+  pub requests : (p : ℕ) → p < countOf t → (slot : ℕ) → slot < slotCount → requestAt t p slot ≡ requestFor (block p) slot
+  pub refers : (p q : ℕ) → p < countOf t → q < countOf t → rowAt t p .refersTo q ≡ lists (block p) (digestAt t q)
+  pub linked : (p : ℕ) → p < countOf t → (r : Bytes) → List·Memᴰ r (referencesOf (block p)) → (q : ℕ) × (q < countOf t) × (digestAt t q ≡ r)
+  pub accepted : (p : ℕ) → p < countOf t → reading (block p) ≡ Block (fieldsOf (block p))
+
+module _ (digest : Bytes → Bytes) (sized : (b : Bytes) → length (digest b) ≡ referenceSize) (s : Setup) (size : ℕ) (l : Ledger) (x : Site)
+    (r : Reached digest sized s size l x) where
+  abbrev tied : Tied digest s size l x
+  tied = r .together .tied
+
+  stand : Standing digest l (x .table)
+  stand = standing digest s size l x tied
+
+  linked-at : (p : ℕ) → p < countOf (x .table) → (d : Bytes) → List·Memᴰ d (referencesOf (l .block p)) → (q : ℕ) × (q < countOf (x .table)) × (digestAt (x .table) q ≡ d)
+  linked-at p h d m =
+      let a = admitted-in digest (l .blocks) (tied .grown) (l .block p) (stand .among p (stand .held p h)) in
+      let c = a .1 .linked d m in
+      let q = stand .placed (c .0) (a .2 (c .0) (c .1)) in
+      (q .0, stand .counted (q .0) (q .1), tied .rows (q .0) (stand .counted (q .0) (q .1)) .digest ∙ ap digest (sym (q .2)) ∙ c .2)
+
+  pub reached-rows : Rows digest (x .table) (l .block)
+  reached-rows =
+      record {
+        digests = λ p h. tied .rows p h .digest;
+        sites = λ p h. tied .rows p h .site;
+        sequences = λ p h. tied .rows p h .sequence;
+        requests = λ p h. tied .rows p h .request;
+        refers = λ p q h k. tied .rows p h .refersTo q (omega (arith, k, formed-of (x .table) (tied .formed) .held .fits))
+            ∙ rw (lt-ltb q (l .held) (stand .held q k), ← (tied .rows q k .digest));
+        linked = linked-at;
+        accepted = λ p h. r .accepted p (stand .held p h);
+      }

@@ -1,0 +1,125 @@
+-- What `join` asks of its steps, and what they leave together. Assumes nothing.
+use mathlib.Core.Path.{_≡_, refl, sym, ap, _∙_}
+use mathlib.Core.Bool.{Bool, cond, _&&_}
+use mathlib.Core.Logic.{_≢_}
+use mathlib.Core.List.{List}
+use Prim.Native.Nat.{ℕ}
+use lib.Dec.{eqb}
+use lib.ListN.{length}
+use borrow.Author.Tests.{eq-eqb, ne-eqb, leb-true, not-true}
+use Rattle.base.specs.Bytes.{Bytes}
+use Rattle.base.proofs.Tests.{by-test}
+use Rattle.block.specs.declared.Answer.{Answer}
+use Rattle.table.specs.View.{maxPlaces}
+use Rattle.table.specs.Layout.{setupOf, viewOf}
+use Rattle.table.specs.Form.{inForm}
+use Rattle.table.specs.Checks.{answerTo}
+use Rattle.table.proofs.Checks.{numbered, all-hold}
+use Rattle.interpret.specs.Buffer.{bufferSize}
+use Rattle.join.specs.Join.{sameSetup, joinedCount, joinAnswer, joinedTable, joinedRecords, joined, copied}
+use Rattle.join.specs.Promises.{OneSetup}
+use Rattle.join.specs.Steps.{sidesChecks, blocksChecks, blocksAnswer, BothFormed, Passed}
+use Rattle.join.proofs.Passes.{setup-same, whole-of}
+
+module _ (left right : Bytes) (leftRecords rightRecords third : List ℕ) where
+  abbrev sides : Answer
+  sides = answerTo (sidesChecks left right (length leftRecords) (length rightRecords) (length third)) 0
+
+  abbrev answer : Answer
+  answer = joinAnswer left right leftRecords rightRecords third
+
+  abbrev formed : Bool
+  formed = inForm left && inForm right
+
+  abbrev sizes : Bool
+  sizes = eqb (length leftRecords) bufferSize && (eqb (length rightRecords) bufferSize && eqb (length third) bufferSize)
+
+  abbrev setups : Bool
+  setups = sameSetup (setupOf left) (setupOf right)
+
+  -- what a call leaves
+  abbrev Leaves : Answer → Bytes → List ℕ → Type 0
+  Leaves a t b = (a ≡ answer) × ((t ≡ joined left right leftRecords rightRecords third) × (b ≡ copied left right leftRecords rightRecords third))
+
+  -- ---- the first checks refuse
+
+  first-refuse : sides .refusal ≢ 0 → sides ≡ answer
+  unfolding joinAnswer answerTo
+  first-refuse n = by-test formed
+      (λ f. by-test sizes
+      (λ z. by-test setups
+      (λ s. absurd (n (rw (f, z, s))))
+      (λ s. rw (f, z, s)))
+      (λ z. rw (f, z)))
+      (λ f. rw f)
+
+  pub refused : (a : Answer) → a ≡ sides → a .refusal ≢ 0 → Leaves a left third
+  unfolding joined copied
+  refused a e n =
+      let q : a ≡ answer = e ∙ first-refuse (λ o. n (ap (λ (x : Answer). x .refusal) e ∙ o)) in
+      let z = ne-eqb (answer .refusal) 0 (λ o. n (ap (λ (x : Answer). x .refusal) q ∙ o)) in
+      (q, (rw z, rw z))
+
+  -- ---- they pass
+
+  one-setup : sides .refusal ≡ 0 → OneSetup left right leftRecords rightRecords third
+  unfolding numbered
+  one-setup e =
+      let h = all-hold (sidesChecks left right (length leftRecords) (length rightRecords) (length third)) 0 refl e in
+      record { isWhole = whole-of left right leftRecords rightRecords third (h .0) (h .1 .0); setup = setup-same (setupOf left) (setupOf right) .0 (h .1 .1 .0) }
+
+  pub one-setup-of : (a : Answer) → a ≡ sides → a .refusal ≡ 0 → OneSetup left right leftRecords rightRecords third
+  one-setup-of a e z = one-setup (ap (λ (x : Answer). x .refusal) (sym e) ∙ z)
+
+  -- then those of the blocks decide
+  blocks-decide : OneSetup left right leftRecords rightRecords third → blocksAnswer left right ≡ answer
+  unfolding joinAnswer answerTo
+  blocks-decide o =
+      let w = o .isWhole in
+      rw (w .leftFormed, w .rightFormed, eq-eqb _ _ (w .leftSize), eq-eqb _ _ (w .rightSize), eq-eqb _ _ (w .size), setup-same (setupOf left) (setupOf right) .1 (o .setup))
+
+  pub decided : OneSetup left right leftRecords rightRecords third → (a : Answer) (t : Bytes) (b : List ℕ) → a ≡ blocksAnswer left right
+      → t ≡ cond (eqb (blocksAnswer left right .refusal) 0) (joinedTable left right) left
+      → b ≡ cond (eqb (blocksAnswer left right .refusal) 0) (joinedRecords left right leftRecords rightRecords third) third → Leaves a t b
+  unfolding joined copied
+  decided o a t b e f g =
+      let q = blocks-decide o in (
+        e ∙ q,
+        (
+          f ∙ ap (λ (x : Answer). cond (eqb (x .refusal) 0) (joinedTable left right) left) q,
+          g ∙ ap (λ (x : Answer). cond (eqb (x .refusal) 0) (joinedRecords left right leftRecords rightRecords third) third) q,
+        ),
+      )
+
+  -- ---- the blocks
+
+  module _ (o : OneSetup left right leftRecords rightRecords third) (a : Answer) (e : a ≡ blocksAnswer left right) where
+    pub formed-of-both : BothFormed left right
+    formed-of-both = record { leftFormed = o .isWhole .leftFormed; rightFormed = o .isWhole .rightFormed }
+
+    pub passed : a .refusal ≡ 0 → Passed left right leftRecords rightRecords third
+    unfolding numbered
+    passed z =
+        let h = all-hold (blocksChecks left right) (joinedCount (viewOf left) (viewOf right)) refl (ap (λ (x : Answer). x .refusal) (sym e) ∙ z) in
+        record {
+          joinable = record {
+            formed = formed-of-both;
+            setup = o .setup;
+            apart = not-true _ (h .0);
+            fits = leb-true (joinedCount (viewOf left) (viewOf right)) maxPlaces (h .1 .0);
+          };
+          sides = record { formed = formed-of-both; leftSize = o .isWhole .leftSize; rightSize = o .isWhole .rightSize };
+          size = o .isWhole .size;
+        }
+
+    abbrev Left : Bytes → List ℕ → Type 0
+    Left t b =
+        (a ≡ blocksAnswer left right)
+        × ((t ≡ cond (eqb (blocksAnswer left right .refusal) 0) (joinedTable left right) left)
+        × (b ≡ cond (eqb (blocksAnswer left right .refusal) 0) (joinedRecords left right leftRecords rightRecords third) third))
+
+    pub as-was : a .refusal ≢ 0 → Left left third
+    as-was n = let z = ne-eqb (blocksAnswer left right .refusal) 0 (λ q. n (ap (λ (x : Answer). x .refusal) e ∙ q)) in (e, (rw z, rw z))
+
+    pub as-joined : a .refusal ≡ 0 → (t : Bytes) (b : List ℕ) → t ≡ joinedTable left right → b ≡ joinedRecords left right leftRecords rightRecords third → Left t b
+    as-joined z t b f g = let y = eq-eqb (blocksAnswer left right .refusal) 0 (ap (λ (x : Answer). x .refusal) (sym e) ∙ z) in (e, (rw y f, rw y g))

@@ -1,0 +1,77 @@
+-- What a join that passes its checks has shown. Assumes nothing.
+use mathlib.Core.Path.{_≡_, refl, ap, ap₂}
+use mathlib.Core.Bool.{true, _&&_}
+use mathlib.Core.Logic.{_↔_}
+use mathlib.Core.List.{List}
+use Prim.Native.Nat.{ℕ}
+use lib.Dec.{eqb}
+use lib.ListN.{length}
+use borrow.Author.Tests.{eqb-true, eq-eqb, leb-true, not-true}
+use Rattle.base.specs.Bytes.{Bytes, sameBytes}
+use Rattle.base.proofs.Tests.{and-left, and-right}
+use Rattle.base.proofs.Bytes.{same-equal, equal-same}
+use Rattle.setup.specs.Setup.{Setup}
+use Rattle.table.specs.View.{maxPlaces}
+use Rattle.table.specs.Layout.{setupOf, viewOf}
+use Rattle.table.specs.Form.{inForm}
+use Rattle.table.specs.Checks.{answerTo}
+use Rattle.table.proofs.Checks.{numbered, all-hold}
+use Rattle.interpret.specs.Buffer.{bufferSize}
+use Rattle.join.specs.Steps.{BothFormed, Passed}
+use Rattle.join.specs.Promises.{Whole}
+use Rattle.join.specs.Join.{sameSetup, joinedCount, joinChecks, joinAnswer, joined, copied, joinedTable, joinedRecords}
+
+-- two setups that pass the test are equal, and equal ones pass it
+pub setup-same : (s z : Setup) → (sameSetup s z ≡ true) ↔ (s ≡ z)
+setup-same s z = (
+  λ e. ap₂ (λ (x : ℕ) (y : Bytes). record { sites = x; owners = y })
+      (eqb-true (s .sites) (z .sites) (and-left (eqb (s .sites) (z .sites)) (sameBytes (s .owners) (z .owners)) e))
+      (same-equal (s .owners) (z .owners) (and-right (eqb (s .sites) (z .sites)) (sameBytes (s .owners) (z .owners)) e)),
+  λ e. rw (eq-eqb _ _ (ap (λ (x : Setup). x .sites) e), equal-same _ _ (ap (λ (x : Setup). x .owners) e)),
+)
+
+-- checks 2 and 12
+pub whole-of : (left right : Bytes) (leftRecords rightRecords third : List ℕ) → (inForm left && inForm right) ≡ true
+    → (eqb (length leftRecords) bufferSize && (eqb (length rightRecords) bufferSize && eqb (length third) bufferSize)) ≡ true
+    → Whole left right leftRecords rightRecords third
+whole-of left right leftRecords rightRecords third f z =
+    let r = and-right (eqb (length leftRecords) bufferSize) (eqb (length rightRecords) bufferSize && eqb (length third) bufferSize) z in
+    record {
+      leftFormed = and-left (inForm left) (inForm right) f;
+      rightFormed = and-right (inForm left) (inForm right) f;
+      leftSize = eqb-true _ _ (and-left (eqb (length leftRecords) bufferSize) (eqb (length rightRecords) bufferSize && eqb (length third) bufferSize) z);
+      rightSize = eqb-true _ _ (and-left (eqb (length rightRecords) bufferSize) (eqb (length third) bufferSize) r);
+      size = eqb-true _ _ (and-right (eqb (length rightRecords) bufferSize) (eqb (length third) bufferSize) r);
+    }
+
+module _ (left right : Bytes) (leftRecords rightRecords third : List ℕ) (e : joinAnswer left right leftRecords rightRecords third .refusal ≡ 0) where
+  pub passes : Passed left right leftRecords rightRecords third
+  unfolding joinAnswer numbered
+  passes =
+      let h = all-hold (joinChecks left right (length leftRecords) (length rightRecords) (length third)) (joinedCount (viewOf left) (viewOf right)) refl e in
+      let w = whole-of left right leftRecords rightRecords third (h .0) (h .1 .0) in
+      let formed : BothFormed left right = record { leftFormed = w .leftFormed; rightFormed = w .rightFormed } in
+      record {
+        sides = record { formed = formed; leftSize = w .leftSize; rightSize = w .rightSize };
+        size = w .size;
+        joinable = record {
+          formed = formed;
+          setup = setup-same (setupOf left) (setupOf right) .0 (h .1 .1 .0);
+          apart = not-true _ (h .1 .1 .1 .0);
+          fits = leb-true (joinedCount (viewOf left) (viewOf right)) maxPlaces (h .1 .1 .1 .1 .0);
+        };
+      }
+
+  pub joined-passed : joined left right leftRecords rightRecords third ≡ joinedTable left right
+  unfolding joined
+  joined-passed = rw e
+
+  pub copied-passed : copied left right leftRecords rightRecords third ≡ joinedRecords left right leftRecords rightRecords third
+  unfolding copied
+  copied-passed = rw e
+
+  pub value-passed : joinAnswer left right leftRecords rightRecords third .value ≡ joinedCount (viewOf left) (viewOf right)
+  unfolding joinAnswer answerTo numbered
+  value-passed =
+      let h = all-hold (joinChecks left right (length leftRecords) (length rightRecords) (length third)) (joinedCount (viewOf left) (viewOf right)) refl e in
+      rw (h .0, h .1 .0, h .1 .1 .0, h .1 .1 .1 .0, h .1 .1 .1 .1 .0)

@@ -1,0 +1,70 @@
+-- `blocks_answer` meets its contract: one law for each way out. Assumes nothing.
+use mathlib.Core.Path.{_≡_, sym, ap, _∙_}
+use native.Mathlib.Omega.{arith}
+use borrow.Author.Needs.{needs}
+use Rattle.block.specs.declared.Answer.{Answer}
+use Rattle.table.proofs.Formed.{formed-of}
+use Rattle.join.proofs.Ways.{way24, way25, way0}
+use Rattle.join.proofs.blocks_answer.Statement.{statement}
+use Rattle.join.proofs.blocks_answer.Tie as tie
+
+abbrev start-of : tie.After-first-clash → tie.Start
+start-of c = c .before .before .before .before .before .before
+
+first-clash-requires : tie.Need-first-clash-requires
+first-clash-requires c κs = c .before .before .before .before .before .pre
+
+count-of-requires : tie.Need-count-of-requires
+count-of-requires c κs = formed-of _ (start-of c .pre .0 .leftFormed) .size
+
+-- a refusal has another number than 0
+returns : tie.Need-returns
+returns c =
+    let clash = c .before .before in
+    let a = start-of clash .args in
+    (way24 (a .left .now) (a .right .now) _ _ (clash .first-clash .ensures) (c .before .count-of .ensures) (c .if1 .taken), λ e. absurd (omega arith))
+
+number-extras-requires : tie.Need-number-extras-requires
+number-extras-requires c κs = let p = start-of (c .before .before .before) .pre in (p .0, p .2)
+
+abbrev count-at : tie.After-slice-known2 → tie.After-number-extras
+count-at c = c .before .before
+
+abbrev apart-of : tie.After-number-extras → tie.Else1
+apart-of c = c .before .before
+
+returns-2 : tie.Need-returns-2
+returns-2 c =
+    let count = count-at (c .before) in
+    let apart = apart-of count in
+    let clash = apart .before .before in
+    let a = start-of clash .args in
+    (
+      way25 (a .left .now) (a .right .now) _ _ (clash .first-clash .ensures) (apart .before .count-of .ensures) (apart .if1 .left) _ (count .number-extras .ensures .0) (c .if2 .taken),
+      λ e. absurd (omega arith),
+    )
+
+returns-3 : tie.Need-returns-3
+returns-3 c =
+    let count = count-at (c .before) in
+    let apart = apart-of count in
+    let clash = apart .before .before in
+    let a = start-of clash .args in
+    (
+      way0 (a .left .now) (a .right .now) _ _ (clash .first-clash .ensures) (apart .before .count-of .ensures) (apart .if1 .left) _ (count .number-extras .ensures .0) (c .if2 .left),
+      λ e. count .number-extras .ensures .1,
+    )
+
+pub blocks-answer-spec : {M : Type 1} → statement M
+blocks-answer-spec =
+    tie.close
+    (tie.spec
+    first-clash-requires
+    count-of-requires
+    (λ c. search needs)
+    returns
+    number-extras-requires
+    (λ c. search needs)
+    returns-2
+    (λ c. search needs)
+    returns-3)

@@ -1,0 +1,104 @@
+-- `part_of` meets its contract: one law for each way out. Assumes nothing.
+use mathlib.Core.Path.{_≡_, sym, _∙_}
+use mathlib.Core.Bool.{true, false}
+use Prim.Native.Nat.{_<_}
+use borrow.Author.Needs.{needs}
+use Rattle.table.specs.View.{maxPlaces}
+use Rattle.table.specs.Layout.{viewOf}
+use Rattle.table.proofs.Formed.{formed-places}
+use Rattle.join.specs.Join.{interpretedAt}
+use Rattle.join.proofs.Referred.{interpreted-low}
+use Rattle.join.proofs.Handing.{from-left, from-right, from-neither}
+use Rattle.join.proofs.parts.part_of.Statement.{statement}
+use Rattle.join.proofs.parts.part_of.Tie as tie
+
+-- ---- the left's
+
+abbrev start-of : tie.After-interpreted-at → tie.Start
+start-of c = c .before .before .before .before .before
+
+interpreted-at-requires : tie.Need-interpreted-at-requires
+interpreted-at-requires c κs = formed-places _ (c .before .before .before .before .pre .formed .leftFormed)
+
+left-is : (c : tie.Then1) → let a = start-of (c .before) .args in interpretedAt (viewOf (a .left .now)) (a .i) ≡ true
+left-is c = sym (c .before .interpreted-at .ensures) ∙ c .if1 .taken
+
+left-low : (c : tie.Then1) → start-of (c .before) .args .i < maxPlaces
+left-low c = interpreted-low _ (start-of (c .before) .pre .formed .leftFormed) _ (left-is c)
+
+mul-at : tie.Need-mul-at
+mul-at c = let h = left-low c in search needs
+
+add-result : tie.Need-add-result
+add-result c = let h = left-low c in search needs
+
+mul-result : tie.Need-mul-result
+mul-result c = let h = left-low c in search needs
+
+part-result-end : tie.Need-part-result-end
+part-result-end c = let h = left-low c in let l = start-of (c .before) .pre .leftSize in search needs
+
+returns : tie.Need-returns
+returns c = from-left _ _ _ _ _ _ (left-is (c .before))
+
+-- ---- the right's
+
+abbrev start-at : tie.After-interpreted-at2 → tie.Start
+start-at c = start-of (c .before .before)
+
+left-not : (c : tie.After-interpreted-at2) → let a = start-at c .args in interpretedAt (viewOf (a .left .now)) (a .i) ≡ false
+left-not c = sym (c .before .before .interpreted-at .ensures) ∙ c .before .if1 .left
+
+interpreted-at-requires-2 : tie.Need-interpreted-at-requires-2
+interpreted-at-requires-2 c κs = formed-places _ (start-of (c .before) .pre .formed .rightFormed)
+
+right-is : (c : tie.Then2) → let a = start-at (c .before) .args in interpretedAt (viewOf (a .right .now)) (a .j) ≡ true
+right-is c = sym (c .before .interpreted-at2 .ensures) ∙ c .if2 .taken
+
+right-low : (c : tie.Then2) → start-at (c .before) .args .j < maxPlaces
+right-low c = interpreted-low _ (start-at (c .before) .pre .formed .rightFormed) _ (right-is c)
+
+mul-at-2 : tie.Need-mul-at-2
+mul-at-2 c = let h = right-low c in search needs
+
+add-result-2 : tie.Need-add-result-2
+add-result-2 c = let h = right-low c in search needs
+
+mul-result-2 : tie.Need-mul-result-2
+mul-result-2 c = let h = right-low c in search needs
+
+part-result-end-2 : tie.Need-part-result-end-2
+part-result-end-2 c = let h = right-low c in let l = start-at (c .before) .pre .rightSize in search needs
+
+returns-2 : tie.Need-returns-2
+returns-2 c = from-right _ _ _ _ _ _ (left-not (c .before .before)) (right-is (c .before))
+
+-- ---- an empty one
+
+returns-3 : tie.Need-returns-3
+returns-3 c = from-neither _ _ _ _ _ _ (left-not (c .before .before)) (sym (c .before .before .interpreted-at2 .ensures) ∙ c .before .if2 .left)
+
+pub part-of-spec : {M : Type 1} → statement M
+part-of-spec =
+    tie.close
+    (tie.spec
+    interpreted-at-requires
+    mul-at
+    add-result
+    mul-result
+    (λ c. search needs)
+    (λ c. search needs)
+    part-result-end
+    returns
+    interpreted-at-requires-2
+    mul-at-2
+    add-result-2
+    mul-result-2
+    (λ c. search needs)
+    (λ c. search needs)
+    part-result-end-2
+    returns-2
+    (λ c. search needs)
+    (λ c. search needs)
+    (λ c. search needs)
+    returns-3)

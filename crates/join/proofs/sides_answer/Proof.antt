@@ -1,0 +1,100 @@
+-- `sides_answer` meets its contract: one law for each way out. Assumes nothing.
+use mathlib.Core.Path.{_≡_, sym, _∙_}
+use mathlib.Core.Bool.{true}
+use borrow.Author.Needs.{needs}
+use borrow.Author.Tests.{not-true, not-false}
+use Rattle.table.specs.Form.{inForm}
+use Rattle.table.proofs.Formed.{formed-of}
+use Rattle.join.specs.Steps.{BothFormed}
+use Rattle.join.proofs.Ways.{way2, way2-right, way12-left, way12-right, way12, way23, way-on}
+use Rattle.join.proofs.sides_answer.Statement.{statement}
+use Rattle.join.proofs.sides_answer.Tie as tie
+
+-- ---- forms
+
+abbrev start-of : tie.After-in-form → tie.Start
+start-of c = c .before .before .before
+
+returns : tie.Need-returns
+returns c =
+    let a = start-of (c .before) .args in
+    way2 (a .left .now) (a .right .now) (a .left-size) (a .right-size) (a .size) (sym (c .before .in-form .ensures) ∙ not-true _ (c .if1 .taken))
+
+left-formed : (c : tie.Else1) → inForm (start-of (c .before) .args .left .now) ≡ true
+left-formed c = sym (c .before .in-form .ensures) ∙ not-false _ (c .if1 .left)
+
+abbrev left-of : tie.After-in-form2 → tie.Else1
+left-of c = c .before
+
+returns-2 : tie.Need-returns-2
+returns-2 c =
+    let one = left-of (c .before) in
+    let a = start-of (one .before) .args in
+    way2-right (a .left .now) (a .right .now) (a .left-size) (a .right-size) (a .size) (left-formed one) (sym (c .before .in-form2 .ensures) ∙ not-true _ (c .if2 .taken))
+
+abbrev start-at : tie.Else2 → tie.Start
+start-at c = start-of (left-of (c .before) .before)
+
+formed : (c : tie.Else2) → BothFormed (start-at c .args .left .now) (start-at c .args .right .now)
+formed c = record { leftFormed = left-formed (left-of (c .before)); rightFormed = sym (c .before .in-form2 .ensures) ∙ not-false _ (c .if2 .left) }
+
+-- ---- lengths
+
+returns-3 : tie.Need-returns-3
+returns-3 c =
+    let a = start-at (c .before) .args in
+    way12-left (a .left .now) (a .right .now) (a .left-size) (a .right-size) (a .size) (formed (c .before)) (c .if3 .taken)
+
+returns-4 : tie.Need-returns-4
+returns-4 c =
+    let three = c .before in
+    let a = start-at (three .before) .args in
+    way12-right (a .left .now) (a .right .now) (a .left-size) (a .right-size) (a .size) (formed (three .before)) (three .if3 .left) (c .if4 .taken)
+
+returns-5 : tie.Need-returns-5
+returns-5 c =
+    let four = c .before in
+    let three = four .before in
+    let a = start-at (three .before) .args in
+    way12 (a .left .now) (a .right .now) (a .left-size) (a .right-size) (a .size) (formed (three .before)) (three .if3 .left) (four .if4 .left) (c .if5 .taken)
+
+-- ---- setups
+
+abbrev three-of : tie.Else5 → tie.Else3
+three-of c = c .before .before
+
+same-setup-requires : tie.Need-same-setup-requires
+same-setup-requires c κs =
+    let f = formed (three-of c .before) in
+    (formed-of _ (f .leftFormed) .size, formed-of _ (f .rightFormed) .size)
+
+returns-6 : tie.Need-returns-6
+returns-6 c =
+    let five = c .before .before in
+    let three = three-of five in
+    let a = start-at (three .before) .args in
+    way23 (a .left .now) (a .right .now) (a .left-size) (a .right-size) (a .size) (formed (three .before)) (three .if3 .left) (five .before .if4 .left) (five .if5 .left)
+    (sym (c .before .same-setup .ensures) ∙ not-true _ (c .if6 .taken))
+
+returns-7 : tie.Need-returns-7
+returns-7 c =
+    let five = c .before .before in
+    let three = three-of five in
+    let a = start-at (three .before) .args in
+    way-on (a .left .now) (a .right .now) (a .left-size) (a .right-size) (a .size) (formed (three .before)) (three .if3 .left) (five .before .if4 .left) (five .if5 .left)
+    (sym (c .before .same-setup .ensures) ∙ not-false _ (c .if6 .left))
+
+pub sides-answer-spec : {M : Type 1} → statement M
+sides-answer-spec =
+    tie.close
+    (tie.spec
+    (λ c κs. search needs)
+    returns
+    (λ c κs. search needs)
+    returns-2
+    returns-3
+    returns-4
+    returns-5
+    same-setup-requires
+    returns-6
+    returns-7)

@@ -1,0 +1,111 @@
+-- What joining promises of any two tables, beyond its equations; proofs/Promises.antt shows it. What it promises of sites that calls reached
+-- stands in the crate `joined`.
+use mathlib.Core.Path.{_≡_}
+use mathlib.Core.Bool.{true, false, _||_}
+use mathlib.Core.Logic.{_≢_, _↔_}
+use mathlib.Core.List.{List}
+use Prim.Native.Nat.{ℕ, _+_, _≤_, _<_}
+use lib.ListN.{length}
+use Rattle.base.specs.Count.{countBelow}
+use Rattle.base.specs.Bytes.{Bytes}
+use Rattle.block.specs.Limits.{slotCount}
+use Rattle.block.specs.declared.Answer.{Answer}
+use Rattle.table.specs.View.{maxPlaces, interpreted}
+use Rattle.table.specs.Layout.{setupOf, countOf, digestAt, siteAt, sequenceAt, requestAt, rowAt, viewOf}
+use Rattle.table.specs.Form.{inForm}
+use Rattle.interpret.specs.Buffer.{bufferSize, partOf}
+use Rattle.join.specs.Join.{refersBy, sameBlock, isExtra, joinedCount, joinAnswer, placeIn, interpretedAt, partFor, joined, copied}
+
+-- ---- refusals
+
+-- checks 2 and 12 pass
+pub record Whole (left right : Bytes) (leftRecords rightRecords third : List ℕ) : Type 0 where
+  pub leftFormed : inForm left ≡ true
+  pub rightFormed : inForm right ≡ true
+  pub leftSize : length leftRecords ≡ bufferSize
+  pub rightSize : length rightRecords ≡ bufferSize
+  pub size : length third ≡ bufferSize
+
+-- and 23
+pub record OneSetup (left right : Bytes) (leftRecords rightRecords third : List ℕ) : Type 0 where
+  pub isWhole : Whole left right leftRecords rightRecords third
+  pub setup : setupOf left ≡ setupOf right
+
+-- the left's place i and a place of the right have equal digests, and other fields or references
+pub record Clash (left right : Bytes) (i : ℕ) : Type 0 where
+  pub below : i < countOf left
+  pub other : ℕ
+  pub otherBelow : other < countOf right
+  pub digest : digestAt right other ≡ digestAt left i
+  pub differ : sameBlock (viewOf left) i (viewOf right) other ≡ false
+
+-- and 24
+pub record Apart (left right : Bytes) (leftRecords rightRecords third : List ℕ) : Type 0 where
+  pub one : OneSetup left right leftRecords rightRecords third
+  pub none : ((i : ℕ) × Clash left right i) → ⊥
+
+-- each refusal comes under its cause and under no other
+pub record Causes (left right : Bytes) (leftRecords rightRecords third : List ℕ) (answer : Answer) : Type 0 where
+  pub twentyThree : (answer .refusal ≡ 23) ↔ (Whole left right leftRecords rightRecords third × (setupOf left ≢ setupOf right))
+  pub twentyFour : (answer .refusal ≡ 24) ↔ (OneSetup left right leftRecords rightRecords third × ((i : ℕ) × Clash left right i))
+  pub twentyFive : (answer .refusal ≡ 25) ↔ (Apart left right leftRecords rightRecords third × (maxPlaces < joinedCount (viewOf left) (viewOf right)))
+  pub none : (answer .refusal ≡ 0) ↔ (Apart left right leftRecords rightRecords third × (joinedCount (viewOf left) (viewOf right) ≤ maxPlaces))
+  -- "with the lowest left place"
+  pub lowest : answer .refusal ≡ 24 → Clash left right (answer .value) × ((i : ℕ) → i < answer .value → Clash left right i → ⊥)
+
+-- ---- the result, told without the order in which it is made
+
+-- place p of t has the fields of place q of u, references and interpreted aside
+pub record SameFields (t : Bytes) (p : ℕ) (u : Bytes) (q : ℕ) : Type 0 where
+  pub digest : digestAt t p ≡ digestAt u q
+  pub site : siteAt t p ≡ siteAt u q
+  pub sequence : sequenceAt t p ≡ sequenceAt u q
+  pub request : (slot : ℕ) → slot < slotCount → requestAt t p slot ≡ requestAt u q slot
+
+-- where the right's block j stands if it is not in the left
+abbrev pub placeBehind : Bytes → Bytes → ℕ → ℕ
+placeBehind left right j = countOf left + countBelow (isExtra (viewOf left) (viewOf right)) j
+
+-- the table t
+pub record Shape (left right t : Bytes) : Type 0 where
+  pub setup : setupOf t ≡ setupOf left
+  pub count : countOf t ≡ joinedCount (viewOf left) (viewOf right)
+  -- "the left's places first"
+  pub first : (p : ℕ) → p < countOf left → SameFields t p left p
+  pub firstRefers : (p q : ℕ) → p < countOf left → q < maxPlaces → rowAt t p .refersTo q ≡ rowAt left p .refersTo q
+  -- "then the right's blocks not in the left, in their order"
+  pub behind : (j : ℕ) → j < countOf right → isExtra (viewOf left) (viewOf right) j ≡ true → SameFields t (placeBehind left right j) right j
+  -- "references renumbered": it refers to a place exactly if it refers to the block there
+  pub behindRefers : (j q : ℕ) → j < countOf right → isExtra (viewOf left) (viewOf right) j ≡ true → q < countOf t
+      → rowAt t (placeBehind left right j) .refersTo q ≡ refersBy (viewOf right) j (digestAt t q)
+  -- "A block interpreted in either is interpreted in the result", and no other is
+  pub marks : (p : ℕ) → p < countOf t → interpreted (rowAt t p)
+      ≡ (interpretedAt (viewOf left) (placeIn (viewOf left) (digestAt t p)) || interpretedAt (viewOf right) (placeIn (viewOf right) (digestAt t p)))
+
+-- the third buffer b, beside the table t
+pub record Copies (left right : Bytes) (leftRecords rightRecords third : List ℕ) (t : Bytes) (b : List ℕ) : Type 0 where
+  pub size : length b ≡ length third
+  -- an interpreted place has the part that was handed back for its block
+  pub handed : (p : ℕ) → p < countOf t → interpreted (rowAt t p) ≡ true
+      → partOf b p ≡ partFor (viewOf left) (viewOf right) leftRecords rightRecords (digestAt t p)
+  -- "whose rest stays": the part of every other place
+  pub rest : (p : ℕ) → p < maxPlaces → (p < countOf t → interpreted (rowAt t p) ≡ false) → partOf b p ≡ partOf third p
+
+-- ---- a call
+
+pub record Joins (left right : Bytes) (leftRecords rightRecords third : List ℕ) (answer : Answer) (t : Bytes) (b : List ℕ) : Type 0 where
+  pub causes : Causes left right leftRecords rightRecords third answer
+  -- a refusal changes nothing
+  pub refused : answer .refusal ≢ 0 → (t ≡ left) × (b ≡ third)
+  -- form is kept
+  pub kept : inForm left ≡ true → inForm t ≡ true
+  -- a success tells how many blocks the result has
+  pub counted : answer .refusal ≡ 0 → answer .value ≡ countOf t
+  pub shape : answer .refusal ≡ 0 → Shape left right t
+  pub copies : answer .refusal ≡ 0 → Copies left right leftRecords rightRecords third t b
+
+abbrev pub Promises : Type 0
+Promises =
+    (left right : Bytes) (leftRecords rightRecords third : List ℕ)
+    → Joins left right leftRecords rightRecords third (joinAnswer left right leftRecords rightRecords third)
+    (joined left right leftRecords rightRecords third) (copied left right leftRecords rightRecords third)

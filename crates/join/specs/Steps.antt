@@ -1,0 +1,128 @@
+-- What the contracts of inner functions cite: what an entry point has tested, and where blocks stand. Nothing here need be believed.
+use mathlib.Core.Path.{_≡_}
+use mathlib.Core.Bool.{Bool, true, false, not, cond, _&&_}
+use mathlib.Core.List.{List, _++_}
+use Prim.Native.Nat.{ℕ, zero, suc, _≤_, _<_}
+use lib.Dec.{eqb}
+use lib.ListN.{length, getD, take, drop}
+use Rattle.base.specs.Search.{anyBelow}
+use Rattle.base.specs.Mask.{maskBelow, inMask}
+use Rattle.base.specs.Bytes.{Bytes, splice}
+use Rattle.base.specs.Word.{wordSize, wordBytes}
+use Rattle.block.specs.declared.Answer.{Answer}
+use Rattle.table.specs.View.{maxPlaces, Row}
+use Rattle.table.specs.Layout.{referencesOffset, requestsOffset, setupOf, countOf, digestAt, rowAt, viewOf}
+use Rattle.table.specs.Form.{inForm}
+use Rattle.table.specs.Checks.{Check, answerTo}
+use Rattle.interpret.specs.Buffer.{bufferSize, partStart}
+use Rattle.join.specs.Join.{clashAt, isExtra, joinedCount, joinChecks, joinBelow, placeIn, handedBack}
+use Rattle.join.specs.Promises.{placeBehind}
+
+-- ---- the checks in two parts: 2, 12 and 23; then 24 and 25, which read the tables alone
+
+abbrev pub sidesChecks : Bytes → Bytes → ℕ → ℕ → ℕ → List Check
+sidesChecks left right leftSize rightSize size = take 3 (joinChecks left right leftSize rightSize size)
+
+abbrev pub blocksChecks : Bytes → Bytes → List Check
+blocksChecks left right = drop 3 (joinChecks left right 0 0 0)
+
+abbrev pub blocksAnswer : Bytes → Bytes → Answer
+blocksAnswer left right = answerTo (blocksChecks left right) (joinedCount (viewOf left) (viewOf right))
+
+-- ---- what the checks have shown
+
+-- check 2
+pub record BothFormed (left right : Bytes) : Type 0 where
+  pub leftFormed : inForm left ≡ true
+  pub rightFormed : inForm right ≡ true
+
+-- and 12
+pub record Sides (left right : Bytes) (leftRecords rightRecords : List ℕ) : Type 0 where
+  pub formed : BothFormed left right
+  pub leftSize : length leftRecords ≡ bufferSize
+  pub rightSize : length rightRecords ≡ bufferSize
+
+-- 2, 23, 24 and 25, of the two tables
+pub record Joinable (left right : Bytes) : Type 0 where
+  pub formed : BothFormed left right
+  pub setup : setupOf left ≡ setupOf right
+  pub apart : anyBelow (clashAt (viewOf left) (viewOf right)) (countOf left) ≡ false
+  pub fits : joinedCount (viewOf left) (viewOf right) ≤ maxPlaces
+
+-- all of them, with the records
+pub record Passed (left right : Bytes) (leftRecords rightRecords third : List ℕ) : Type 0 where
+  pub joinable : Joinable left right
+  pub sides : Sides left right leftRecords rightRecords
+  pub size : length third ≡ bufferSize
+
+-- ---- where blocks stand, as a list of places
+
+-- for each place of `other` the place of its block in the table, or the table's count
+pub record Held (table other : Bytes) (places : List ℕ) : Type 0 where
+  pub size : length places ≡ maxPlaces
+  pub at : (k : ℕ) → k < countOf other → getD places k 0 ≡ placeIn (viewOf table) (digestAt other k)
+
+-- the place in the result of the right's block j
+abbrev pub resultPlace : Bytes → Bytes → ℕ → ℕ
+resultPlace left right j = cond (isExtra (viewOf left) (viewOf right) j) (placeBehind left right j) (placeIn (viewOf left) (digestAt right j))
+
+-- for each place of the right
+pub record Numbered (left right : Bytes) (places : List ℕ) : Type 0 where
+  pub size : length places ≡ maxPlaces
+  pub at : (j : ℕ) → j < countOf right → getD places j 0 ≡ resultPlace left right j
+
+-- the blocks of these references all stand at places of the mask
+abbrev pub withinBy : ℕ → List ℕ → ℕ → Bool
+withinBy references places mask = not (anyBelow (λ k. inMask references k && not (inMask mask (getD places k 0))) maxPlaces)
+
+-- they all have a place in the result
+pub record EachPlaced (references : ℕ) (places : List ℕ) : Type 0 where
+  pub size : length places ≡ maxPlaces
+  pub below : (k : ℕ) → k < maxPlaces → inMask references k ≡ true → getD places k 0 < maxPlaces
+
+-- the mask of these places
+abbrev pub renumberedBy : ℕ → List ℕ → ℕ
+renumberedBy references places = maskBelow (λ p. anyBelow (λ k. inMask references k && eqb (getD places k 0) p) maxPlaces) maxPlaces
+
+-- ---- steps
+
+-- a place of each side, and where the blocks of each side stand in the other
+pub record Pair (left : Bytes) (i : ℕ) (right : Bytes) (j : ℕ) (inRight inLeft : List ℕ) : Type 0 where
+  pub formed : BothFormed left right
+  pub there : Held right left inRight
+  pub back : Held left right inLeft
+  pub first : i < countOf left
+  pub second : j < countOf right
+
+-- the bytes of a row with these references in place of its own
+abbrev pub withReferences : Bytes → ℕ → Bytes
+withReferences row references = take referencesOffset row ++ (wordBytes wordSize references ++ drop requestsOffset row)
+
+-- the row of the right's place j with these references
+abbrev pub rowWith : Bytes → ℕ → ℕ → Row
+rowWith right j references =
+    record {
+      digest = rowAt right j .digest;
+      site = rowAt right j .site;
+      sequence = rowAt right j .sequence;
+      refersTo = inMask references;
+      request = rowAt right j .request;
+      mark = rowAt right j .mark;
+    }
+
+-- the table after the right's places below j
+pub record Next (t right : Bytes) (j : ℕ) (places : List ℕ) : Type 0 where
+  pub left : Bytes
+  pub joinable : Joinable left right
+  pub numbered : Numbered left right places
+  pub below : j < countOf right
+  pub is : t ≡ joinBelow left (viewOf right) j
+
+-- the parts of the right's blocks below k that are not in the left, copied to the places behind the left's
+unfoldable pub extrasBelow : Bytes → Bytes → List ℕ → List ℕ → List ℕ → ℕ → List ℕ
+extrasBelow left right leftRecords rightRecords third zero = third
+extrasBelow left right leftRecords rightRecords third (suc k) =
+    cond (isExtra (viewOf left) (viewOf right) k)
+    (splice (extrasBelow left right leftRecords rightRecords third k) (partStart (placeBehind left right k))
+    (handedBack (viewOf left) (viewOf right) leftRecords rightRecords (countOf left) k))
+    (extrasBelow left right leftRecords rightRecords third k)

@@ -1,0 +1,44 @@
+// Where blocks of one table stand in another: each is looked up once, and all that follows goes by its place.
+use table::rows;
+use table::rules;
+ghost use mathlib.Core.Path.{_≡_};
+ghost use lib.ListN.{length};
+ghost use Rattle.table.specs.View.{maxPlaces};
+ghost use Rattle.table.specs.Layout.{viewOf};
+ghost use Rattle.join.specs.Join.{joinedCount};
+ghost use Rattle.join.specs.Steps.{BothFormed, Held, Numbered};
+
+// For each place of `other` the place of its block in the table, or the table's count.
+pub fn place_all(table: &[u8], other: &[u8], places: &mut [u8])
+    requires { ⌜ BothFormed (now table) (now other) × (length (now places) ≡ maxPlaces) ⌝ }
+    ensures { λ _. ⌜ Held (now (table .entry)) (now (other .entry)) (now (places .exit)) ⌝ }
+{
+    let held = rows::count_of(table);
+    let count = rows::count_of(other);
+    let mut k = 0;
+    while k < count {
+        let place = rules::place_of(table, held, rows::digest_at(other, k));
+        places[k] = place as u8;
+        k += 1;
+    }
+}
+
+// Gives each block of the right that is not in the left the next place behind the left's; how many blocks the two have together.
+pub fn number_extras(left: &[u8], right: &[u8], places: &mut [u8]) -> usize
+    requires { ⌜ BothFormed (now left) (now right) × Held (now left) (now right) (now places) ⌝ }
+    ensures { λ r. ⌜ r ≡ joinedCount (viewOf (now (left .entry))) (viewOf (now (right .entry))) ⌝ }
+    ensures { λ _. ⌜ Numbered (now (left .entry)) (now (right .entry)) (now (places .exit)) ⌝ }
+{
+    let held = rows::count_of(left);
+    let count = rows::count_of(right);
+    let mut next = held;
+    let mut j = 0;
+    while j < count {
+        if held <= base::wide(places[j]) {
+            places[j] = next as u8;
+            next += 1;
+        }
+        j += 1;
+    }
+    next
+}
