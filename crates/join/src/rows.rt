@@ -35,7 +35,11 @@ fn write_row(table: &mut [u8], at: usize, row: &[u8], references: u64)
         at + table::REFERENCES_OFFSET,
         &base::word_bytes(references),
     );
-    base::put(table, at + table::REQUESTS_OFFSET, &row[table::REQUESTS_OFFSET..]);
+    base::put(
+        table,
+        at + table::REQUESTS_OFFSET,
+        &row[table::REQUESTS_OFFSET..],
+    );
 }
 
 // Puts the row of the right's place j at the next place, with these references, and the count one more.

@@ -38,8 +38,7 @@ returns-2 c =
     let count = count-at (c .before) in
     let apart = apart-of count in
     let clash = apart .before .before in
-    let a = start-of clash .args in
-    (
+    let a = start-of clash .args in (
       way25 (a .left .now) (a .right .now) _ _ (clash .first-clash .ensures) (apart .before .count-of .ensures) (apart .if1 .left) _ (count .number-extras .ensures .0) (c .if2 .taken),
       λ e. absurd (omega arith),
     )
@@ -49,8 +48,7 @@ returns-3 c =
     let count = count-at (c .before) in
     let apart = apart-of count in
     let clash = apart .before .before in
-    let a = start-of clash .args in
-    (
+    let a = start-of clash .args in (
       way0 (a .left .now) (a .right .now) _ _ (clash .first-clash .ensures) (apart .before .count-of .ensures) (apart .if1 .left) _ (count .number-extras .ensures .0) (c .if2 .left),
       λ e. count .number-extras .ensures .1,
     )

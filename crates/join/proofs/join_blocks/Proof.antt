@@ -57,8 +57,7 @@ join-sides-requires c κs =
     let answer = answer-of (pass .before) in
     let s = start-at answer in
     let a = s .args in
-    let e = answer .blocks-answer .ensures in
-    (
+    let e = answer .blocks-answer .ensures in (
       passed (a .left .now) (a .right .now) (a .left-records .now) (a .right-records .now) (a .third .now) (s .pre) _ (e .0) (pass .if1 .left),
       there-of (back-of answer) .place-all .ensures,
       e .1 (pass .if1 .left),

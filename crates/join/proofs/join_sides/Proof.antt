@@ -43,8 +43,7 @@ returns c =
     let extras = extras-of rows in
     let left = left-of extras in
     let s = start-of left in
-    let a = s .args in
-    (
+    let a = s .args in (
       rows .join-rows .ensures,
       all-copied (a .left .now) (a .right .now) (a .left-records .now) (a .right-records .now) (a .third .now) (s .pre .0) _ _ (left .copy-left .ensures) (extras .copy-extras .ensures),
     )

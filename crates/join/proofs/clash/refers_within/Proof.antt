@@ -66,8 +66,7 @@ loop-again : tie.Need-loop-again Inv-loop μ-loop
 loop-again c =
     let h = highest-of (c .before) .highest in
     let l = loop-of (highest-of (c .before)) in
-    let a = start-of l .args in
-    (
+    let a = start-of l .args in (
       l .loop .inv .0,
       rw (one-place (h .result) (h .ensures .0))
           (fails-later (l .loop .left) (h .result) (h .ensures .0) (h .ensures .1) (h .ensures .2) (stands (a .places .now) (a .mask)) (its (c .before) ∙ not-false _ (c .if1 .left))

@@ -69,8 +69,7 @@ loop-again c =
     let a = start-of (at .before) .args in
     let inv = l .inv in
     let below : l .j < countOf (a .right .now) = omega (arith, inv .4) in
-    let here = w .wide .ensures ∙ inv .2 .at (l .j) below in
-    (
+    let here = w .wide .ensures ∙ inv .2 .at (l .j) below in (
       inv .0,
       inv .1,
       inv .2,

@@ -62,8 +62,7 @@ loop-again c =
     let at = loop-of w in
     let l = at .loop in
     let a = start-of (at .before) .args in
-    let inv = l .inv in
-    (
+    let inv = l .inv in (
       inv .0,
       inv .1,
       inv .2,

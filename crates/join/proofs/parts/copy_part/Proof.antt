@@ -18,8 +18,13 @@ put-requires : tie.Need-put-requires
 put-requires c κs =
     let s = start-of (c .before) in
     let a = s .args in
-    omega (arith, s .pre .1, s .pre .2, ap {B = ℕ} length (c .before .part-of .ensures),
-    handed-short (viewOf (a .left .now)) (viewOf (a .right .now)) (a .left-records .now) (a .right-records .now) (a .i) (a .j))
+    omega (
+      arith,
+      s .pre .1,
+      s .pre .2,
+      ap {B = ℕ} length (c .before .part-of .ensures),
+      handed-short (viewOf (a .left .now)) (viewOf (a .right .now)) (a .left-records .now) (a .right-records .now) (a .i) (a .j),
+    )
 
 returns : tie.Need-returns
 returns c =

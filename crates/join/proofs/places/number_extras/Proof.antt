@@ -29,9 +29,15 @@ count-of-requires-2 c κs = formed-of _ (c .before .before .before .before .pre 
 
 loop-holds : tie.Need-loop-holds Inv-loop μ-loop
 loop-holds c =
-    let s = c .before .before .before .before .before in
-    (s .pre .0, c .before .count-of .ensures, c .count-of2 .ensures, omega arith, number-start _ _ _ _ (s .pre .1) (c .before .count-of .ensures),
-    formed-of _ (s .pre .0 .leftFormed) .held .fits, omega (arith, c .count-of2 .ensures, formed-of _ (s .pre .0 .rightFormed) .held .fits))
+    let s = c .before .before .before .before .before in (
+      s .pre .0,
+      c .before .count-of .ensures,
+      c .count-of2 .ensures,
+      omega arith,
+      number-start _ _ _ _ (s .pre .1) (c .before .count-of .ensures),
+      formed-of _ (s .pre .0 .leftFormed) .held .fits,
+      omega (arith, c .count-of2 .ensures, formed-of _ (s .pre .0 .rightFormed) .held .fits),
+    )
 
 -- a turn
 abbrev loop-of : tie.After-wide Inv-loop μ-loop → tie.At-loop Inv-loop μ-loop
@@ -58,8 +64,7 @@ loop-again c =
     let w = c .before in
     let at = loop-of w in
     let l = at .loop in
-    let below : l .j < countOf (at .before .before .before .before .before .before .args .right .now) = omega (arith, l .inv .2) in
-    (
+    let below : l .j < countOf (at .before .before .before .before .before .before .args .right .now) = omega (arith, l .inv .2) in (
       l .inv .0,
       l .inv .1,
       l .inv .2,

@@ -66,9 +66,14 @@ loop-again : tie.Need-loop-again Inv-loop μ-loop
 loop-again c =
     let l = loop-of c .loop in
     let a = loop-of c .before .before .before .before .before .before .args in
-    let few = formed-of _ (l .inv .0 .rightFormed) .held .fits in
-    (l .inv .0, l .inv .1, l .inv .2, omega arith, held-next _ _ (l .k) _ (l .places) (l .inv .4) (omega (arith, few, l .inv .2))
-    (c .place-of .ensures ∙ ap₂ (placeOf (viewOf (a .table .now))) (l .inv .1) (c .before .digest-at .ensures)))
+    let few = formed-of _ (l .inv .0 .rightFormed) .held .fits in (
+      l .inv .0,
+      l .inv .1,
+      l .inv .2,
+      omega arith,
+      held-next _ _ (l .k) _ (l .places) (l .inv .4) (omega (arith, few, l .inv .2))
+          (c .place-of .ensures ∙ ap₂ (placeOf (viewOf (a .table .now))) (l .inv .1) (c .before .digest-at .ensures)),
+    )
 
 returns : tie.Need-returns Inv-loop μ-loop
 returns c =

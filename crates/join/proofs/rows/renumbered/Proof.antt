@@ -55,8 +55,7 @@ loop-again : tie.Need-loop-again Inv-loop μ-loop
 loop-again c =
     let h = highest-of c .highest in
     let l = loop-of (highest-of c) .loop in
-    let q = c .wide .result in
-    (
+    let q = c .wide .result in (
       l .inv .0,
       rw (one-place (h .result) (h .ensures .0), one-place q (stands c))
           (marking-next (l .left) (h .result) (h .ensures .0) (h .ensures .1) (h .ensures .2) _ _ (l .mask) q (l .inv .1) (c .wide .ensures) (stands c)),
