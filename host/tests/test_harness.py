@@ -9,11 +9,12 @@ CASES = 10_000
 STREAMS = 1_500
 GROUPS = 4_000
 SHELVES = 4_000
-FEWEST_MUTANTS = 935
+JOINS = 4_000
+FEWEST_MUTANTS = 1_130
 # 1 is no answer of admission: it is for a setup.
 ANSWERS = {"gt_admit": {0, *range(2, 12)}, "gt_interpret": {0, 2, 12, 13, 14, 15}, "gt_forks": {0, 2},
            "gt_ancestors": {0, 2, 13}, "gt_build": {0, 2, 3, 4, 6, 16, 17},
-           "gt_arrive": {0, *range(2, 12), 17, 19, 20, 21}}
+           "gt_arrive": {0, *range(2, 12), 17, 19, 20, 21}, "gt_join": {0, 2, 12, 23, 24, 25}}
 # What else must have been met: else the comparison shows little.
 MET = ["campaigns with a slot delivered at both sites", "up to f forked: two numbers sent, one delivered",
        "blocks interpreted at both sites", "tables watched with f forked sites", "tables watched with f + 1 forked sites",
@@ -46,6 +47,23 @@ SHELVED = ["shelves in form", "shelves not in form", "shelves with each bit flip
 # How often campaigns must have been made once more alone: else little is shown of their independence.
 FEWEST_ALONE = {"campaigns replayed alone": 2_000, "campaigns replayed alone that got 19": 700,
                 "campaigns replayed alone with waiting blocks ended": 800}
+# What joins must have met.
+JOINED = [*(f"joins of {sides}" for sides in (
+              "overlapping sides", "a right inside the left", "a left inside the right", "equal sides",
+              "sides with nothing in common", "an empty left", "an empty right", "two empty sides", "two full sides")),
+          "joins to 63 blocks", "joins to 64 blocks", "25 for 65 blocks", "25 for 66 blocks or more, two sides not full",
+          *(f"joins with a block interpreted at {sides}" for sides in (
+              "the left alone", "the right alone", "both sides", "neither side")),
+          "joins with a new block whose references move", "joins with other parts at the two sides",
+          "23 for n alone", "23 for one owner alone",
+          *(f"24 for {what}" for what in (
+              "the site alone", "the sequence number alone", "one request alone", "a reference more at the left",
+              "a reference more at the right", "as many other references", "several blocks")),
+          "24 where the result would be too great",
+          *(f"{number} for {buffer} {length} by one" for length in ("short", "long") for number, buffer in (
+              (2, "a left"), (2, "a right"), (12, "left records"), (12, "right records"), (12, "a third buffer")))]
+# How often joined sites must have gone on beside one that got all blocks: else little is shown of their agreement.
+FEWEST_GONE_ON = {"joined sites that went on": 1_000, "joined sites that went on and delivered": 250}
 # The same of listings. Their tables are in form, so that no arrival is answered 2.
 LISTED = [*(f"arrivals answered {number}" for number in (0, *range(3, 12))),
           "listings of no bytes", "listings of a short setup", "listings of an unlawful setup", "listings without an arrival",
@@ -111,6 +129,16 @@ def test_shelves():
     expect_answered(text, "gt_arrive")
     expect_met(text, SHELVED)
     for name, fewest in FEWEST_ALONE.items():
+        expect_met(text, [name], fewest)
+
+
+def test_joins():
+    """Two controllers whose tables and records calls reached, and others, some with something wrong."""
+    text = output_of([HARNESS, "--kind", "joins", "--seed", "1", "--cases", str(JOINS)])
+    expect(last_line(text) == f"{JOINS} cases, 0 differences", text)
+    expect_answered(text, "gt_join")
+    expect_met(text, JOINED)
+    for name, fewest in FEWEST_GONE_ON.items():
         expect_met(text, [name], fewest)
 
 

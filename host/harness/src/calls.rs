@@ -27,6 +27,15 @@ pub trait Calls {
         verdict: u8,
         outcomes: &mut [u64],
     ) -> ArrivalAnswer;
+    /// The left's table becomes that of both, and the parts of its interpreted places go to the third buffer.
+    fn join(
+        &self,
+        left: &mut [u8],
+        right: &mut [u8],
+        left_records: &mut [u16],
+        right_records: &mut [u16],
+        third: &mut [u16],
+    ) -> Answer;
     fn read_block(&self, block: &mut [u8]) -> Reading;
     fn digest(&self, message: &mut [u8], output: &mut [u8]) -> Answer;
     /// What the listing program leaves for an input, which goes to it by a pipe: it can't write there.

@@ -12,9 +12,9 @@ pub struct Built {
     pub bytes: Vec<u8>,
     /// The blocks that it refers to: bit i is block i.
     pub references: u128,
-    digest: Digest,
-    site: u8,
-    sequence: u16,
+    pub digest: Digest,
+    pub site: u8,
+    pub sequence: u16,
 }
 
 pub struct Campaign {

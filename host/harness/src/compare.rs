@@ -9,7 +9,7 @@ use crate::lent::{first_other, hex, Lent, Sides};
 use crate::model::Model;
 use crate::record::record_at;
 use crate::replay;
-use crate::sizes::{MAX_BLOCK_BYTES, OUTCOMES_NUMBERS};
+use crate::sizes::{MAX_BLOCK_BYTES, OUTCOMES_NUMBERS, PART_NUMBERS};
 use crate::table::{places, Table};
 
 /// Something that the two sides have different, with what they were given.
@@ -49,8 +49,9 @@ pub struct Next<'a> {
 
 /// Bytes behind an output that aren't lent with it: a call that writes past the output's end is seen.
 const BEHIND_OUTPUT: usize = MAX_BLOCK_BYTES;
-/// The same of outcomes.
+/// The same of outcomes, and of a third record buffer.
 const BEHIND_OUTCOMES: usize = OUTCOMES_NUMBERS;
+const BEHIND_THIRD: usize = PART_NUMBERS;
 
 /// The library, or what stands in its place, beside the model.
 pub struct Compare<'a> {
@@ -249,6 +250,31 @@ impl Compare<'_> {
             Difference { call: "gt_arrive", what, inputs }
         })?;
         self.counts.arrival(answer);
+        Ok(answer)
+    }
+
+    /// Joins a right side's table and records to the left's, which the sides have. What it wrote to the third buffer is
+    /// left there.
+    pub fn join(&mut self, sides: &mut Sides, right: &Lent, third: &[u16]) -> Result<Answer, Difference> {
+        let before = sides.expected.table.clone();
+        let room = third.len();
+        sides.each(|lent| {
+            lent.right.clone_from(&right.table);
+            lent.right_records.clone_from(&right.records);
+            lent.third = [third, &[0; BEHIND_THIRD]].concat();
+        });
+        let answer = self.on_sides(sides, |calls, Lent { table, records, right, right_records, third, .. }| {
+            calls.join(table, right, records, right_records, &mut third[..room])
+        });
+        let answer = answer.map_err(|what| {
+            let tables = [shown("left", &before), shown("right", &right.table)];
+            let records = [&sides.expected.records, &right.records].map(Vec::len);
+            let lengths = [counted("left records", records[0]), counted("right records", records[1])];
+            let inputs = [&tables[..], &lengths, &[counted("third", room)]].concat();
+            Difference { call: "gt_join", what, inputs }
+        })?;
+        sides.each(|lent| lent.third.truncate(room));
+        self.counts.join(answer);
         Ok(answer)
     }
 

@@ -3,6 +3,7 @@
 mod built;
 mod campaigns;
 mod groups;
+mod joins;
 mod listings;
 mod shelves;
 mod watched;
@@ -13,15 +14,16 @@ use crate::answer::{AncestorPlaces, Answer, ArrivalAnswer, ForkedSites};
 use built::BuiltBlocks;
 use campaigns::Campaigns;
 use groups::Groups;
+use joins::Joins;
 use listings::Listings;
 use shelves::Shelves;
 use watched::Watched;
 
 pub use groups::Met;
 
-/// How often a call gave each answer, by its refusal number: these end at 21.
+/// How often a call gave each answer, by its refusal number: these end at 25.
 #[derive(Default)]
-struct Answered([u64; 22]);
+struct Answered([u64; 26]);
 
 /// What each call answers.
 const ADMISSION_ANSWERS: &[u8] = &[0, 2, 3, 4, 5, 6, 7, 8, 9, 10, 11];
@@ -30,6 +32,7 @@ const FORKS_ANSWERS: &[u8] = &[0, 2];
 const ANCESTORS_ANSWERS: &[u8] = &[0, 2, 13];
 const BUILDING_ANSWERS: &[u8] = &[0, 2, 3, 4, 6, 16, 17];
 const ARRIVAL_ANSWERS: &[u8] = &[0, 2, 3, 4, 5, 6, 7, 8, 9, 10, 11, 17, 19, 20, 21];
+const JOIN_ANSWERS: &[u8] = &[0, 2, 12, 23, 24, 25];
 
 impl Answered {
     fn note(&mut self, refusal: u8) {
@@ -57,6 +60,7 @@ pub struct Counts {
     pub watched: Watched,
     pub built: BuiltBlocks,
     pub shelves: Shelves,
+    pub joins: Joins,
     pub listings: Listings,
     admissions: Answered,
     interpretations: Answered,
@@ -64,6 +68,7 @@ pub struct Counts {
     ancestors: Answered,
     buildings: Answered,
     arrivals: Answered,
+    joined: Answered,
     replays: u64,
     /// The calls that ran in replays.
     replayed: u64,
@@ -104,6 +109,10 @@ impl Counts {
         self.arrivals.note(answer.answer.refusal);
     }
 
+    pub fn join(&mut self, answer: Answer) {
+        self.joined.note(answer.refusal);
+    }
+
     pub fn replay(&mut self, calls: usize) {
         self.replays += 1;
         self.replayed += calls as u64;
@@ -123,6 +132,7 @@ impl Display for Counts {
             ("gt_ancestors", &self.ancestors, ANCESTORS_ANSWERS),
             ("gt_build", &self.buildings, BUILDING_ANSWERS),
             ("gt_arrive", &self.arrivals, ARRIVAL_ANSWERS),
+            ("gt_join", &self.joined, JOIN_ANSWERS),
         ];
         writeln!(to, "gt_fresh      {:>8} calls", self.fresh)?;
         writeln!(to, "gt_in_form    {:>8} calls", self.in_form + self.not_in_form)?;
@@ -139,6 +149,7 @@ impl Display for Counts {
         }
         writeln!(to, "tables in form     {:>8}", self.in_form)?;
         writeln!(to, "tables not in form {:>8}", self.not_in_form)?;
-        write!(to, "{}{}{}{}{}", self.campaigns, self.watched, self.built, self.groups, self.shelves)
+        write!(to, "{}{}{}{}", self.campaigns, self.watched, self.built, self.groups)?;
+        write!(to, "{}{}", self.shelves, self.joins)
     }
 }

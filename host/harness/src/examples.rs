@@ -5,6 +5,7 @@
 mod built;
 mod holder;
 mod interpreted;
+mod joined;
 mod listed;
 mod lists;
 mod promised;
@@ -47,6 +48,7 @@ pub fn failed(calls: &dyn Calls) -> Vec<&'static str> {
     examples.extend(promised::all(calls));
     examples.extend(shelf_forms::all(calls));
     examples.extend(shelved::all(calls));
+    examples.extend(joined::all(calls));
     examples.into_iter().filter(|(_, holds)| !holds).map(|(name, _)| name).collect()
 }
 

@@ -4,19 +4,24 @@
 mod brought;
 mod built;
 mod ends;
+mod joined;
 mod promised;
+mod reached;
 mod seen;
 mod told;
 
 use crate::brought::Brought;
 use crate::compare::{shown, Difference};
 use crate::ends::Ends;
+use crate::joined::{Joined, Reached};
 use crate::seen::Seen;
 
 pub use brought::{ACCOUNTED_FOR, NEVER_19, ONLY_BY_9, PLAIN, STAYS_IN_FORM, TRIED_OUT};
 pub use built::{Built, LET_IN, READS_BACK, REFERS, REST_STAYS};
 pub use ends::{EQUAL_PARTS, ONE_NUMBER, REQUESTED, WATCHED};
+pub use joined::{AGAIN, IN_FORM, MARKED, PARTS, SAME_BLOCKS, STAYS_FIRST};
 pub use promised::{Promised, DELIVERED, FULL, PASSED_ON};
+pub use reached::{BY_CALLS, GOES_ON, SWAPPED};
 pub use seen::{CLOSED, LOWER, MORE_BLOCKS, NAMED, ONES, THIRD};
 pub use told::{Told, ANSWERED_9, INDEPENDENT};
 
@@ -69,4 +74,23 @@ pub fn check_brought(brought: &Brought) -> Result<(), Difference> {
 /// All calls of one campaign.
 pub fn check_told(told: &Told) -> Result<(), Difference> {
     check(&told::laws(), told, || vec![shown("table", &told.among_others.table)])
+}
+
+/// A join of any two sides.
+pub fn check_joined(joined: &Joined) -> Result<(), Difference> {
+    check(&joined::LAWS, joined, || both_tables(joined))
+}
+
+/// The same right joined once more.
+pub fn check_again(joined: &Joined) -> Result<(), Difference> {
+    check(&joined::LAW_OF_AGAIN, joined, || both_tables(joined))
+}
+
+/// A join of two sides that calls reached.
+pub fn check_reached(reached: &Reached) -> Result<(), Difference> {
+    check(&reached::laws(), reached, || both_tables(reached.joined))
+}
+
+fn both_tables(joined: &Joined) -> Vec<(String, String)> {
+    vec![shown("left", &joined.left.table), shown("right", &joined.right.table)]
 }

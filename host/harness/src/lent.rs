@@ -16,6 +16,10 @@ pub struct Lent {
     /// All campaigns of a controller share one; it goes from one to the other.
     pub shelf: Vec<u8>,
     pub outcomes: Vec<u64>,
+    /// A right side's table and records, and the buffer for the records of both.
+    pub right: Vec<u8>,
+    pub right_records: Vec<u16>,
+    pub third: Vec<u16>,
 }
 
 impl Lent {
@@ -26,19 +30,22 @@ impl Lent {
     /// The first item that is other than in `expected`, if there is one.
     pub fn first_other(&self, expected: &Lent) -> Option<String> {
         first_other("table", &self.table, &expected.table)
-            .or_else(|| self.first_other_record(&expected.records))
+            .or_else(|| first_other_record("records", &self.records, &expected.records))
             .or_else(|| first_other("block", &self.block, &expected.block))
             .or_else(|| first_other("calls", &self.calls, &expected.calls))
             .or_else(|| first_other("answers", &self.answers, &expected.answers))
             .or_else(|| first_other("shelf", &self.shelf, &expected.shelf))
             .or_else(|| first_other("outcomes", &self.outcomes, &expected.outcomes))
+            .or_else(|| first_other("right", &self.right, &expected.right))
+            .or_else(|| first_other_record("right records", &self.right_records, &expected.right_records))
+            .or_else(|| first_other_record("third", &self.third, &expected.third))
     }
+}
 
-    fn first_other_record(&self, expected: &[u16]) -> Option<String> {
-        let what = first_other("records", &self.records, expected)?;
-        let At { place, slot, entry } = At::of(other_at(&self.records, expected)?);
-        Some(format!("{what}: place {place}, slot {slot}, entry {entry}"))
-    }
+fn first_other_record(name: &str, tested: &[u16], expected: &[u16]) -> Option<String> {
+    let what = first_other(name, tested, expected)?;
+    let At { place, slot, entry } = At::of(other_at(tested, expected)?);
+    Some(format!("{what}: place {place}, slot {slot}, entry {entry}"))
 }
 
 /// Where a number of the record buffer stands.

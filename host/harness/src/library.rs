@@ -51,6 +51,18 @@ extern "C" {
         outcomes: *mut u64,
         outcomes_length: usize,
     ) -> ArrivalAnswer;
+    fn gt_join(
+        left: *mut u8,
+        left_length: usize,
+        right: *const u8,
+        right_length: usize,
+        left_records: *const u16,
+        left_records_length: usize,
+        right_records: *const u16,
+        right_records_length: usize,
+        third: *mut u16,
+        third_length: usize,
+    ) -> Answer;
 }
 
 // As declared in giangotum.h.
@@ -146,6 +158,30 @@ impl Calls for Library {
                 verdict,
                 outcomes.as_mut_ptr(),
                 outcomes.len(),
+            )
+        }
+    }
+
+    fn join(
+        &self,
+        left: &mut [u8],
+        right: &mut [u8],
+        left_records: &mut [u16],
+        right_records: &mut [u16],
+        third: &mut [u16],
+    ) -> Answer {
+        unsafe {
+            gt_join(
+                left.as_mut_ptr(),
+                left.len(),
+                right.as_mut_ptr(),
+                right.len(),
+                left_records.as_mut_ptr(),
+                left_records.len(),
+                right_records.as_mut_ptr(),
+                right_records.len(),
+                third.as_mut_ptr(),
+                third.len(),
             )
         }
     }

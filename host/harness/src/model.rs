@@ -9,6 +9,7 @@ use crate::checks::{first_refusal, Check};
 use crate::ended::Ended;
 use crate::form::{self, Condition};
 use crate::interpretation::{Asked, Interpretation};
+use crate::joining::{Joining, Two};
 use crate::listing::{Line, Listing};
 use crate::replay::{Call, Replay};
 use crate::setup;
@@ -38,6 +39,7 @@ pub struct Model {
     pub building: Building,
     pub replay: Replay,
     pub shelving: Shelving,
+    pub joining: Joining,
     pub reading: Vec<Check<[u8]>>,
     pub fields: fn(&[u8]) -> Fields,
     pub digest: fn(&[u8]) -> Digest,
@@ -60,6 +62,7 @@ impl Model {
             building: Building::document(),
             replay: Replay::document(),
             shelving: Shelving::document(),
+            joining: Joining::document(),
             // "Reading checks 3, 6 and 7".
             reading: vec![
                 Check { number: 3, finds: block::misshapen },
@@ -219,6 +222,27 @@ impl Calls for Model {
         held.write(shelf);
         (rules.note)(outcomes, &ended);
         ArrivalAnswer { answer: admission, ended: ended.len() }
+    }
+
+    fn join(
+        &self,
+        left: &mut [u8],
+        right: &mut [u8],
+        left_records: &mut [u16],
+        right_records: &mut [u16],
+        third: &mut [u16],
+    ) -> Answer {
+        let rules = &self.joining;
+        let ((left_table, left_in_form), (right_table, right_in_form)) = (self.held(left), self.held(right));
+        let numbers = [left_records.len(), right_records.len(), third.len()];
+        let two = Two { left: left_table, right: right_table, left_in_form, right_in_form, numbers };
+        if let Some(refusal) = first_refusal(&rules.checks, &two) {
+            return refusal;
+        }
+        let blocks = (rules.blocks)(&two);
+        rules.copy(&two, &blocks, left_records, right_records, third);
+        rules.table(&two, &blocks).write(left);
+        Answer::success(blocks.len())
     }
 
     fn read_block(&self, block: &mut [u8]) -> Reading {

@@ -6,9 +6,12 @@
 mod admission;
 mod arrival;
 mod building;
+mod clash;
 mod form;
 mod fresh;
 mod interpretation;
+mod joined;
+mod joining;
 mod listing;
 mod meaning;
 mod process;
@@ -45,6 +48,7 @@ pub struct Mutant {
     after_replay: AfterReplay,
     after_shelf_form: AfterForm,
     after_arrival: AfterArrival,
+    after_join: AfterJoin,
     after_reading: AfterReading,
     after_digest: AfterCall,
     after_listing: AfterListing,
@@ -59,6 +63,7 @@ type AfterAncestors = Box<dyn Fn(AncestorPlaces, &mut [u8], usize) -> AncestorPl
 type AfterBuilding = Box<dyn Fn(Answer, Building) -> Answer>;
 type AfterReplay = Box<dyn Fn(usize, &mut [u8], &mut [u16], &mut [u8], &mut [u64]) -> usize>;
 type AfterArrival = Box<dyn Fn(ArrivalAnswer, Arriving) -> ArrivalAnswer>;
+type AfterJoin = Box<dyn Fn(Answer, Joined) -> Answer>;
 type AfterListing = Box<dyn Fn(Ended, &[u8]) -> Ended>;
 type AfterCall = Box<dyn Fn(Answer, &mut [u8], &mut [u8]) -> Answer>;
 
@@ -77,6 +82,15 @@ struct Arriving<'a> {
     campaign: u8,
     block: &'a mut [u8],
     outcomes: &'a mut [u64],
+}
+
+/// What a join was given, as the call left it.
+struct Joined<'a> {
+    left: &'a mut [u8],
+    right: &'a mut [u8],
+    left_records: &'a mut [u16],
+    right_records: &'a mut [u16],
+    third: &'a mut [u16],
 }
 
 /// A mistake by its name.
@@ -104,6 +118,13 @@ pub fn of_shelves() -> Vec<Mutant> {
     let mut mutants = shelf_form::conditions_left_out();
     mutants.extend(arrival::checks_exchanged());
     mutants.extend(mistaken(&mistakes_with_shelves()));
+    mutants
+}
+
+/// Those that cases of joins find.
+pub fn of_joins() -> Vec<Mutant> {
+    let mut mutants = joining::checks_exchanged();
+    mutants.extend(mistaken(&mistakes_in_joins()));
     mutants
 }
 
@@ -210,6 +231,48 @@ pub fn lawless_with_shelves() -> Vec<(Mutant, &'static str)> {
     ])
 }
 
+/// The same of laws about joins.
+pub fn lawless_in_joins() -> Vec<(Mutant, &'static str)> {
+    with_laws(&[
+        (&[joined::NOT_RENUMBERED], IN_FORM),
+        (&[joined::NEW_REVERSED], IN_FORM),
+        (&[joined::HELD_TWICE], IN_FORM),
+        (&[joined::MARKS_OF_RIGHT], IN_FORM),
+        (&[joined::NEW_FIRST], STAYS_FIRST),
+        (&[joined::RIGHT_FIRST], STAYS_FIRST),
+        (&[joined::NEW_REVERSED], STAYS_FIRST),
+        (&[joined::LEFT_ALONE], STAYS_FIRST),
+        (&[joined::LAST_BYTE_LEFT_OUT], STAYS_FIRST),
+        (&[joined::NOT_RENUMBERED], SAME_BLOCKS),
+        (&[joined::NEW_REFERENCES_LOST], SAME_BLOCKS),
+        (&[joined::REQUESTS_LOST], SAME_BLOCKS),
+        (&[joined::MARKS_OF_LEFT], MARKED),
+        (&[joined::MARKS_OF_BOTH], MARKED),
+        (&[joined::NEW_NOT_MARKED], MARKED),
+        (&[joined::RIGHTS_PART], PARTS),
+        (&[joined::PART_OF_LEFT_ALONE], PARTS),
+        (&[joined::EMPTY_PART], PARTS),
+        (&[joined::OLD_PLACE_READ], PARTS),
+        (&[joined::HELD_TWICE], AGAIN),
+        (&[joined::LAST_BYTE_LEFT_OUT], AGAIN),
+        (&[joined::NOT_RENUMBERED], AGAIN),
+        (&[joined::NEW_REVERSED], GOES_ON),
+        (&[joined::NOT_RENUMBERED], GOES_ON),
+        (&[joined::LEFT_ALONE], GOES_ON),
+        (&[joined::MARKS_OF_LEFT], SWAPPED),
+        (&[joined::EMPTY_PART], SWAPPED),
+        (&[joined::PART_OF_LEFT_ALONE], SWAPPED),
+        (&[joined::NEW_REVERSED], BY_CALLS),
+        (&[joined::RIGHT_FIRST], BY_CALLS),
+        (&[joined::REQUESTS_LOST], BY_CALLS),
+        (&[joined::NEW_REFERENCES_LOST], BY_CALLS),
+        (&[joined::EMPTY_PART], EQUAL_PARTS),
+        (&[joined::PART_OF_LEFT_ALONE], EQUAL_PARTS),
+        (&[joined::OLD_PLACE_READ], EQUAL_PARTS),
+        (&[joined::NEW_REFERENCES_LOST], EQUAL_PARTS),
+    ])
+}
+
 /// Mutants by the names of their mistakes.
 fn with_laws(names: &[(&[&str], &'static str)]) -> Vec<(Mutant, &'static str)> {
     names.iter().map(|(names, law)| (Mutant::of(names), *law)).collect()
@@ -222,6 +285,10 @@ fn mistakes() -> Vec<Mistake> {
     [tables.concat(), records.concat(), readers.concat()].concat()
 }
 
+fn mistakes_in_joins() -> Vec<Mistake> {
+    [joining::MISTAKES, clash::MISTAKES, joined::MISTAKES].concat()
+}
+
 fn mistakes_with_shelves() -> Vec<Mistake> {
     [shelf_form::MISTAKES, arrival::MISTAKES, shelf_rule::MISTAKES, tries::MISTAKES].concat()
 }
@@ -230,7 +297,7 @@ impl Mutant {
     /// With all mistakes of these names.
     fn of(names: &[&str]) -> Mutant {
         let make = |mutant: &mut Mutant| {
-            let all = [mistakes(), mistakes_with_shelves()].concat();
+            let all = [mistakes(), mistakes_with_shelves(), mistakes_in_joins()].concat();
             for wanted in names {
                 let (_, mistake) = all.iter().find(|(name, _)| name == wanted).expect("a mistake's name");
                 mistake(mutant);
@@ -258,6 +325,7 @@ impl Mutant {
             after_replay: Box::new(|ran, _, _, _, _| ran),
             after_shelf_form: Box::new(|answer, _| answer),
             after_arrival: Box::new(|answer, _| answer),
+            after_join: Box::new(|answer, _| answer),
             after_reading: Box::new(|reading, _| reading),
             after_digest: Box::new(|answer, _, _| answer),
             after_listing: Box::new(|ended, _| ended),
@@ -347,6 +415,10 @@ impl Mutant {
         self.after_arrival = Box::new(after);
     }
 
+    fn after_join(&mut self, after: impl Fn(Answer, Joined) -> Answer + 'static) {
+        self.after_join = Box::new(after);
+    }
+
     fn after_digest(&mut self, after: impl Fn(Answer, &mut [u8], &mut [u8]) -> Answer + 'static) {
         self.after_digest = Box::new(after);
     }
@@ -431,6 +503,18 @@ impl Calls for Mutant {
     ) -> ArrivalAnswer {
         let answer = self.model.arrive(table, shelf, campaign, block, verdict, outcomes);
         (self.after_arrival)(answer, Arriving { table, shelf, campaign, block, outcomes })
+    }
+
+    fn join(
+        &self,
+        left: &mut [u8],
+        right: &mut [u8],
+        left_records: &mut [u16],
+        right_records: &mut [u16],
+        third: &mut [u16],
+    ) -> Answer {
+        let answer = self.model.join(left, right, left_records, right_records, third);
+        (self.after_join)(answer, Joined { left, right, left_records, right_records, third })
     }
 
     fn read_block(&self, block: &mut [u8]) -> Reading {

@@ -4,7 +4,7 @@
 use std::ops::Range;
 
 use crate::calls::Calls;
-use crate::cases::{first_difference, Cases, Found, Kind, GROUPS, LISTINGS, SHELVES};
+use crate::cases::{first_difference, Cases, Found, Kind, GROUPS, JOINS, LISTINGS, SHELVES};
 use crate::counts::Counts;
 use crate::examples;
 use crate::model::Model;
@@ -22,16 +22,21 @@ pub fn run(options: &Options) -> bool {
     let listings = first(MOST_LISTINGS, &options.cases, &LISTINGS);
     let groups = first(MOST_GROUPS, &options.cases, &GROUPS);
     let shelves = first(MOST_SHELVES, &options.cases, &SHELVES);
+    let joins = first(MOST_JOINS, &options.cases, &JOINS);
     // The other way round: what follows the rules must not be found to differ.
-    for cases in [&options.cases, &listings, &shelves] {
+    for cases in [&options.cases, &listings, &shelves, &joins] {
         if let Some(found) = find(&model, &model, &mut cases.clone()) {
             println!("the model differs from itself, case {}, kind {}: {}", found.case, found.kind, found.difference);
             return false;
         }
     }
     let mut tally = Tally::default();
-    let by_cases =
-        [(mutants::all(), &options.cases), (mutants::of_listings(), &listings), (mutants::of_shelves(), &shelves)];
+    let by_cases = [
+        (mutants::all(), &options.cases),
+        (mutants::of_listings(), &listings),
+        (mutants::of_shelves(), &shelves),
+        (mutants::of_joins(), &joins),
+    ];
     for (mutants, cases) in by_cases {
         for mutant in mutants {
             let found = find(&mutant, &model, &mut cases.clone());
@@ -42,6 +47,7 @@ pub fn run(options: &Options) -> bool {
         (mutants::lawless(), &options.cases),
         (mutants::lawless_in_groups(), &groups),
         (mutants::lawless_with_shelves(), &shelves),
+        (mutants::lawless_in_joins(), &joins),
     ];
     for (lawless, cases) in by_laws {
         for (mutant, law) in lawless {
@@ -57,6 +63,7 @@ pub fn run(options: &Options) -> bool {
 const MOST_LISTINGS: u64 = 400;
 const MOST_GROUPS: u64 = 1000;
 const MOST_SHELVES: u64 = 1000;
+const MOST_JOINS: u64 = 1000;
 
 /// The first of the cases, so many at most, all of one kind.
 fn first(most: u64, cases: &Cases, kind: &'static Kind) -> Cases {

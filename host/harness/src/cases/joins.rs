@@ -1,0 +1,207 @@
+//! Joins of two controllers: of tables and records that calls reached, and of others, some with something wrong.
+
+use crate::clashes::{other_block, other_setup};
+use crate::compare::{Compare, Difference};
+use crate::contents::{any_numbers, records, some_length};
+use crate::damage::damaged;
+use crate::ends::Ends;
+use crate::joined::{join, Joined, Reached};
+use crate::laws;
+use crate::lent::{Lent, Sides};
+use crate::pairs::{some_union, Pair, Share};
+use crate::pool::{exchange_digests, first, has, set_of, some_order};
+use crate::random::Random;
+use crate::replay::{admission, interpretation};
+use crate::sizes::{BUFFER_NUMBERS, PLACES, TABLE_BYTES};
+use crate::table::Table;
+
+pub fn run(random: &Random, compare: &mut Compare) -> Result<(), Difference> {
+    match random.below(8) {
+        0..=2 => reached(random, compare),
+        _ => by_hand(random, compare),
+    }
+}
+
+// ---- Tables and records that calls reached
+
+/// Two sites get their blocks, and are joined. The joined site goes on, and agrees with one that got all blocks.
+fn reached(random: &Random, compare: &mut Compare) -> Result<(), Difference> {
+    // Small ones take less time.
+    let union = if random.one_in(4) { some_union(random).min(PLACES + 4) } else { random.between(0, 24) };
+    let pair = Pair::drawn(random, union);
+    let left = grown(random, compare, &pair, &pair.left)?;
+    let right = grown(random, compare, &pair, &pair.right)?;
+    let joined = join(compare, left, right, any_numbers(random, BUFFER_NUMBERS))?;
+    // Sometimes the laws that come first aren't held against it: so wrong rules show whether later ones say something by
+    // themselves.
+    let from = random.below(3);
+    if from == 0 {
+        check(random, &joined)?;
+    }
+    if joined.answer.refusal != 0 {
+        return Ok(());
+    }
+    let swapped = join(compare, joined.right.clone(), joined.left.clone(), joined.third.clone())?;
+    let by_calls = by_calls(compare, &pair, &joined)?;
+    let ahead = ahead(random, &pair);
+    let (site, went_on) = gone_on(compare, &pair, &joined, &ahead)?;
+    if from <= 1 {
+        laws::check_reached(&Reached { joined: &joined, swapped, by_calls, went_on })?;
+    }
+    let all = set_of(&ahead) | set_of(&pair.left.held) | set_of(&pair.right.held);
+    let other = grown(random, compare, &pair, &Share::whole(random, &pair.pool, all))?;
+    let watched = [compare.forks(&site.table)?, compare.forks(&other.table)?];
+    let ends = Ends::of([(&site, watched[0]), (&other, watched[1])]);
+    compare.counts.joins.went_on(&ends);
+    laws::check_ends(&ends)
+}
+
+/// What a list of calls leaves, on an empty table and these records. With the refusals.
+fn called(
+    compare: &mut Compare,
+    table: Vec<u8>,
+    records: Vec<u16>,
+    calls: &[u8],
+) -> Result<(Lent, Vec<u64>), Difference> {
+    let mut sides = Sides::new(Lent::new(table, records));
+    // A refusal and a value for each call, of which there are two for each place at most.
+    let ran = compare.replay(&mut sides, calls, &[0; 4 * PLACES])?;
+    let refusals = sides.expected.answers.chunks_exact(2).take(ran).map(|pair| pair[0]).collect();
+    Ok((Lent::new(sides.expected.table, sides.expected.records), refusals))
+}
+
+fn empty(pair: &Pair) -> Vec<u8> {
+    Table::empty(pair.pool.sites, pair.pool.owners).to_bytes()
+}
+
+/// A controller that came to its share by calls.
+fn grown(random: &Random, compare: &mut Compare, pair: &Pair, share: &Share) -> Result<Lent, Difference> {
+    let calls = share.calls(random, &pair.pool);
+    let (lent, _) = called(compare, empty(pair), any_numbers(random, BUFFER_NUMBERS), &calls)?;
+    Ok(lent)
+}
+
+/// What calls leave that bring the blocks of the result in its order, with the third buffer as records.
+fn by_calls(compare: &mut Compare, pair: &Pair, joined: &Joined) -> Result<Option<Lent>, Difference> {
+    let after = Table::from_bytes(&joined.after.table);
+    let mut calls = Vec::new();
+    for row in after.held() {
+        let Some(built) = pair.pool.blocks.iter().find(|built| built.digest == row.digest) else { return Ok(None) };
+        calls.extend(admission(1, &built.bytes));
+    }
+    let interpreted = (0..after.held().len()).filter(|&place| after.rows[place].mark == 1);
+    calls.extend(interpreted.flat_map(interpretation));
+    let (lent, _) = called(compare, empty(pair), joined.third.clone(), &calls)?;
+    Ok(Some(lent))
+}
+
+/// Blocks that neither side holds, as many as there is room for, in an order in which they could come.
+fn ahead(random: &Random, pair: &Pair) -> Vec<usize> {
+    let held = set_of(&pair.left.held) | set_of(&pair.right.held);
+    let mut ahead = some_order(random, &pair.pool.blocks, first(pair.pool.blocks.len()));
+    ahead.retain(|&block| !has(held, block));
+    ahead.truncate(PLACES.saturating_sub(held.count_ones() as usize));
+    ahead
+}
+
+/// The joined site interprets what isn't interpreted yet, and gets the blocks ahead. With the refusals.
+fn gone_on(
+    compare: &mut Compare,
+    pair: &Pair,
+    joined: &Joined,
+    ahead: &[usize],
+) -> Result<(Lent, Vec<u64>), Difference> {
+    let after = Table::from_bytes(&joined.after.table);
+    let open = (0..after.held().len()).filter(|&place| after.rows[place].mark == 0);
+    let mut calls: Vec<u8> = open.flat_map(interpretation).collect();
+    for (place, &block) in (after.count..).zip(ahead) {
+        calls.extend(admission(1, &pair.pool.blocks[block].bytes));
+        calls.extend(interpretation(place));
+    }
+    called(compare, joined.after.table.clone(), joined.after.records.clone(), &calls)
+}
+
+// ---- Any tables and records
+
+const JOINS_A_PAIR: usize = 3;
+
+/// Tables in form that mostly no calls reach, with any records. Each join has the same two at first, and mostly
+/// something is done to them.
+fn by_hand(random: &Random, compare: &mut Compare) -> Result<(), Difference> {
+    let mut pair = Pair::drawn(random, some_union(random));
+    exchange_digests(random, &mut pair.pool);
+    let tables = [&pair.left, &pair.right].map(|share| share.table(&pair.pool));
+    let numbers = if random.one_in(2) { any_numbers } else { records };
+    for _ in 0..JOINS_A_PAIR {
+        let spoiled = Spoiled::drawn(random, &tables);
+        let [left, right, third] = spoiled.numbers.map(|length| numbers(random, length));
+        let [left_table, right_table] = spoiled.tables;
+        let joined = join(compare, Lent::new(left_table, left), Lent::new(right_table, right), third)?;
+        check(random, &joined)?;
+    }
+    Ok(())
+}
+
+/// Holds the laws of any join against it, in one order or the other.
+fn check(random: &Random, joined: &Joined) -> Result<(), Difference> {
+    if random.one_in(2) {
+        laws::check_again(joined)?;
+    }
+    laws::check_joined(joined)?;
+    laws::check_again(joined)
+}
+
+/// The bytes of two tables, and how many numbers three record buffers have, after something was done to them.
+struct Spoiled {
+    tables: [Vec<u8>; 2],
+    numbers: [usize; 3],
+}
+
+impl Spoiled {
+    fn drawn(random: &Random, tables: &[Table; 2]) -> Spoiled {
+        // Often one thing, and often two, so that the order of checks shows.
+        let one_in = random.pick(&[1, 2, 3, 6, 1000]);
+        let mut tables = tables.clone();
+        if random.one_in(one_in) {
+            clash(random, &mut tables);
+        }
+        if random.one_in(2 * one_in) {
+            let side = random.below(2);
+            tables[side] = other_setup(random, &tables[side]);
+        }
+        let mut bytes = tables.each_ref().map(Table::to_bytes);
+        if random.one_in(2 * one_in) {
+            let side = random.below(2);
+            bytes[side] =
+                if random.one_in(3) { one_off(random, &tables[side]) } else { damaged(random, &tables[side]) };
+        }
+        let mut numbers = [BUFFER_NUMBERS; 3];
+        if random.one_in(2 * one_in) {
+            let near = random.pick(&[BUFFER_NUMBERS - 1, BUFFER_NUMBERS + 1]);
+            numbers[random.below(3)] = random.pick(&[near, near, some_length(random)]);
+            // All alike, now and then.
+            if random.one_in(8) {
+                numbers = [near; 3];
+            }
+        }
+        Spoiled { tables: bytes, numbers }
+    }
+}
+
+/// A block that both hold gets another field at one side; now and then several do.
+fn clash(random: &Random, tables: &mut [Table; 2]) {
+    for _ in 0..random.pick(&[1, 1, 1, 2, 4]) {
+        let side = random.below(2);
+        let [one, other] = [side, 1 - side].map(|side| &tables[side]);
+        let both = (0..one.count).filter(|&place| other.place_of(&one.rows[place].digest).is_some());
+        let both: Vec<usize> = both.collect();
+        tables[side] = other_block(random, one, &both);
+    }
+}
+
+/// A byte less than a table has, or one more.
+fn one_off(random: &Random, table: &Table) -> Vec<u8> {
+    let mut bytes = table.to_bytes();
+    bytes.resize(random.pick(&[TABLE_BYTES - 1, TABLE_BYTES + 1]), 0);
+    bytes
+}
