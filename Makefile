@@ -94,7 +94,7 @@ uninstall:
 	DESTDIR='$(DESTDIR)' tools/install.sh uninstall '$(PREFIX)'
 
 # What the host tests run.
-test-programs: host $(HOST)/digests $(HOST)/calls $(HOST)/core_calls $(HOST)/record_calls $(HOST)/watch_calls $(HOST)/shelf_calls $(HOST)/two_campaigns harness
+test-programs: host $(HOST)/digests $(HOST)/calls $(HOST)/core_calls $(HOST)/record_calls $(HOST)/watch_calls $(HOST)/shelf_calls $(HOST)/join_calls $(HOST)/two_campaigns harness
 
 # Cargo itself sees whether the harness's sources or the library changed.
 harness: prerequisites $(LIBRARY)
@@ -128,7 +128,7 @@ $(HOST)/dome: host/dome.c host/giangotum.h $(LIBRARY) | $(HOST)
 $(HOST)/digests $(HOST)/calls: $(HOST)/%: host/tests/%.c host/tests/checks.h host/giangotum.h $(LIBRARY) | $(HOST)
 	$(CC) $(CFLAGS) -Ihost -o $@ $< $(LIBRARY)
 
-$(HOST)/core_calls $(HOST)/record_calls $(HOST)/watch_calls $(HOST)/shelf_calls: $(HOST)/%: host/tests/%.c host/tests/campaigns.h host/tests/checks.h $(HEADERS) $(LIBRARY) | $(HOST)
+$(HOST)/core_calls $(HOST)/record_calls $(HOST)/watch_calls $(HOST)/shelf_calls $(HOST)/join_calls: $(HOST)/%: host/tests/%.c host/tests/campaigns.h host/tests/checks.h $(HEADERS) $(LIBRARY) | $(HOST)
 	$(CC) $(CFLAGS) -Ihost -o $@ $< $(LIBRARY)
 
 $(HOST)/two_campaigns: examples/two_campaigns.c $(HEADERS) $(LIBRARY) | $(HOST)

@@ -1,7 +1,7 @@
-"""The library's calls at the edges of what they take: calls.c, core_calls.c, record_calls.c, watch_calls.c and shelf_calls.c
-here."""
+"""The library's calls at the edges of what they take: calls.c, core_calls.c, record_calls.c, watch_calls.c, shelf_calls.c and
+join_calls.c here."""
 
-from programs import CALLS, CORE_CALLS, RECORD_CALLS, SHELF_CALLS, WATCH_CALLS, expect_all_ok
+from programs import CALLS, CORE_CALLS, JOIN_CALLS, RECORD_CALLS, SHELF_CALLS, WATCH_CALLS, expect_all_ok
 
 
 def test_digest_and_reading():
@@ -22,3 +22,7 @@ def test_watch_and_building():
 
 def test_shelf_and_arrivals():
     expect_all_ok(SHELF_CALLS)
+
+
+def test_joining():
+    expect_all_ok(JOIN_CALLS)

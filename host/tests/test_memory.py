@@ -4,8 +4,8 @@ import random
 
 import bad_inputs
 import generate
-from programs import (CALLS, CORE_CALLS, DOME, RECORD_CALLS, SHELF_CALLS, TWO_CAMPAIGNS, VALGRIND, WATCH_CALLS, digests, dome,
-                      expect, expect_same_lines, output_of, run)
+from programs import (CALLS, CORE_CALLS, DOME, JOIN_CALLS, RECORD_CALLS, SHELF_CALLS, TWO_CAMPAIGNS, VALGRIND, WATCH_CALLS,
+                      digests, dome, expect, expect_same_lines, output_of, run)
 from reference import text_of
 from test_examples import ARRIVALS, TWO_CAMPAIGNS_LINES
 
@@ -48,6 +48,10 @@ def test_watch_calls():
 
 def test_shelf_calls():
     output_of([*VALGRIND, SHELF_CALLS])
+
+
+def test_join_calls():
+    output_of([*VALGRIND, JOIN_CALLS])
 
 
 def test_two_campaigns():
