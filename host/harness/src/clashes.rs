@@ -45,9 +45,11 @@ fn changed(table: &Table, mut change: impl FnMut() -> Table) -> Table {
 
 type Change = fn(&Random, &Table, usize, &mut Row);
 
-const CHANGES: [Change; 6] = [
+// Requests stand here twice: there are eight of them, of two bytes each.
+const CHANGES: [Change; 7] = [
     |random, table, _, row| row.site = random.below(table.sites.into()) as u8,
     other_sequence,
+    other_request,
     other_request,
     reference_more,
     reference_less,

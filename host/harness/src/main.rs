@@ -63,6 +63,7 @@ mod shelf_form;
 mod shelves;
 mod shelving;
 mod sizes;
+mod spoiled;
 mod streams;
 mod table;
 mod tables;

@@ -1,9 +1,7 @@
 //! Joins of two controllers: of tables and records that calls reached, and of others, some with something wrong.
 
-use crate::clashes::{other_block, other_setup};
 use crate::compare::{Compare, Difference};
-use crate::contents::{any_numbers, records, some_length};
-use crate::damage::damaged;
+use crate::contents::{any_numbers, records};
 use crate::ends::Ends;
 use crate::joined::{join, Joined, Reached};
 use crate::laws;
@@ -12,7 +10,8 @@ use crate::pairs::{some_union, Pair, Share};
 use crate::pool::{exchange_digests, first, has, set_of, some_order};
 use crate::random::Random;
 use crate::replay::{admission, interpretation};
-use crate::sizes::{BUFFER_NUMBERS, PLACES, TABLE_BYTES};
+use crate::sizes::{BUFFER_NUMBERS, PLACES};
+use crate::spoiled::Spoiled;
 use crate::table::Table;
 
 pub fn run(random: &Random, compare: &mut Compare) -> Result<(), Difference> {
@@ -56,7 +55,7 @@ fn reached(random: &Random, compare: &mut Compare) -> Result<(), Difference> {
     laws::check_ends(&ends)
 }
 
-/// What a list of calls leaves, on an empty table and these records. With the refusals.
+/// What a list of calls leaves of a table and records. With the refusals.
 fn called(
     compare: &mut Compare,
     table: Vec<u8>,
@@ -133,9 +132,8 @@ fn by_hand(random: &Random, compare: &mut Compare) -> Result<(), Difference> {
     let tables = [&pair.left, &pair.right].map(|share| share.table(&pair.pool));
     let numbers = if random.one_in(2) { any_numbers } else { records };
     for _ in 0..JOINS_A_PAIR {
-        let spoiled = Spoiled::drawn(random, &tables);
-        let [left, right, third] = spoiled.numbers.map(|length| numbers(random, length));
-        let [left_table, right_table] = spoiled.tables;
+        let Spoiled { tables: [left_table, right_table], lengths } = Spoiled::drawn(random, &tables);
+        let [left, right, third] = lengths.map(|length| numbers(random, length));
         let joined = join(compare, Lent::new(left_table, left), Lent::new(right_table, right), third)?;
         check(random, &joined)?;
     }
@@ -149,59 +147,4 @@ fn check(random: &Random, joined: &Joined) -> Result<(), Difference> {
     }
     laws::check_joined(joined)?;
     laws::check_again(joined)
-}
-
-/// The bytes of two tables, and how many numbers three record buffers have, after something was done to them.
-struct Spoiled {
-    tables: [Vec<u8>; 2],
-    numbers: [usize; 3],
-}
-
-impl Spoiled {
-    fn drawn(random: &Random, tables: &[Table; 2]) -> Spoiled {
-        // Often one thing, and often two, so that the order of checks shows.
-        let one_in = random.pick(&[1, 2, 3, 6, 1000]);
-        let mut tables = tables.clone();
-        if random.one_in(one_in) {
-            clash(random, &mut tables);
-        }
-        if random.one_in(2 * one_in) {
-            let side = random.below(2);
-            tables[side] = other_setup(random, &tables[side]);
-        }
-        let mut bytes = tables.each_ref().map(Table::to_bytes);
-        if random.one_in(2 * one_in) {
-            let side = random.below(2);
-            bytes[side] =
-                if random.one_in(3) { one_off(random, &tables[side]) } else { damaged(random, &tables[side]) };
-        }
-        let mut numbers = [BUFFER_NUMBERS; 3];
-        if random.one_in(2 * one_in) {
-            let near = random.pick(&[BUFFER_NUMBERS - 1, BUFFER_NUMBERS + 1]);
-            numbers[random.below(3)] = random.pick(&[near, near, some_length(random)]);
-            // All alike, now and then.
-            if random.one_in(8) {
-                numbers = [near; 3];
-            }
-        }
-        Spoiled { tables: bytes, numbers }
-    }
-}
-
-/// A block that both hold gets another field at one side; now and then several do.
-fn clash(random: &Random, tables: &mut [Table; 2]) {
-    for _ in 0..random.pick(&[1, 1, 1, 2, 4]) {
-        let side = random.below(2);
-        let [one, other] = [side, 1 - side].map(|side| &tables[side]);
-        let both = (0..one.count).filter(|&place| other.place_of(&one.rows[place].digest).is_some());
-        let both: Vec<usize> = both.collect();
-        tables[side] = other_block(random, one, &both);
-    }
-}
-
-/// A byte less than a table has, or one more.
-fn one_off(random: &Random, table: &Table) -> Vec<u8> {
-    let mut bytes = table.to_bytes();
-    bytes.resize(random.pick(&[TABLE_BYTES - 1, TABLE_BYTES + 1]), 0);
-    bytes
 }

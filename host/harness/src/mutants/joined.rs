@@ -1,6 +1,7 @@
 //! Mistakes in the table and the records that a join leaves, and in the value of a success.
 
 use super::{value_beside, Joined, Mistake};
+use crate::answer::Answer;
 use crate::joining::{
     at_left, at_right, blocks, digest_of, left_blocks, new_places, row, source, write, At, Block, Two,
 };
@@ -269,7 +270,7 @@ pub const MISTAKES: &[Mistake] = &[
     // What a success leaves besides
     ("join: a full table's last row isn't written", |m| {
         m.after_join(|answer, lent| {
-            if answer == crate::answer::Answer::success(PLACES) {
+            if answer == Answer::success(PLACES) {
                 let mut after = Table::from_bytes(lent.left);
                 after.rows[PLACES - 1] = Row::default();
                 after.write(lent.left);

@@ -1,11 +1,12 @@
 //! Mistakes in what a join is answered, and in what its refusals leave. Those about equal digests stand apart.
 
 use super::{value_beside, Joined, Mistake, Mutant};
+use crate::answer::Answer;
 use crate::joining::{blocks, setups_differ, Two, CHECKS};
 use crate::sizes::{BUFFER_NUMBERS, PLACES, SLOTS};
 use crate::table::Table;
 
-/// Each check left out, each two neighbours swapped, and another value beside each refusal.
+/// Each check left out, each two neighbours swapped; another value beside each refusal, and something written by it.
 pub fn checks_exchanged() -> Vec<Mutant> {
     let mut mutants = Vec::new();
     for check in &CHECKS {
@@ -189,7 +190,7 @@ fn flip_last(bytes: &mut [u8]) {
 }
 
 /// The answer, with a number of records changed.
-fn changed(answer: crate::answer::Answer, records: &mut [u16]) -> crate::answer::Answer {
+fn changed(answer: Answer, records: &mut [u16]) -> Answer {
     if let Some(last) = records.last_mut() {
         *last ^= 1;
     }
