@@ -1,6 +1,7 @@
 # make demo        shows the listing and the control program, each on a small campaign
 # make test        proves and tests everything: the gate
-# make bench       measures SHA-256, whole campaigns, form and the listing against baselines in C and Rust, arrivals against C
+# make bench       measures SHA-256, whole campaigns, form and the listing against baselines in C and Rust, arrivals and joins
+#                  against C
 # make memory      adds up what the core's calls take of the device's memory, and fails where it is too much; and what a
 #                  controller of four campaigns takes
 # make fuzz        compares the library and the listing with the harness's model for long: FUZZ_SEED, FUZZ_CASES and FUZZ_LISTINGS
@@ -29,7 +30,8 @@ RUST_BASELINE = target/baseline/release/libbaseline.a
 RUST_LISTING = target/baseline/release/listing
 RUST_SOURCES = bench/baseline_rust/Cargo.toml $(wildcard bench/baseline_rust/src/*.rs bench/baseline_rust/src/bin/*.rs)
 VERSUS = $(patsubst %,bench/%.c,versus timing implementations same same_at_random chance campaigns) $(C_BASELINE)
-ARRIVALS = $(patsubst %,bench/%.c,timing controllers same_arrivals chance waiting campaigns) $(C_BASELINE) bench/baseline/shelf.c
+ARRIVALS = $(patsubst %,bench/%.c,timing controllers layout same_arrivals chance waiting campaigns) $(C_BASELINE) bench/baseline/shelf.c
+JOINS = $(patsubst %,bench/%.c,timing joiners layout same_joins chance campaigns) $(C_BASELINE) bench/baseline/join.c
 BENCH_HEADERS = $(wildcard bench/*.h bench/baseline_rust/*.h) $(C_BASELINE_HEADERS) $(HEADERS)
 
 # What the device calls, and what a controller of four campaigns does.
@@ -62,7 +64,7 @@ test: prerequisites
 	@tools/gate.sh
 
 # What the library costs on this machine, against the baselines and against a digest.
-bench: prerequisites $(HOST)/bench_sha256 $(HOST)/bench_campaign $(HOST)/bench_table $(HOST)/bench_arrivals $(HOST)/listing_c $(RUST_LISTING) $(LISTING)
+bench: prerequisites $(HOST)/bench_sha256 $(HOST)/bench_campaign $(HOST)/bench_table $(HOST)/bench_arrivals $(HOST)/bench_joins $(HOST)/listing_c $(RUST_LISTING) $(LISTING)
 	$(HOST)/bench_sha256
 	@echo
 	$(HOST)/bench_campaign
@@ -70,6 +72,8 @@ bench: prerequisites $(HOST)/bench_sha256 $(HOST)/bench_campaign $(HOST)/bench_t
 	$(HOST)/bench_table
 	@echo
 	$(HOST)/bench_arrivals
+	@echo
+	$(HOST)/bench_joins
 	@echo
 	python3 -B bench/listing.py target/streams $(LISTING) $(HOST)/listing_c $(RUST_LISTING)
 
@@ -150,6 +154,9 @@ $(HOST)/bench_table: bench/table.c bench/timing.c bench/campaigns.c $(BENCH_HEAD
 
 $(HOST)/bench_arrivals: bench/arrivals.c $(ARRIVALS) $(BENCH_HEADERS) $(LIBRARY) | $(HOST)
 	$(CC) $(BENCH_CFLAGS) -Ihost -o $@ $< $(ARRIVALS) $(LIBRARY)
+
+$(HOST)/bench_joins: bench/joins.c $(JOINS) $(BENCH_HEADERS) $(LIBRARY) | $(HOST)
+	$(CC) $(BENCH_CFLAGS) -Ihost -o $@ $< $(JOINS) $(LIBRARY)
 
 # Bound before the program starts, so that no call has the loader's work on its stack.
 $(HOST)/stack: bench/stack.c bench/painted.c bench/campaigns.c bench/waiting.c $(BENCH_HEADERS) $(LIBRARY) | $(HOST)

@@ -4,6 +4,7 @@
 #include <string.h>
 
 #include "baseline/core.h"
+#include "layout.h"
 
 static size_t lent(uint8_t campaign) { return campaign < GT_CAMPAIGNS ? campaign : 0; }
 
@@ -88,8 +89,6 @@ static arrived c_arrive(uint8_t campaign, const uint8_t *block, size_t length, u
 
 static bool c_shelf_in_form(void) { return baseline_shelf_in_form(&c_shelf); }
 
-static uint8_t high(uint16_t number) { return (uint8_t)(number >> 8); }
-
 /* From and to the layout of a shelf, in which an entry is campaign, length and block. */
 enum { ENTRY_BYTES = 3 + MAX_BLOCK_BYTES };
 
@@ -110,37 +109,9 @@ static void see_shelf(uint8_t shelf[GT_SHELF_BYTES])
     for (size_t i = 0; i < SHELF_PLACES; i++) {
         const baseline_waiting *w = &c_shelf.waiting[i];
         uint8_t *entry = shelf + 1 + ENTRY_BYTES * i;
-        memcpy(entry, (uint8_t[]){w->campaign, high(w->length), (uint8_t)w->length}, 3);
+        memcpy(entry, (uint8_t[]){w->campaign, (uint8_t)(w->length >> 8), (uint8_t)w->length}, 3);
         memcpy(entry + 3, w->bytes, MAX_BLOCK_BYTES);
     }
-}
-
-/* Writes what the layout has for a place, and gives where the next one begins. */
-static uint8_t *see_row(uint8_t *bytes, const baseline_row *row)
-{
-    memcpy(bytes, &row->digest, DIGEST_BYTES);
-    bytes += DIGEST_BYTES;
-    *bytes++ = row->site;
-    *bytes++ = high(row->sequence);
-    *bytes++ = (uint8_t)row->sequence;
-    for (size_t i = 0; i < 8; i++)
-        *bytes++ = (uint8_t)(row->references >> 8 * i);
-    for (size_t slot = 0; slot < SLOTS; slot++) {
-        *bytes++ = high(row->requests[slot]);
-        *bytes++ = (uint8_t)row->requests[slot];
-    }
-    *bytes++ = row->interpreted;
-    return bytes;
-}
-
-static void see_table(const baseline_table *table, uint8_t *bytes)
-{
-    *bytes++ = table->sites;
-    memcpy(bytes, table->owners, SLOTS);
-    bytes += SLOTS;
-    *bytes++ = table->count;
-    for (size_t place = 0; place < PLACES; place++)
-        bytes = see_row(bytes, &table->rows[place]);
 }
 
 static seen_state c_seen(uint8_t campaign)

@@ -5,11 +5,12 @@
 
 #include "chance.h"
 #include "expect.h"
+#include "layout.h"
 
 enum { POOL = 100, ARRIVALS_IN_A_POOL = 800, AHEAD = 12, REFUSALS = 22 };
 
-/* Where the fields of docs/FORMATS.md stand: a table's count and its rows, and how long an entry of a shelf is. */
-enum { COUNT = 9, ROWS = 10, ROW_BYTES = 60, ENTRY_BYTES = 3 + GT_MAX_BLOCK_BYTES };
+/* How long an entry of a shelf is, in the layout of docs/FORMATS.md. */
+enum { ENTRY_BYTES = 3 + GT_MAX_BLOCK_BYTES };
 
 /* ---- Calls on both */
 

@@ -1,16 +1,6 @@
 /* Admission. */
 #include "inner.h"
 
-/* The place of a digest; the count where it isn't held. */
-static size_t place_of(const baseline_table *table, const baseline_digest *digest)
-{
-    size_t place = 0;
-
-    while (place < table->count && !same_digest(&table->rows[place].digest, digest))
-        place++;
-    return place;
-}
-
 baseline_digest baseline_digest_of(const uint8_t *bytes, size_t length)
 {
     uint8_t digest_bytes[DIGEST_BYTES];

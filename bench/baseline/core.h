@@ -1,5 +1,6 @@
-/* The core of document 01 in plain C, unproved, with the shelf that up to four campaigns share: what the proved library is
- * measured against. It shares nothing with the library: not the layout of the table or the shelf, not SHA-256.
+/* The core of document 01 in plain C, unproved, with the shelf that up to four campaigns share and the join of two tables:
+ * what the proved library is measured against. It shares nothing with the library: not the layout of the table or the
+ * shelf, not SHA-256.
  *
  * A caller lends a table, a record buffer and a shelf, as with the library. The form check stands at the start of every
  * call on a table, since document 01 asks for it there, and that of the shelf at the start of every arrival. */
@@ -19,7 +20,8 @@ enum {
     MAX_REQUESTS = 8,
     MAX_BLOCK_BYTES = 541,
     RECORD_NUMBERS = 40,
-    RECORDS_NUMBERS = PLACES * SLOTS * RECORD_NUMBERS,
+    PART_NUMBERS = SLOTS * RECORD_NUMBERS, /* of a place */
+    RECORDS_NUMBERS = PLACES * PART_NUMBERS,
     CAMPAIGNS = 4,
     SHELF_PLACES = 16,
     RESERVED_PLACES = 2, /* of the shelf: a campaign may always hold these */
@@ -46,7 +48,10 @@ enum {
     NOT_INTERPRETED = 15,
     NO_SHELF_PLACE = 19,
     WAITS_ALREADY = 20,
-    NO_CAMPAIGN = 21
+    NO_CAMPAIGN = 21,
+    OTHER_SETUP = 23,
+    OTHER_BLOCK = 24,
+    TOO_MANY = 25
 };
 
 typedef struct {
@@ -116,5 +121,16 @@ bool baseline_shelf_in_form(const baseline_shelf *shelf);
  * admission the campaign's waiting blocks are tried in passes. */
 baseline_arrival baseline_arrive(baseline_table *table, baseline_shelf *shelf, uint8_t campaign, const uint8_t *block,
                                  size_t length, uint8_t verdict);
+
+/* Records that a join reads. */
+typedef struct {
+    const uint16_t *records;
+    size_t numbers;
+} baseline_records;
+
+/* Checks 2, 12 and 23 to 25, then the right's blocks are in the left's table too; the value is how many it holds. The part of
+ * each interpreted block is copied to the third buffer, the left's where the left interpreted it. */
+baseline_answer baseline_join(baseline_table *left, const baseline_table *right, baseline_records of_left,
+                              baseline_records of_right, uint16_t *third, size_t numbers);
 
 #endif

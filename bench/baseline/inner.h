@@ -35,6 +35,16 @@ static inline bool is_parent(const baseline_row *candidate, uint8_t site, uint16
     return candidate->site == site && candidate->sequence + 1 == sequence;
 }
 
+/* The place of a digest; the count where it isn't held. */
+static inline size_t place_of(const baseline_table *table, const baseline_digest *digest)
+{
+    size_t place = 0;
+
+    while (place < table->count && !same_digest(&table->rows[place].digest, digest))
+        place++;
+    return place;
+}
+
 /* A block's fields; the references are copied out, so that they can be compared by words. */
 typedef struct {
     uint16_t sequence;
