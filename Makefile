@@ -3,7 +3,7 @@
 # make bench       measures SHA-256, whole campaigns, form and the listing against baselines in C and Rust, arrivals and joins
 #                  against C
 # make memory      adds up what the core's calls take of the device's memory, and fails where it is too much; and what a
-#                  controller of four campaigns takes
+#                  controller of four campaigns takes, and a join of two tables
 # make fuzz        compares the library and the listing with the harness's model for long: FUZZ_SEED, FUZZ_CASES and FUZZ_LISTINGS
 #                  say where and how far
 # make host        builds the listing, the library for C and the control program
@@ -34,9 +34,10 @@ ARRIVALS = $(patsubst %,bench/%.c,timing controllers layout same_arrivals chance
 JOINS = $(patsubst %,bench/%.c,timing joiners layout same_joins chance campaigns) $(C_BASELINE) bench/baseline/join.c
 BENCH_HEADERS = $(wildcard bench/*.h bench/baseline_rust/*.h) $(C_BASELINE_HEADERS) $(HEADERS)
 
-# What the device calls, and what a controller of four campaigns does.
+# What the device calls, what a controller of four campaigns does, and what a join takes.
 DEVICE_CALLS = gt_fresh gt_admit gt_interpret gt_forks gt_ancestors gt_build gt_digest gt_read_block
 CONTROLLER_CALLS = $(DEVICE_CALLS) gt_arrive gt_shelf_in_form
+JOIN_CALLS = gt_join
 
 FUZZ_SEED ?= 1
 FUZZ_CASES ?= 1000000
@@ -77,9 +78,9 @@ bench: prerequisites $(HOST)/bench_sha256 $(HOST)/bench_campaign $(HOST)/bench_t
 	@echo
 	python3 -B bench/listing.py target/streams $(LISTING) $(HOST)/listing_c $(RUST_LISTING)
 
-# What the core's calls take of the device's memory, and a controller's.
-memory: prerequisites $(HOST)/device $(HOST)/controller $(HOST)/stack
-	python3 bench/memory.py $(HOST)/device $(HOST)/controller $(HOST)/stack
+# What the core's calls take of the device's memory, and a controller's, and a join.
+memory: prerequisites $(HOST)/device $(HOST)/controller $(HOST)/join $(HOST)/stack
+	python3 bench/memory.py $(HOST)/device $(HOST)/controller $(HOST)/join $(HOST)/stack
 
 # The library, and then the listing program, against the harness's model. A million cases take some minutes; another seed
 # gives other cases.
@@ -165,7 +166,8 @@ $(HOST)/stack: bench/stack.c bench/painted.c bench/campaigns.c bench/waiting.c $
 # The calls by themselves: no C library, and nothing that they don't reach.
 $(HOST)/device: CALLS = $(DEVICE_CALLS)
 $(HOST)/controller: CALLS = $(CONTROLLER_CALLS)
-$(HOST)/device $(HOST)/controller: $(HOST)/device.o $(LIBRARY)
+$(HOST)/join: CALLS = $(JOIN_CALLS)
+$(HOST)/device $(HOST)/controller $(HOST)/join: $(HOST)/device.o $(LIBRARY)
 	$(CC) -nostdlib -static $(ONLY_REACHED) -Wl,--build-id=none,-e,$(firstword $(CALLS)) $(CALLS:%=-Wl,-u,%) -o $@ $(LIBRARY) $<
 
 # The loops stay loops: gcc would make calls of the very functions out of them.

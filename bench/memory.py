@@ -1,11 +1,11 @@
 #!/usr/bin/env python3
 """What the core's calls take of the device's memory, and whether it fits: exit status 1 if it doesn't. Then what a controller of
-four campaigns takes, for which there is no limit.
+four campaigns takes, and what a join of two tables takes, for which there is no limit.
 
-    memory.py DEVICE CONTROLLER STACK
+    memory.py DEVICE CONTROLLER JOIN STACK
 
-DEVICE is a file in which the device's calls are linked by themselves, CONTROLLER the same for a controller's calls, STACK the
-program that measures how deep they go.
+DEVICE is a file in which the device's calls are linked by themselves, CONTROLLER the same for a controller's calls, JOIN for
+the join, STACK the program that measures how deep they go.
 """
 
 import re
@@ -116,11 +116,23 @@ def state_controller(controller, device, measured):
     state_depths(added, measured)
 
 
-def main(device, controller, stack):
+def state_join(join, measured):
+    lent = [("tables", 2 * constant("GT_TABLE_BYTES"), "2 of GT_TABLE_BYTES"),
+            ("records", 3 * 2 * constant("GT_RECORDS_NUMBERS"), "3 of GT_RECORDS_NUMBERS of 2 bytes")]
+
+    state_sum("Memory of a join of two tables, in bytes: there is no limit", join, measured, lent)
+    print()
+    print("Linked and measured in the same way, by itself:")
+    state_depths(calls(join), measured)
+
+
+def main(device, controller, join, stack):
     measured = depths(stack)
     total = state_device(device, measured)
     print()
     state_controller(controller, device, measured)
+    print()
+    state_join(join, measured)
     return 0 if total <= LIMIT else f"memory: {total - LIMIT:,} bytes over the limit of {LIMIT:,}"
 
 

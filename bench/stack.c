@@ -1,6 +1,6 @@
 /* The deepest stack of each call, in bytes, from the caller's frame on, over many inputs: tables that are empty, partly
- * filled, full, forked and out of form; shelves that are empty, full and out of form; blocks up to 16 references and 8
- * requests; every refusal.
+ * filled, full, forked, clashing and out of form; shelves that are empty, full and out of form; blocks up to 16 references
+ * and 8 requests; every refusal.
  * It prints what it measures. An answer other than the expected one ends it with status 1. */
 #include <stdio.h>
 #include <string.h>
@@ -23,7 +23,8 @@ typedef struct {
 /* What a call is given. Each call takes what it needs of it. */
 typedef struct {
     const table *table;   /* lent as a copy */
-    const shelf *shelf;   /* the same */
+    const table *right;   /* of a join, which only reads it */
+    const shelf *shelf;   /* lent as a copy */
     const uint8_t *bytes; /* a block, a message, owners, a request list or a list of calls */
     size_t length;        /* of the bytes */
     uint8_t number;       /* a verdict, a site or a number of sites */
@@ -36,7 +37,7 @@ typedef struct {
 
 static table lent;
 static shelf lent_shelf;
-static uint16_t records[GT_RECORDS_NUMBERS];
+static uint16_t records[GT_RECORDS_NUMBERS], right_records[GT_RECORDS_NUMBERS], third[GT_RECORDS_NUMBERS];
 static uint8_t output[GT_MAX_BLOCK_BYTES];
 static uint64_t answers[2], outcomes[GT_OUTCOMES_NUMBERS];
 
@@ -47,6 +48,7 @@ static table reached[GT_MAX_PLACES + 1]; /* by count: every place interpreted */
 static table admitted[GT_MAX_PLACES];    /* by place: this one is not, all lower ones are */
 static table bare;                       /* full, and nothing interpreted */
 static table forked;                     /* two blocks of sequence number 0 of each site */
+static table clashing;                   /* full, and its last block has another request of the last slot */
 static table out_of_form;
 
 static built_block bad_site, bad_request, repeated, unknown, orphan, another;
@@ -76,7 +78,8 @@ static void prepare_tables(void)
         interpret(&reached[place + 1], place);
         admit(&bare, &busy.blocks[place]);
     }
-    out_of_form = reached[GT_MAX_PLACES];
+    clashing = out_of_form = reached[GT_MAX_PLACES];
+    clashing.bytes[GT_TABLE_BYTES - 2]++;
     out_of_form.bytes[GT_TABLE_BYTES - 1] = 2; /* a mark */
 }
 
@@ -235,6 +238,13 @@ static uint8_t call_arrive(const input *in)
                                    in->bytes, in->length, in->number, outcomes, in->room);
 
     return arrival.ended == in->ended ? arrival.answer.refusal : UINT8_MAX;
+}
+
+static uint8_t call_join(const input *in)
+{
+    return gt_join(lent.bytes, sizeof lent.bytes, in->right->bytes, sizeof in->right->bytes, records, GT_RECORDS_NUMBERS,
+                   right_records, GT_RECORDS_NUMBERS, third, in->room)
+        .refusal;
 }
 
 /* ---- Depths */
@@ -484,6 +494,33 @@ static void measure_arrive(void)
     MEASURE("gt_arrive", call_arrive, inputs);
 }
 
+static void measure_join(void)
+{
+    enum { ALL = GT_RECORDS_NUMBERS };
+    const table *empty = &reached[0], *round = &reached[ROUND], *most = &reached[3 * ROUND];
+    /* Nothing or all is new, or in common; some is, with references to both; parts of the right, of the left, and of both. Then
+     * the refusals. */
+    const input inputs[] = {
+        {.table = empty, .right = empty, .room = ALL},
+        {.table = empty, .right = FULL, .room = ALL},
+        {.table = FULL, .right = empty, .room = ALL},
+        {.table = FULL, .right = FULL, .room = ALL},
+        {.table = round, .right = FULL, .room = ALL},
+        {.table = &forked, .right = most, .room = ALL},
+        {.table = most, .right = &forked, .room = ALL},
+        {.table = &bare, .right = FULL, .room = ALL},
+        {.table = FULL, .right = &bare, .room = ALL},
+        {.table = &out_of_form, .right = FULL, .room = ALL, .refusal = 2},
+        {.table = FULL, .right = &out_of_form, .room = ALL, .refusal = 2},
+        {.table = FULL, .right = FULL, .room = ALL - 1, .refusal = 12},
+        {.table = empty, .right = &few_sites, .room = ALL, .refusal = 23},
+        {.table = FULL, .right = &clashing, .room = ALL, .refusal = 24},
+        {.table = FULL, .right = &forked, .room = ALL, .refusal = 25},
+    };
+
+    MEASURE("gt_join", call_join, inputs);
+}
+
 /* What ending the thread takes. */
 static void measure_nothing(void)
 {
@@ -515,5 +552,6 @@ int main(void)
     measure_replay();
     measure_shelf_in_form();
     measure_arrive();
+    measure_join();
     return 0;
 }
