@@ -99,7 +99,7 @@ uninstall:
 	DESTDIR='$(DESTDIR)' tools/install.sh uninstall '$(PREFIX)'
 
 # What the host tests run.
-test-programs: host $(HOST)/digests $(HOST)/calls $(HOST)/core_calls $(HOST)/record_calls $(HOST)/watch_calls $(HOST)/shelf_calls $(HOST)/join_calls $(HOST)/two_campaigns harness
+test-programs: host $(HOST)/digests $(HOST)/calls $(HOST)/core_calls $(HOST)/record_calls $(HOST)/watch_calls $(HOST)/shelf_calls $(HOST)/join_calls $(HOST)/two_campaigns $(HOST)/two_controllers harness
 
 # Cargo itself sees whether the harness's sources or the library changed.
 harness: prerequisites $(LIBRARY)
@@ -136,7 +136,7 @@ $(HOST)/digests $(HOST)/calls: $(HOST)/%: host/tests/%.c host/tests/checks.h hos
 $(HOST)/core_calls $(HOST)/record_calls $(HOST)/watch_calls $(HOST)/shelf_calls $(HOST)/join_calls: $(HOST)/%: host/tests/%.c host/tests/campaigns.h host/tests/checks.h $(HEADERS) $(LIBRARY) | $(HOST)
 	$(CC) $(CFLAGS) -Ihost -o $@ $< $(LIBRARY)
 
-$(HOST)/two_campaigns: examples/two_campaigns.c $(HEADERS) $(LIBRARY) | $(HOST)
+$(HOST)/two_campaigns $(HOST)/two_controllers: $(HOST)/%: examples/%.c $(HEADERS) $(LIBRARY) | $(HOST)
 	$(CC) $(CFLAGS) $(ONLY_REACHED) -Ihost -o $@ $< $(LIBRARY)
 
 # Cargo leaves a file that needn't change, and its time would then be taken for old.

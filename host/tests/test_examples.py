@@ -2,13 +2,14 @@
 
 import make_arrivals
 import make_campaigns
-from programs import ROOT, TWO_CAMPAIGNS, dome, expect, expect_same_lines, listing, output_of
+from programs import ROOT, TWO_CAMPAIGNS, TWO_CONTROLLERS, dome, expect, expect_same_lines, listing, output_of
 from reference import text_of
 
 EXAMPLES = ROOT / "examples"
 ARRIVALS = (EXAMPLES / "arrivals.bin").read_bytes()
 EXPECTED = (EXAMPLES / "arrivals.expected").read_text(encoding="ascii")
 TWO_CAMPAIGNS_LINES = (EXAMPLES / "two_campaigns.expected").read_text(encoding="ascii")
+TWO_CONTROLLERS_LINES = (EXAMPLES / "two_controllers.expected").read_text(encoding="ascii")
 CAMPAIGNS = {name: (EXAMPLES / f"{name}.campaign").read_bytes() for name in make_campaigns.CAMPAIGNS}
 LISTINGS = {name: (EXAMPLES / f"{name}.listing").read_text(encoding="ascii") for name in make_campaigns.CAMPAIGNS}
 
@@ -23,6 +24,10 @@ def test_the_reference_writes_the_stored_lines():
 
 def test_two_campaigns_writes_the_stored_lines():
     expect_same_lines(output_of([TWO_CAMPAIGNS]), TWO_CAMPAIGNS_LINES)
+
+
+def test_two_controllers_writes_the_stored_lines():
+    expect_same_lines(output_of([TWO_CONTROLLERS]), TWO_CONTROLLERS_LINES)
 
 
 def test_the_stored_arrivals_are_the_described_ones():

@@ -4,10 +4,10 @@ import random
 
 import bad_inputs
 import generate
-from programs import (CALLS, CORE_CALLS, DOME, JOIN_CALLS, RECORD_CALLS, SHELF_CALLS, TWO_CAMPAIGNS, VALGRIND, WATCH_CALLS,
+from programs import (CALLS, CORE_CALLS, DOME, JOIN_CALLS, RECORD_CALLS, SHELF_CALLS, TWO_CAMPAIGNS, TWO_CONTROLLERS, VALGRIND, WATCH_CALLS,
                       digests, dome, expect, expect_same_lines, output_of, run)
 from reference import text_of
-from test_examples import ARRIVALS, TWO_CAMPAIGNS_LINES
+from test_examples import ARRIVALS, TWO_CAMPAIGNS_LINES, TWO_CONTROLLERS_LINES
 
 
 def expect_clean(stream):
@@ -56,6 +56,10 @@ def test_join_calls():
 
 def test_two_campaigns():
     expect_same_lines(output_of([*VALGRIND, TWO_CAMPAIGNS]), TWO_CAMPAIGNS_LINES)
+
+
+def test_two_controllers():
+    expect_same_lines(output_of([*VALGRIND, TWO_CONTROLLERS]), TWO_CONTROLLERS_LINES)
 
 
 def test_digests():
