@@ -43,7 +43,7 @@ in-form t (b ∷ bs) e =
     ap₂ (λ (a : Answer) (rest : List Answer). a ∷ rest) (answer-is t b e)
     (in-form (admitted toy t b 1) bs (promises toy (toyDigest .size) .kept t b 1 e) ∙ ap (λ (u : Bytes). answersAt u bs) (table-is t b e))
 
-formed : inForm (holding 63) ≡ true
+pub formed : inForm (holding 63) ≡ true
 unfolding openedTable
 formed = refl
 

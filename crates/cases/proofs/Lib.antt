@@ -17,3 +17,4 @@ pub mod Arrival
 pub mod Builders
 pub mod Shelf
 pub mod Arrivals
+pub mod Joins

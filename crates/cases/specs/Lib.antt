@@ -1,4 +1,4 @@
--- Cases of document 01's rules and of request Three's: how they are written down, how they are run, and what each gives.
+-- Cases of document 01's rules and of requests Three's and Eight's: how they are written down, how they are run, and what each gives.
 pub mod Toy
 pub mod Run
 pub mod Blocks
@@ -15,3 +15,4 @@ pub mod Arrival
 pub mod Builders
 pub mod Shelf
 pub mod Arrivals
+pub mod Joins

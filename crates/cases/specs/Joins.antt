@@ -1,0 +1,279 @@
+-- Request Eight: two tables and their records are joined. What that answers, the table and the third buffer that it leaves. The digest is the toy
+-- one.
+use mathlib.Core.Path.{_≡_}
+use mathlib.Core.Bool.{true}
+use mathlib.Core.List.{List, [], _∷_, _++_}
+use Prim.Native.Nat.{ℕ, zero, suc, _+_, _-_, _*_}
+use lib.ListN.{drop, replicate}
+use Rattle.base.specs.Bytes.{Bytes}
+use Rattle.base.specs.List.{listBelow}
+use Rattle.block.specs.Limits.{slotCount}
+use Rattle.block.specs.declared.Answer.{Answer}
+use Rattle.table.specs.Layout.{ownersOffset, siteOffset, sequenceOffset, requestsOffset, rowStart, tableSize, setupOf, countOf, digestAt, siteAt, sequenceAt, referencesAt, requestAt, markAt}
+use Rattle.table.specs.Form.{inForm}
+use Rattle.table.specs.Fresh.{emptyTable}
+use Rattle.table.specs.Checks.{success, refused}
+use Rattle.interpret.specs.Buffer.{bufferSize, partStart, partOf}
+use Rattle.join.specs.Join.{joinAnswer, joined, copied}
+use Rattle.cases.specs.Toy.{toy, block}
+use Rattle.cases.specs.Run.{zeros}
+use Rattle.cases.specs.Blocks.{sites, fresh, first, fork, second, both, stranger, third, fourth, numbered, four, holding}
+use Rattle.cases.specs.Form.{changed, referring, marked}
+use Rattle.cases.specs.Arrivals.{tableOf}
+
+-- ---- calls
+
+-- two tables are joined, with three record buffers of so many zeros, and with whole ones
+abbrev pub lending : Bytes → Bytes → ℕ → ℕ → ℕ → Answer
+lending left right a b c = joinAnswer left right (replicate a 0) (replicate b 0) (replicate c 0)
+
+abbrev pub joining : Bytes → Bytes → Answer
+joining left right = joinAnswer left right zeros zeros zeros
+
+-- ---- tables
+
+-- `fresh` with a last byte that is not 0: not in form
+unfoldable pub unformed : Bytes
+unformed = changed fresh (tableSize - 1) 1
+
+-- `fresh` with another owner of slot 0
+unfoldable pub otherOwner : Bytes
+otherOwner = changed fresh ownersOffset 1
+
+-- a block that shares the third one's digest and refers to `first`, not to `fork`
+unfoldable pub twin : Bytes
+twin = block 3 0 (toy first ∷ []) []
+
+-- `four` with another site in place 1
+unfoldable pub otherSite : Bytes
+otherSite = changed four (rowStart 1 + siteOffset) 1
+
+-- ---- two sides
+
+-- a block of site 1 after `both`
+unfoldable pub closing : Bytes
+closing = block 1 1 (toy both ∷ toy fourth ∷ []) []
+
+-- the left; `first`, `second` and `stranger` are interpreted
+unfoldable pub leftTable : Bytes
+leftTable = marked (marked (marked (tableOf (first ∷ fork ∷ third ∷ second ∷ stranger ∷ [])) 0 1) 3 1) 4 1
+
+-- the right; `fork`, `first` and `both` are interpreted. It has four blocks of the left, in another order
+unfoldable pub rightTable : Bytes
+rightTable = marked (marked (marked (tableOf (fork ∷ third ∷ first ∷ second ∷ both ∷ fourth ∷ closing ∷ [])) 0 1) 2 1) 4 1
+
+-- k numbers, each one more than the one before
+unfoldable pub rising : ℕ → ℕ → List ℕ
+rising n zero = []
+rising n (suc k) = n ∷ rising (suc n) k
+
+-- three record buffers that have no number in common
+unfoldable pub leftRecords : List ℕ
+leftRecords = rising 0 bufferSize
+
+unfoldable pub rightRecords : List ℕ
+rightRecords = rising bufferSize bufferSize
+
+unfoldable pub thirdBuffer : List ℕ
+thirdBuffer = rising (2 * bufferSize) bufferSize
+
+-- the table and the third buffer that joining any two tables leaves, and these two
+abbrev pub tableFrom : Bytes → Bytes → Bytes
+tableFrom left right = joined left right leftRecords rightRecords thirdBuffer
+
+abbrev pub bufferFrom : Bytes → Bytes → List ℕ
+bufferFrom left right = copied left right leftRecords rightRecords thirdBuffer
+
+unfoldable pub result : Bytes
+result = tableFrom leftTable rightTable
+
+unfoldable pub resultRecords : List ℕ
+resultRecords = bufferFrom leftTable rightTable
+
+-- the result's blocks, admitted one after the other and marked; and those of the result with the sides exchanged
+unfoldable pub admittedResult : Bytes
+admittedResult = marked (marked (marked (marked (marked
+    (tableOf (first ∷ fork ∷ third ∷ second ∷ stranger ∷ both ∷ fourth ∷ closing ∷ [])) 0 1) 1 1) 3 1) 4 1) 5 1
+
+unfoldable pub admittedExchanged : Bytes
+admittedExchanged = marked (marked (marked (marked (marked
+    (tableOf (fork ∷ third ∷ first ∷ second ∷ both ∷ fourth ∷ closing ∷ stranger ∷ [])) 0 1) 2 1) 3 1) 4 1) 7 1
+
+-- the parts that the third buffer then has, place after place, and its rest; and those with the sides exchanged
+unfoldable pub resultParts : List ℕ
+resultParts =
+    partOf leftRecords 0
+    ++ (partOf rightRecords 0
+    ++ (partOf thirdBuffer 2
+    ++ (partOf leftRecords 3
+    ++ (partOf leftRecords 4
+    ++ (partOf rightRecords 4
+    ++ drop (partStart 6) thirdBuffer)))))
+
+unfoldable pub exchangedParts : List ℕ
+exchangedParts =
+    partOf leftRecords 0
+    ++ (partOf thirdBuffer 1
+    ++ (partOf leftRecords 2
+    ++ (partOf rightRecords 3
+    ++ (partOf leftRecords 4
+    ++ (partOf thirdBuffer 5
+    ++ (partOf thirdBuffer 6
+    ++ (partOf rightRecords 4
+    ++ drop (partStart 8) thirdBuffer)))))))
+
+-- a refusal hands back the left's table, and the third buffer stays
+abbrev pub Stays : Bytes → Bytes → List ℕ → Type 0
+Stays left right records =
+    (joined left right records rightRecords thirdBuffer ≡ left) × (copied left right records rightRecords thirdBuffer ≡ thirdBuffer)
+
+-- ---- cases
+
+-- "in that order after 2 and 12": a row for each two neighbours of 2, 12, 23, 24, 25. The first call has both causes and gets the earlier number;
+-- in the second only the earlier cause is mended, and it gets the later number.
+pub record JoinOrderCases : Type 0 where
+  -- nothing is right
+  pub twoFirst : joinAnswer [] [] [] [] [] ≡ refused 2 0
+  -- 2, 12: the left is not in form, the right, and both; each time another buffer is one number short
+  pub leftBeforeSize :
+      (lending unformed fresh (bufferSize - 1) bufferSize bufferSize ≡ refused 2 0)
+      × (lending fresh fresh (bufferSize - 1) bufferSize bufferSize ≡ refused 12 0)
+  pub rightBeforeSize :
+      (lending fresh unformed bufferSize (bufferSize - 1) bufferSize ≡ refused 2 0)
+      × (lending fresh fresh bufferSize (bufferSize - 1) bufferSize ≡ refused 12 0)
+  pub bothBeforeSize :
+      (lending unformed unformed bufferSize bufferSize (bufferSize - 1) ≡ refused 2 0)
+      × (lending fresh fresh bufferSize bufferSize (bufferSize - 1) ≡ refused 12 0)
+  -- 12, 23: "12 tests all three": one number short, one too many, and none
+  pub leftSizeBeforeSetup :
+      (lending fresh otherOwner (bufferSize - 1) bufferSize bufferSize ≡ refused 12 0)
+      × (lending fresh otherOwner bufferSize bufferSize bufferSize ≡ refused 23 0)
+  pub rightSizeBeforeSetup :
+      (lending fresh otherOwner bufferSize (bufferSize + 1) bufferSize ≡ refused 12 0)
+      × (lending fresh otherOwner bufferSize bufferSize bufferSize ≡ refused 23 0)
+  pub thirdSizeBeforeSetup :
+      (lending fresh otherOwner bufferSize bufferSize 0 ≡ refused 12 0)
+      × (lending fresh otherOwner bufferSize bufferSize bufferSize ≡ refused 23 0)
+  -- 23, 24: a block of another site, in a table of another owner, then of the same
+  pub setupBeforeClash :
+      (joining four (changed otherSite ownersOffset 1) ≡ refused 23 0)
+      × (joining four otherSite ≡ refused 24 1)
+  -- 24, 25: 64 blocks, and two of which one is new; the other one has another site, then the same
+  pub clashBeforeFull :
+      (joining (holding 64) (changed (tableOf (numbered 5 ∷ stranger ∷ [])) (rowStart 0 + siteOffset) 1) ≡ refused 24 5)
+      × (joining (holding 64) (tableOf (numbered 5 ∷ stranger ∷ [])) ≡ refused 25 0)
+
+-- "23, setups differ".
+pub record JoinSetupCases : Type 0 where
+  -- another n
+  pub moreSites : joining fresh (emptyTable (sites 7)) ≡ refused 23 0
+  pub fewerSites : joining (emptyTable (sites 7)) fresh ≡ refused 23 0
+  -- one owner, of the first slot and of the last
+  pub firstOwner : joining fresh otherOwner ≡ refused 23 0
+  pub lastOwner : joining (changed fresh (ownersOffset + 7) 1) fresh ≡ refused 23 0
+  -- they do not
+  pub sameOwners : joining otherOwner otherOwner ≡ success 0
+
+-- "24, equal digests with other fields (interpreted aside) or references, with the lowest left place". `four` holds two forks of site 0 at places
+-- 0 and 1, a block of site 3 that refers to place 1 at place 2, and the one after it, which refers to places 0 and 2, at place 3.
+pub record ClashCases : Type 0 where
+  pub anotherSite : joining four otherSite ≡ refused 24 1
+  pub anotherSequence : joining four (changed four (rowStart 3 + sequenceOffset + 1) 0) ≡ refused 24 3
+  -- the request of slot 0, and the high byte of that of slot 7
+  pub anotherRequest : joining four (changed four (rowStart 0 + requestsOffset + 1) 43) ≡ refused 24 0
+  pub anotherLastRequest : joining four (changed four (rowStart 3 + requestsOffset + 14) 1) ≡ refused 24 3
+  -- one reference more, on the left and on the right
+  pub leftRefersMore : joining (referring four 2 3) four ≡ refused 24 2
+  pub rightRefersMore : joining four (referring four 2 3) ≡ refused 24 2
+  -- to a block that the other side does not hold
+  pub leftRefersFurther : joining (referring four 2 3) (tableOf (fork ∷ third ∷ [])) ≡ refused 24 2
+  pub rightRefersFurther : joining four (referring (tableOf (fork ∷ stranger ∷ third ∷ [])) 2 3) ≡ refused 24 2
+  -- the same places, which hold other blocks
+  pub samePlaces : joining four (tableOf (fork ∷ first ∷ twin ∷ [])) ≡ refused 24 2
+  -- other places, which hold the same blocks
+  pub sameBlocks : joining four (tableOf (fork ∷ first ∷ third ∷ fourth ∷ [])) ≡ success 4
+  -- "interpreted aside"
+  pub rightInterpreted : joining four (marked four 0 1) ≡ success 4
+  pub leftInterpreted : joining (marked four 0 1) four ≡ success 4
+  -- places 1 and 2 clash; on the right the block of place 2 stands before that of place 1
+  pub lowestLeft : joining four (changed (tableOf (first ∷ twin ∷ fork ∷ [])) (rowStart 2 + siteOffset) 1) ≡ refused 24 1
+  -- the same fields beside another digest are another block's
+  pub otherDigest : joining (tableOf (first ∷ [])) (changed (tableOf (first ∷ [])) (rowStart 0 + 31) 1) ≡ success 2
+
+-- "25, more than 64 blocks in the result". The value of a success is their number.
+pub record JoinFullCases : Type 0 where
+  pub sixtyFour : joining (holding 63) (tableOf (stranger ∷ [])) ≡ success 64
+  pub sixtyFive : joining (holding 64) (tableOf (stranger ∷ [])) ≡ refused 25 0
+  -- the same with the sides exchanged
+  pub rightSixtyThree : joining (tableOf (stranger ∷ [])) (holding 63) ≡ success 64
+  pub rightSixtyFour : joining (tableOf (stranger ∷ [])) (holding 64) ≡ refused 25 0
+  -- a block of both counts once
+  pub inBoth : joining (holding 64) (holding 2) ≡ success 64
+  -- the 64th is put at the last place
+  pub lastPlace : tableFrom (holding 63) (tableOf (numbered 63 ∷ [])) ≡ holding 64
+
+-- "a refusal hands back the left's table"; and the third buffer stays.
+pub record HandedBackCases : Type 0 where
+  -- 2: also one that is not in form
+  pub byLeft : Stays unformed leftTable leftRecords
+  pub byRight : Stays leftTable unformed leftRecords
+  -- 12, 23, 24, 25
+  pub bySize : Stays leftTable rightTable []
+  pub bySetup : Stays leftTable otherOwner leftRecords
+  pub byClash : Stays four otherSite leftRecords
+  pub byFull : Stays (holding 64) (tableOf (stranger ∷ [])) leftRecords
+
+-- The result's table, field by field and as a whole.
+pub record ResultCases : Type 0 where
+  pub answer : joinAnswer leftTable rightTable leftRecords rightRecords thirdBuffer ≡ success 8
+  pub formed : inForm result ≡ true
+  pub setup : setupOf result ≡ sites 4
+  pub count : countOf result ≡ 8
+  -- "the left's places first, then the right's blocks not in the left, in their order"
+  pub digests :
+      listBelow (digestAt result) 8
+      ≡ toy first ∷ toy fork ∷ toy third ∷ toy second ∷ toy stranger ∷ toy both ∷ toy fourth ∷ toy closing ∷ []
+  pub siteNumbers : listBelow (siteAt result) 8 ≡ 0 ∷ 0 ∷ 3 ∷ 0 ∷ 3 ∷ 1 ∷ 3 ∷ 1 ∷ []
+  pub sequences : listBelow (sequenceAt result) 8 ≡ 0 ∷ 0 ∷ 0 ∷ 1 ∷ 0 ∷ 0 ∷ 1 ∷ 1 ∷ []
+  pub requested : listBelow (requestAt result 6) slotCount ≡ 0 ∷ 0 ∷ 0 ∷ 0 ∷ 0 ∷ 772 ∷ 0 ∷ 1 ∷ []
+  -- "references renumbered", as masks. On the right `both` refers to places 0 and 2, `fourth` to 1 and 2, `closing` to 4 and 5; in the result to
+  -- 0 and 1, to 0 and 2, to 5 and 6
+  pub rightReferences : listBelow (referencesAt rightTable) 7 ≡ 0 ∷ 1 ∷ 0 ∷ 4 ∷ 5 ∷ 6 ∷ 48 ∷ []
+  pub references : listBelow (referencesAt result) 8 ≡ 0 ∷ 0 ∷ 2 ∷ 1 ∷ 0 ∷ 3 ∷ 5 ∷ 96 ∷ []
+  -- "A block interpreted in either is interpreted in the result"
+  pub leftMarks : listBelow (markAt leftTable) 5 ≡ 1 ∷ 0 ∷ 0 ∷ 1 ∷ 1 ∷ []
+  pub rightMarks : listBelow (markAt rightTable) 7 ≡ 1 ∷ 0 ∷ 1 ∷ 0 ∷ 1 ∷ 0 ∷ 0 ∷ []
+  pub marks : listBelow (markAt result) 8 ≡ 1 ∷ 1 ∷ 0 ∷ 1 ∷ 1 ∷ 1 ∷ 0 ∷ 0 ∷ []
+  -- it is the table that admissions leave, with these marks
+  pub asAdmitted : result ≡ admittedResult
+  -- and so with the sides exchanged
+  pub exchanged : tableFrom rightTable leftTable ≡ admittedExchanged
+  -- nothing to add: an empty right, an empty left, and twice the same
+  pub emptyRight : tableFrom leftTable fresh ≡ leftTable
+  pub emptyLeft : tableFrom fresh rightTable ≡ rightTable
+  pub sameTwice : tableFrom leftTable leftTable ≡ leftTable
+
+-- "the record part handed back belongs to whichever side interpreted it, the left's if both did, an empty part of the left's if neither. It is copied
+-- to a third buffer, whose rest stays".
+pub record ResultPartCases : Type 0 where
+  -- both interpreted `first`, place 0 of the left and 2 of the right
+  pub ofBoth : partOf resultRecords 0 ≡ partOf leftRecords 0
+  -- the right alone interpreted `fork`, place 1 of the left and 0 of the right
+  pub ofTheRight : partOf resultRecords 1 ≡ partOf rightRecords 0
+  -- neither interpreted `third`
+  pub ofNeither : partOf resultRecords 2 ≡ partOf thirdBuffer 2
+  -- the left alone interpreted `second`, which the right holds
+  pub ofTheLeft : partOf resultRecords 3 ≡ partOf leftRecords 3
+  -- `stranger` is the left's, `both` the right's, where its place is 4
+  pub onlyLeft : partOf resultRecords 4 ≡ partOf leftRecords 4
+  pub onlyRight : partOf resultRecords 5 ≡ partOf rightRecords 4
+  -- the right did not interpret `fourth` and `closing`
+  pub notInterpreted : (partOf resultRecords 6 ≡ partOf thirdBuffer 6) × (partOf resultRecords 7 ≡ partOf thirdBuffer 7)
+  -- from the count on
+  pub afterCount : drop (partStart 8) resultRecords ≡ drop (partStart 8) thirdBuffer
+  -- the whole buffer
+  pub whole : resultRecords ≡ resultParts
+  -- and so with the sides exchanged
+  pub exchanged : bufferFrom rightTable leftTable ≡ exchangedParts
+  -- nothing is interpreted, and nothing is copied
+  pub nothingCopied : bufferFrom four four ≡ thirdBuffer
