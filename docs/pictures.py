@@ -191,11 +191,13 @@ CRATES = {
     "campaigns": (0, "a block arrives, or waits"),
     "agreement": (1, "the theorem of two sites"),
     "build": (2, "a site's next block"),
+    "join": (3, "two controllers made one"),
     "report": (0, "the listing, step by step"),
     "c_interface": (1, "the core, digest and reading for C"),
     "arrival": (2, "the promise of arrival"),
     "controller": (1, "what holds of each of several campaigns"),
     "cases": (2, "rows of the rules, computed"),
+    "joined": (3, "what holds of joined controllers"),
     "vectors": (3, "test program"),
     "listing": (0, "the listing program"),
 }
