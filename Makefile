@@ -133,7 +133,7 @@ $(HOST)/dome: host/dome.c host/giangotum.h $(LIBRARY) | $(HOST)
 $(HOST)/digests $(HOST)/calls: $(HOST)/%: host/tests/%.c host/tests/checks.h host/giangotum.h $(LIBRARY) | $(HOST)
 	$(CC) $(CFLAGS) -Ihost -o $@ $< $(LIBRARY)
 
-$(HOST)/core_calls $(HOST)/record_calls $(HOST)/watch_calls $(HOST)/shelf_calls $(HOST)/join_calls: $(HOST)/%: host/tests/%.c host/tests/campaigns.h host/tests/checks.h $(HEADERS) $(LIBRARY) | $(HOST)
+$(HOST)/core_calls $(HOST)/record_calls $(HOST)/watch_calls $(HOST)/shelf_calls $(HOST)/join_calls: $(HOST)/%: host/tests/%.c $(wildcard host/tests/*.h) $(HEADERS) $(LIBRARY) | $(HOST)
 	$(CC) $(CFLAGS) -Ihost -o $@ $< $(LIBRARY)
 
 $(HOST)/two_campaigns $(HOST)/two_controllers: $(HOST)/%: examples/%.c $(HEADERS) $(LIBRARY) | $(HOST)

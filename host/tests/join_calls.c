@@ -1,6 +1,8 @@
 /* Calls joining at the edges of what it takes. Writes a line for each check, and ends with exit status 1 if one fails. All
  * that is lent lies in an allocation of its own length, so that valgrind sees an access past its end. */
 #include "campaigns.h"
+#include "lent.h"
+#include "records.h"
 
 #include <stdio.h>
 #include <stdlib.h>
@@ -13,24 +15,6 @@ enum { LEFT_NUMBER = 5, RIGHT_NUMBER = 6, UNTOUCHED = 99 };
 enum { DELIVERED = 3 };
 
 /* ---- Record buffers */
-
-typedef struct {
-    uint16_t numbers[GT_RECORDS_NUMBERS + 1]; /* room for a buffer that is too long */
-} buffer;
-
-static buffer of_number(uint16_t number)
-{
-    buffer b;
-
-    for (size_t i = 0; i < sizeof b.numbers / sizeof b.numbers[0]; i++)
-        b.numbers[i] = number;
-    return b;
-}
-
-static bool same_numbers(const buffer *x, const buffer *y)
-{
-    return memcmp(x->numbers, y->numbers, sizeof x->numbers) == 0;
-}
 
 /* The buffer with one place's numbers all equal to this one. */
 static buffer with_part(buffer b, size_t place, uint16_t number)
@@ -64,22 +48,6 @@ typedef struct {
 } lengths;
 
 static const lengths whole = {GT_TABLE_BYTES, GT_TABLE_BYTES, GT_RECORDS_NUMBERS, GT_RECORDS_NUMBERS, GT_RECORDS_NUMBERS};
-
-static bool only_read = true;
-
-/* Ends the loan of bytes that may only be read. */
-static void give_back(void *lent, const void *bytes, size_t length)
-{
-    only_read = only_read && (length == 0 || memcmp(lent, bytes, length) == 0);
-    free(lent);
-}
-
-static void take_back(void *to, void *lent, size_t length)
-{
-    if (length > 0)
-        memcpy(to, lent, length);
-    free(lent);
-}
 
 static gt_answer join_of_lengths(side *left, const side *right, buffer *third, lengths l)
 {

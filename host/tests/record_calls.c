@@ -1,6 +1,7 @@
 /* Calls interpretation and replay at the edges of what they take. Writes a line for each check, and ends with exit status
  * 1 if one fails. All that is lent lies in an allocation of its own length, so that valgrind sees an access past its end. */
 #include "campaigns.h"
+#include "records.h"
 
 #include <stdio.h>
 #include <stdlib.h>
@@ -10,24 +11,6 @@
 enum { DELIVERED = 3, MADE = 36 };
 
 /* ---- Record buffers */
-
-typedef struct {
-    uint16_t numbers[GT_RECORDS_NUMBERS + 1]; /* room for a buffer that is too long */
-} buffer;
-
-static buffer of_number(uint16_t number)
-{
-    buffer b;
-
-    for (size_t i = 0; i < sizeof b.numbers / sizeof b.numbers[0]; i++)
-        b.numbers[i] = number;
-    return b;
-}
-
-static bool same_numbers(const buffer *x, const buffer *y)
-{
-    return memcmp(x->numbers, y->numbers, sizeof x->numbers) == 0;
-}
 
 static uint16_t *record_of(buffer *b, size_t place, size_t slot)
 {

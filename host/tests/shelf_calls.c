@@ -2,6 +2,7 @@
  * status 1 if one fails. All that is lent lies in an allocation of its own length, so that valgrind sees an access past its
  * end. */
 #include "campaigns.h"
+#include "lent.h"
 
 #include <stdio.h>
 #include <stdlib.h>
@@ -113,22 +114,6 @@ typedef struct {
 } lengths;
 
 static const lengths right = {GT_TABLE_BYTES, GT_SHELF_BYTES, GT_OUTCOMES_NUMBERS};
-
-static bool only_read = true;
-
-/* Ends the loan of bytes that may only be read. */
-static void give_back(void *lent, const void *bytes, size_t length)
-{
-    only_read = only_read && (length == 0 || memcmp(lent, bytes, length) == 0);
-    free(lent);
-}
-
-static void take_back(void *to, void *lent, size_t length)
-{
-    if (length > 0)
-        memcpy(to, lent, length);
-    free(lent);
-}
 
 static gt_arrival arrive_of_lengths(state *s, lengths l, uint8_t campaign, block b, uint8_t verdict)
 {
