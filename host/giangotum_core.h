@@ -1,6 +1,6 @@
 /* The table and the records of a campaign, for C and C++ programs that keep them: an empty table, its form, admission,
- * interpretation, the watch for forks, a site's next block, a whole list of calls at once; and for programs that follow
- * up to four campaigns, arrivals with a shelf on which blocks wait for what they refer to.
+ * interpretation, the watch for forks, a site's next block, a whole list of calls at once; for programs that follow up to
+ * four campaigns, arrivals with a shelf on which blocks wait for what they refer to; and the joining of two controllers.
  *
  * Link with libc_interface.a (`make host` builds it), or with -lgiangotum where it is installed. Every function here is
  * proved to meet its contract for all bytes, all lengths and all numbers: none crashes, none reads or writes outside the
