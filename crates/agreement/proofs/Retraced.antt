@@ -68,9 +68,9 @@ interpreting t (suc k) = interpreting t k ++ cond (interpreted (rowAt t k)) (int
 
 -- a buffer with the parts of the marked places below k from another
 unfoldable pub restored : Bytes → List ℕ → List ℕ → ℕ → List ℕ
-restored t records third zero = third
-restored t records third (suc k) =
-    cond (interpreted (rowAt t k)) (splice (restored t records third k) (partStart k) (partOf records k)) (restored t records third k)
+restored t records buffer zero = buffer
+restored t records buffer (suc k) =
+    cond (interpreted (rowAt t k)) (splice (restored t records buffer k) (partStart k) (partOf records k)) (restored t records buffer k)
 
 -- ---- a ledger's blocks come from its admissions
 
@@ -124,7 +124,7 @@ interpreting-none t (suc k) b verdict m = elim (List·Memᴰ·append-cases (inte
     last false o = List·Memᴰ·not-nil o
 
 module _ (digest : Bytes → Bytes) (sized : (b : Bytes) → length (digest b) ≡ referenceSize) (s : Setup) (law : lawful s ≡ true)
-    (t : Bytes) (f : inForm t ≡ true) (set : setupOf t ≡ s) (block : ℕ → Bytes) (rows : Rows digest t block) (third : List ℕ) where
+    (t : Bytes) (f : inForm t ≡ true) (set : setupOf t ≡ s) (block : ℕ → Bytes) (rows : Rows digest t block) (buffer : List ℕ) where
   abbrev n : ℕ
   n = countOf t
 
@@ -133,13 +133,13 @@ module _ (digest : Bytes → Bytes) (sized : (b : Bytes) → length (digest b) �
 
   -- ---- admissions
 
-  abbrev siteA : ℕ → Site
-  siteA k = siteWith digest s third (admitting block k)
+  abbrev admittedTo : ℕ → Site
+  admittedTo k = siteWith digest s buffer (admitting block k)
 
   record Admitting (k : ℕ) (x : Site) : Type 0 where
     count : countOf (x .table) ≡ k
     same : (p : ℕ) → p < k → SameRow (rowAt (x .table) p) (withMarkOf 0 (rowAt t p))
-    records : x .records ≡ third
+    records : x .records ≡ buffer
 
   module _ (k : ℕ) (here : k < n) (x : Site) (formed : inForm (x .table) ≡ true) (setup : setupOf (x .table) ≡ s) (a : Admitting k x) where
     abbrev u : Bytes
@@ -231,10 +231,10 @@ module _ (digest : Bytes → Bytes) (sized : (b : Bytes) → length (digest b) �
           records = a .records;
         }
 
-  kept : (calls : List Call) → Reached digest sized s (length third) (ledgerOf digest s third calls) (siteWith digest s third calls)
-  kept calls = reached digest sized s law third calls
+  kept : (calls : List Call) → Reached digest sized s (length buffer) (ledgerOf digest s buffer calls) (siteWith digest s buffer calls)
+  kept calls = reached digest sized s law buffer calls
 
-  admitting-all : (k : ℕ) → k ≤ n → Admitting k (siteA k)
+  admitting-all : (k : ℕ) → k ≤ n → Admitting k (admittedTo k)
   unfolding admitting siteAfter ledgerAfter
   admitting-all zero h =
       record {
@@ -244,14 +244,14 @@ module _ (digest : Bytes → Bytes) (sized : (b : Bytes) → length (digest b) �
       }
   admitting-all (suc k) h =
       let tied = kept (admitting block k) .together .tied in
-      subst (Admitting (suc k)) (sym (after-append digest (started s third) (admitting block k) (admit (block k) 1 ∷ [])))
-      (admitted-next k h (siteA k) (tied .formed) (tied .setup) (admitting-all k (omega arith)))
+      subst (Admitting (suc k)) (sym (after-append digest (started s buffer) (admitting block k) (admit (block k) 1 ∷ [])))
+      (admitted-next k h (admittedTo k) (tied .formed) (tied .setup) (admitting-all k (omega arith)))
 
   -- ---- interpretations
 
-  module _ (all : Canonical t) (records : List ℕ) (fixed : Fixed s t records) (fits : length records ≡ bufferSize) (whole : length third ≡ bufferSize) where
+  module _ (all : Canonical t) (records : List ℕ) (fixed : Fixed s t records) (fits : length records ≡ bufferSize) (whole : length buffer ≡ bufferSize) where
     abbrev restoredTo : ℕ → List ℕ
-    restoredTo k = restored t records third k
+    restoredTo k = restored t records buffer k
 
     part-length : (k : ℕ) → k < n → length (partOf records k) ≡ partSize
     part-length k h = length-take-le partSize (drop (partStart k) records) (omega (arith, length-drop (partStart k) records, few))
@@ -393,14 +393,14 @@ module _ (digest : Bytes → Bytes) (sized : (b : Bytes) → length (digest b) �
               rw (o, lt-ltb p (suc k) (omega arith)) (sym v))
               (λ y. rw (o, le-ltb p (suc k) (omega (arith, ltb-false p k o, eqb-false p k y)))))
 
-    abbrev siteC : ℕ → Site
-    siteC k = siteWith digest s third (callsTo k)
+    abbrev interpretedTo : ℕ → Site
+    interpretedTo k = siteWith digest s buffer (callsTo k)
 
-    interpreting-all : (k : ℕ) → k ≤ n → Interpreting k (siteC k)
+    interpreting-all : (k : ℕ) → k ≤ n → Interpreting k (interpretedTo k)
     unfolding interpreting siteAfter restored
     interpreting-all zero h =
         let a = admitting-all n (omega arith) in
-        subst (Interpreting 0) (sym (ap (siteWith digest s third) (append-nil (admitting block n)))) (record {
+        subst (Interpreting 0) (sym (ap (siteWith digest s buffer) (append-nil (admitting block n)))) (record {
           count = a .count;
           same = λ p l. rw (le-ltb p 0 (omega arith)) (a .same p l);
           is = a .records;
@@ -410,33 +410,33 @@ module _ (digest : Bytes → Bytes) (sized : (b : Bytes) → length (digest b) �
         let a = interpreting-all k (omega arith) in
         by-test (interpreted (rowAt t k))
         (λ y. subst (Interpreting (suc k))
-        (sym (ap (siteWith digest s third) (ap (λ (cs : List Call). admitting block n ++ (interpreting t k ++ cs)) (ap (λ (z : Bool). cond z (interpret k ∷ []) []) y)
-        ∙ sym (append-assoc (admitting block n) (interpreting t k) (interpret k ∷ []))) ∙ after-append digest (started s third) (callsTo k) (interpret k ∷ [])))
-        (interpreted-next k h (siteC k) (tied .formed) (tied .setup) a (eqb-true (markAt t k) 1 y)))
+        (sym (ap (siteWith digest s buffer) (ap (λ (cs : List Call). admitting block n ++ (interpreting t k ++ cs)) (ap (λ (z : Bool). cond z (interpret k ∷ []) []) y)
+        ∙ sym (append-assoc (admitting block n) (interpreting t k) (interpret k ∷ []))) ∙ after-append digest (started s buffer) (callsTo k) (interpret k ∷ [])))
+        (interpreted-next k h (interpretedTo k) (tied .formed) (tied .setup) a (eqb-true (markAt t k) 1 y)))
         (λ z. subst (Interpreting (suc k))
-        (sym (ap (siteWith digest s third) (ap (λ (cs : List Call). admitting block n ++ (interpreting t k ++ cs)) (ap (λ (z : Bool). cond z (interpret k ∷ []) []) z)
+        (sym (ap (siteWith digest s buffer) (ap (λ (cs : List Call). admitting block n ++ (interpreting t k ++ cs)) (ap (λ (z : Bool). cond z (interpret k ∷ []) []) z)
         ∙ ap (λ (cs : List Call). admitting block n ++ cs) (append-nil (interpreting t k)))))
-        (passed-over k h (siteC k) (tied .formed) (tied .setup) a z))
+        (passed-over k h (interpretedTo k) (tied .formed) (tied .setup) a z))
 
     -- the calls
     abbrev pub callsOf : List Call
     callsOf = admitting block n ++ interpreting t n
 
-    table-is : siteC n .table ≡ t
+    table-is : interpretedTo n .table ≡ t
     table-is =
         let r = kept (callsTo n) in
         let tied = r .together .tied in
         let a = interpreting-all n (omega arith) in
-        tables-equal (siteC n .table) t (tied .formed) f (r .canonical) all (tied .setup ∙ sym set) (a .count)
+        tables-equal (interpretedTo n .table) t (tied .formed) f (r .canonical) all (tied .setup ∙ sym set) (a .count)
         (λ p h. let l : p < n = omega (arith, a .count) in
-        subst (λ (m : ℕ). SameRow (rowAt (siteC n .table) p) (withMarkOf m (rowAt t p))) (ap (λ (z : Bool). cond z (markAt t p) 0) (lt-ltb p n l)) (a .same p l))
+        subst (λ (m : ℕ). SameRow (rowAt (interpretedTo n .table) p) (withMarkOf m (rowAt t p))) (ap (λ (z : Bool). cond z (markAt t p) 0) (lt-ltb p n l)) (a .same p l))
 
-    pub replays : siteWith digest s third callsOf ≡ record { table = t; records = restored t records third n }
-    replays = λ i. record { table = table-is i; records = interpreting-all n (omega arith) .is i }
+    pub retraced : siteWith digest s buffer callsOf ≡ record { table = t; records = restored t records buffer n }
+    retraced = λ i. record { table = table-is i; records = interpreting-all n (omega arith) .is i }
 
     -- they admit the table's blocks and no other
-    pub calls-among : (b : Bytes) → List·Memᴰ b (ledgerOf digest s third callsOf .blocks) → (i : ℕ) × (i < n) × (b ≡ block i)
-    calls-among b m = elim (after-blocks digest s (length third) empty callsOf b m) [
+    pub calls-among : (b : Bytes) → List·Memᴰ b (ledgerOf digest s buffer callsOf .blocks) → (i : ℕ) × (i < n) × (b ≡ block i)
+    calls-among b m = elim (after-blocks digest s (length buffer) empty callsOf b m) [
       | inl o ↦ absurd (List·Memᴰ·not-nil o)
       | inr o ↦ elim (List·Memᴰ·append-cases (admitting block n) (o .1)) [
         | inl u ↦ admitting-from block n b (o .0) u

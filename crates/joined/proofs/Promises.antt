@@ -23,7 +23,7 @@ use Rattle.agreement.proofs.Standing.{Standing, standing}
 use Rattle.agreement.proofs.Runs.{after-append}
 use Rattle.agreement.proofs.Theorem.{promised}
 use Rattle.agreement.proofs.Reached.{Fixed, Reached, reached, Rows, reached-rows}
-use Rattle.agreement.proofs.Retraced.{callsOf, replays, calls-among}
+use Rattle.agreement.proofs.Retraced.{callsOf, retraced, calls-among}
 use Rattle.arrival.proofs.Theorem as arrival
 use Rattle.join.specs.Join.{joinedTable, joinedRecords}
 use Rattle.join.specs.Steps.{Passed}
@@ -88,7 +88,7 @@ module _ (digest : Bytes → Bytes) (sized : (b : Bytes) → length (digest b) �
     calls = callsOf digest sized s law t (all .formed) set block rows third canonical records fixed size (p .size)
 
     reaches : siteWith digest s third calls ≡ joinOf x y third
-    reaches = replays digest sized s law t (all .formed) set block rows third canonical records fixed size (p .size) ∙ (λ i. record {
+    reaches = retraced digest sized s law t (all .formed) set block rows third canonical records fixed size (p .size) ∙ (λ i. record {
       table = sym (joined-passed (x .table) (y .table) (x .records) (y .records) third e) i;
       records = (restored-is (x .table) (y .table) (x .records) (y .records) third p c (omega arith) ∙ sym (copied-passed (x .table) (y .table) (x .records) (y .records) third e)) i;
     })
