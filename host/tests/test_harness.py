@@ -122,24 +122,24 @@ def test_promise_of_arrival():
     expect(site_counts(text, "met with forked sites held there") == SITE_COUNTS - {"1"}, text)
 
 
+def expect_no_difference(kind, cases, call, met, fewest_met):
+    """Cases of one kind find none, in every answer of its call and in all that they must meet, some of it so often."""
+    text = output_of([HARNESS, "--kind", kind, "--seed", "1", "--cases", str(cases)])
+    expect(last_line(text) == f"{cases} cases, 0 differences", text)
+    expect_answered(text, call)
+    expect_met(text, met)
+    for name, fewest in fewest_met.items():
+        expect_met(text, [name], fewest)
+
+
 def test_shelves():
     """Four campaigns with a shelf, shelves that no calls reach, and damaged ones."""
-    text = output_of([HARNESS, "--kind", "shelves", "--seed", "1", "--cases", str(SHELVES)])
-    expect(last_line(text) == f"{SHELVES} cases, 0 differences", text)
-    expect_answered(text, "gt_arrive")
-    expect_met(text, SHELVED)
-    for name, fewest in FEWEST_ALONE.items():
-        expect_met(text, [name], fewest)
+    expect_no_difference("shelves", SHELVES, "gt_arrive", SHELVED, FEWEST_ALONE)
 
 
 def test_joins():
     """Two controllers whose tables and records calls reached, and others, some with something wrong."""
-    text = output_of([HARNESS, "--kind", "joins", "--seed", "1", "--cases", str(JOINS)])
-    expect(last_line(text) == f"{JOINS} cases, 0 differences", text)
-    expect_answered(text, "gt_join")
-    expect_met(text, JOINED)
-    for name, fewest in FEWEST_GONE_ON.items():
-        expect_met(text, [name], fewest)
+    expect_no_difference("joins", JOINS, "gt_join", JOINED, FEWEST_GONE_ON)
 
 
 def test_another_program_is_found():

@@ -8,17 +8,20 @@ use lib.ListN.{length, drop}
 use Rattle.base.specs.Bytes.{Bytes, sameBytes}
 use Rattle.base.proofs.Bytes.{same-equal}
 use Rattle.block.specs.declared.Answer.{Answer}
+use Rattle.broadcast.specs.Record.{flatten}
 use Rattle.table.specs.Layout.{rowStart, siteOffset, viewOf, withMark}
 use Rattle.table.specs.Form.{inForm}
+use Rattle.table.specs.Fresh.{freshTable}
 use Rattle.table.specs.Checks.{success, refused, answerTo}
-use Rattle.interpret.specs.Buffer.{partStart, partOf}
+use Rattle.interpret.specs.Buffer.{partStart, partOf, numbersOf}
+use Rattle.interpret.specs.Interpretation.{joinIf, directsBelow, recordFor, marked, recorded}
 use Rattle.join.specs.Join.{sameBlock, joinedCount, joinChecks, joinAnswer, joinPlace, joinBelow, joinedTable, handedBack, copiedBelow, joined, copied}
 use Rattle.cases.specs.Run.{zeros}
 use Rattle.cases.specs.Blocks.{fresh, stranger, numbered, four, holding}
 use Rattle.cases.specs.Form.{changed}
 use Rattle.cases.specs.Arrivals.{tableOf}
-use Rattle.cases.specs.Joins.{joining, unformed, otherOwner, twin, otherSite, closing, leftTable, rightTable, rising, leftRecords, rightRecords, thirdBuffer, tableFrom, bufferFrom, result, resultRecords, admittedResult, admittedExchanged, resultParts, exchangedParts, Stays, JoinOrderCases, JoinSetupCases, ClashCases, JoinFullCases, HandedBackCases, ResultCases, ResultPartCases}
-use Rattle.cases.proofs.Opened.{openedTable}
+use Rattle.cases.specs.Joins.{joining, unformed, otherOwner, twin, otherSite, closing, leftTable, rightTable, rising, leftRecords, rightRecords, thirdBuffer, tableFrom, bufferFrom, result, resultRecords, admittedResult, admittedExchanged, resultParts, exchangedParts, Stays, JoinOrderCases, JoinSetupCases, ClashCases, JoinFullCases, HandedBackCases, ResultCases, ResultPartCases, ReachedCases, leftSite, rightSite}
+use Rattle.cases.proofs.Opened.{openedLedger, openedTable}
 use Rattle.cases.proofs.Full.{formed, full-formed}
 
 -- what joining is computed by
@@ -201,3 +204,9 @@ parts =
       exchanged = same-equal (bufferFrom rightTable leftTable) exchangedParts refl;
       nothingCopied = same-equal (bufferFrom four four) thirdBuffer refl;
     }
+
+-- ---- two sites that calls reached
+
+pub reached : ReachedCases
+unfolding openedJoins openedLedger leftSite rightSite freshTable marked recorded joinIf directsBelow recordFor flatten numbersOf
+reached = record { lawfulSetup = refl; bothReached = refl }

@@ -9,14 +9,18 @@ use Rattle.base.specs.Bytes.{Bytes}
 use Rattle.base.specs.List.{listBelow}
 use Rattle.block.specs.Limits.{slotCount}
 use Rattle.block.specs.declared.Answer.{Answer}
+use Rattle.setup.specs.Setup.{lawful}
 use Rattle.table.specs.Layout.{ownersOffset, siteOffset, sequenceOffset, requestsOffset, rowStart, tableSize, setupOf, countOf, digestAt, siteAt, sequenceAt, referencesAt, requestAt, markAt}
 use Rattle.table.specs.Form.{inForm}
 use Rattle.table.specs.Fresh.{emptyTable}
 use Rattle.table.specs.Checks.{success, refused}
 use Rattle.interpret.specs.Buffer.{bufferSize, partStart, partOf}
+use Rattle.agreement.specs.Ledger.Call.{interpret}
+use Rattle.agreement.specs.Run.{Site}
+use Rattle.agreement.specs.Promises.{siteWith}
 use Rattle.join.specs.Join.{joinAnswer, joined, copied}
 use Rattle.cases.specs.Toy.{toy, block}
-use Rattle.cases.specs.Run.{zeros}
+use Rattle.cases.specs.Run.{good, zeros}
 use Rattle.cases.specs.Blocks.{sites, fresh, first, fork, second, both, stranger, third, fourth, numbered, four, holding}
 use Rattle.cases.specs.Form.{changed, referring, marked}
 use Rattle.cases.specs.Arrivals.{tableOf}
@@ -127,6 +131,14 @@ abbrev pub Stays : Bytes → Bytes → List ℕ → Type 0
 Stays left right records =
     (joined left right records rightRecords thirdBuffer ≡ left) × (copied left right records rightRecords thirdBuffer ≡ thirdBuffer)
 
+-- ---- two sites that calls reached: both have interpreted `first`, and each has a block that the other lacks
+
+unfoldable pub leftSite : Site
+leftSite = siteWith toy (sites 4) leftRecords (good first ∷ interpret 0 ∷ good second ∷ [])
+
+unfoldable pub rightSite : Site
+rightSite = siteWith toy (sites 4) rightRecords (good fork ∷ interpret 0 ∷ good first ∷ interpret 1 ∷ [])
+
 -- ---- cases
 
 -- "in that order after 2 and 12": a row for each two neighbours of 2, 12, 23, 24, 25. The first call has both causes and gets the earlier number;
@@ -222,6 +234,11 @@ pub record HandedBackCases : Type 0 where
   pub bySetup : Stays leftTable otherOwner leftRecords
   pub byClash : Stays four otherSite leftRecords
   pub byFull : Stays (holding 64) (tableOf (stranger ∷ [])) leftRecords
+
+-- "From tables and records that calls reached": the theorem's premises are met.
+pub record ReachedCases : Type 0 where
+  pub lawfulSetup : lawful (sites 4) ≡ true
+  pub bothReached : joinAnswer (leftSite .table) (rightSite .table) (leftSite .records) (rightSite .records) thirdBuffer ≡ success 3
 
 -- The result's table, field by field and as a whole.
 pub record ResultCases : Type 0 where

@@ -18,7 +18,7 @@ use Rattle.table.proofs.Checks.{numbered, all-hold}
 use Rattle.interpret.specs.Buffer.{bufferSize}
 use Rattle.join.specs.Join.{sameSetup, joinedCount, joinAnswer, joinedTable, joinedRecords, joined, copied}
 use Rattle.join.specs.Promises.{OneSetup}
-use Rattle.join.specs.Steps.{sidesChecks, blocksChecks, blocksAnswer, BothFormed, Passed}
+use Rattle.join.specs.Steps.{sidesChecks, blocksChecks, blocksAnswer, blocksTable, blocksRecords, BothFormed, Passed}
 use Rattle.join.proofs.Passes.{setup-same, whole-of}
 
 module _ (left right : Bytes) (leftRecords rightRecords third : List ℕ) where
@@ -79,8 +79,7 @@ module _ (left right : Bytes) (leftRecords rightRecords third : List ℕ) where
       rw (w .leftFormed, w .rightFormed, eq-eqb _ _ (w .leftSize), eq-eqb _ _ (w .rightSize), eq-eqb _ _ (w .size), setup-same (setupOf left) (setupOf right) .1 (o .setup))
 
   pub decided : OneSetup left right leftRecords rightRecords third → (a : Answer) (t : Bytes) (b : List ℕ) → a ≡ blocksAnswer left right
-      → t ≡ cond (eqb (blocksAnswer left right .refusal) 0) (joinedTable left right) left
-      → b ≡ cond (eqb (blocksAnswer left right .refusal) 0) (joinedRecords left right leftRecords rightRecords third) third → Leaves a t b
+      → t ≡ blocksTable left right → b ≡ blocksRecords left right leftRecords rightRecords third → Leaves a t b
   unfolding joined copied
   decided o a t b e f g =
       let q = blocks-decide o in (
@@ -115,8 +114,7 @@ module _ (left right : Bytes) (leftRecords rightRecords third : List ℕ) where
     abbrev Left : Bytes → List ℕ → Type 0
     Left t b =
         (a ≡ blocksAnswer left right)
-        × ((t ≡ cond (eqb (blocksAnswer left right .refusal) 0) (joinedTable left right) left)
-        × (b ≡ cond (eqb (blocksAnswer left right .refusal) 0) (joinedRecords left right leftRecords rightRecords third) third))
+        × ((t ≡ blocksTable left right) × (b ≡ blocksRecords left right leftRecords rightRecords third))
 
     pub as-was : a .refusal ≢ 0 → Left left third
     as-was n = let z = ne-eqb (blocksAnswer left right .refusal) 0 (λ q. n (ap (λ (x : Answer). x .refusal) e ∙ q)) in (e, (rw z, rw z))

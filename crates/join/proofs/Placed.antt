@@ -1,5 +1,5 @@
 -- Where blocks of one table stand in another, found one after the other, and the places in the result. Assumes nothing.
-use mathlib.Core.Path.{_≡_, refl, sym, ap, _∙_}
+use mathlib.Core.Path.{_≡_, refl, ap, _∙_}
 use mathlib.Core.Bool.{true, false, not}
 use mathlib.Core.List.{List}
 use Prim.Native.Nat.{ℕ, _+_, _≤_, _<_}
@@ -21,7 +21,7 @@ use Rattle.table.specs.Form.{inForm}
 use Rattle.table.proofs.Formed.{formed-of}
 use Rattle.join.specs.Join.{isExtra, placeIn}
 use Rattle.join.specs.Promises.{placeBehind}
-use Rattle.join.specs.Steps.{Held, resultPlace, Numbered}
+use Rattle.join.specs.Steps.{Held, resultPlace}
 
 -- ---- the places below k
 

@@ -18,6 +18,10 @@ use Rattle.table.specs.Form.{inForm}
 use Rattle.table.specs.Checks.{Check, check, answerTo}
 use Rattle.interpret.specs.Buffer.{bufferSize, partStart, partOf}
 
+-- the place that holds the block of this digest, or the count
+abbrev pub placeIn : View → Bytes → ℕ
+placeIn v d = placeOf v (v .held) d
+
 -- ---- the checks
 
 -- 23: "setups differ"
@@ -90,7 +94,7 @@ carried v w j =
 unfoldable pub joinPlace : Bytes → View → ℕ → Bytes
 joinPlace t w j =
     cond (anyBelow (hasDigest (viewOf t) (w .row j .digest)) (countOf t))
-    (cond (interpreted (w .row j)) (withMark t (placeOf (viewOf t) (countOf t) (w .row j .digest))) t)
+    (cond (interpreted (w .row j)) (withMark t (placeIn (viewOf t) (w .row j .digest))) t)
     (withRow t (carried (viewOf t) w j))
 
 -- the left's table with the right's places below k
@@ -102,10 +106,6 @@ abbrev pub joinedTable : Bytes → Bytes → Bytes
 joinedTable left right = joinBelow left (viewOf right) (countOf right)
 
 -- ---- the records
-
--- the place that holds the block of this digest, or the count
-abbrev pub placeIn : View → Bytes → ℕ
-placeIn v d = placeOf v (v .held) d
 
 -- a side holds a block there, and has interpreted it
 abbrev pub interpretedAt : View → ℕ → Bool

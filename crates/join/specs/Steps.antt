@@ -15,7 +15,7 @@ use Rattle.table.specs.Layout.{referencesOffset, requestsOffset, setupOf, count
 use Rattle.table.specs.Form.{inForm}
 use Rattle.table.specs.Checks.{Check, answerTo}
 use Rattle.interpret.specs.Buffer.{bufferSize, partStart}
-use Rattle.join.specs.Join.{clashAt, isExtra, joinedCount, joinChecks, joinBelow, placeIn, handedBack}
+use Rattle.join.specs.Join.{clashAt, isExtra, joinedCount, joinChecks, joinBelow, joinedTable, placeIn, handedBack, joinedRecords}
 use Rattle.join.specs.Promises.{placeBehind}
 
 -- ---- the checks in two parts: 2, 12 and 23; then 24 and 25, which read the tables alone
@@ -28,6 +28,14 @@ blocksChecks left right = drop 3 (joinChecks left right 0 0 0)
 
 abbrev pub blocksAnswer : Bytes → Bytes → Answer
 blocksAnswer left right = answerTo (blocksChecks left right) (joinedCount (viewOf left) (viewOf right))
+
+-- what these leave of the left's table and of the third buffer
+abbrev pub blocksTable : Bytes → Bytes → Bytes
+blocksTable left right = cond (eqb (blocksAnswer left right .refusal) 0) (joinedTable left right) left
+
+abbrev pub blocksRecords : Bytes → Bytes → List ℕ → List ℕ → List ℕ → List ℕ
+blocksRecords left right leftRecords rightRecords third =
+    cond (eqb (blocksAnswer left right .refusal) 0) (joinedRecords left right leftRecords rightRecords third) third
 
 -- ---- what the checks have shown
 

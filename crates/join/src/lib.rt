@@ -10,14 +10,12 @@ use block::Answer;
 use interpret::BUFFER_SIZE;
 use table::MAX_PLACES;
 ghost use mathlib.Core.Path.{_≡_};
-ghost use mathlib.Core.Bool.{cond};
-ghost use lib.Dec.{eqb};
 ghost use lib.ListN.{length};
 ghost use Rattle.table.specs.Layout.{tableSize, setupOf};
 ghost use Rattle.table.specs.Checks.{answerTo};
 ghost use Rattle.join.specs.Join.{sameSetup, joinAnswer, joinedTable, joinedRecords, joined, copied};
 ghost use Rattle.join.specs.Promises.{OneSetup};
-ghost use Rattle.join.specs.Steps.{sidesChecks, blocksAnswer, BothFormed, Passed, Held, Numbered};
+ghost use Rattle.join.specs.Steps.{sidesChecks, blocksAnswer, blocksTable, blocksRecords, BothFormed, Passed, Held, Numbered};
 
 // Whether the setups of two tables are the same.
 fn same_setup(left: &[u8], right: &[u8]) -> bool
@@ -140,8 +138,8 @@ fn join_blocks<'a>(
 ) -> Answer
     requires { ⌜ OneSetup (now left) (now right) (now «left_records») (now «right_records») (now third) ⌝ }
     ensures { λ r. ⌜ r ≡ blocksAnswer (now (left .entry)) (now (right .entry)) ⌝ }
-    ensures { λ _. ⌜ now (left .exit) ≡ cond (eqb (blocksAnswer (now (left .entry)) (now (right .entry)) .refusal) 0) (joinedTable (now (left .entry)) (now (right .entry))) (now (left .entry)) ⌝ }
-    ensures { λ _. ⌜ now (third .exit) ≡ cond (eqb (blocksAnswer (now (left .entry)) (now (right .entry)) .refusal) 0) (joinedRecords (now (left .entry)) (now (right .entry)) (now («left_records» .entry)) (now («right_records» .entry)) (now (third .entry))) (now (third .entry)) ⌝ }
+    ensures { λ _. ⌜ now (left .exit) ≡ blocksTable (now (left .entry)) (now (right .entry)) ⌝ }
+    ensures { λ _. ⌜ now (third .exit) ≡ blocksRecords (now (left .entry)) (now (right .entry)) (now («left_records» .entry)) (now («right_records» .entry)) (now (third .entry)) ⌝ }
 {
     let mut in_right = [0u8; MAX_PLACES];
     places::place_all(right, left, &mut in_right);

@@ -91,7 +91,7 @@ module _ (left right : Bytes) (leftRecords rightRecords third : List ℕ) (p : P
 
   module _ (s : Setup) (fixedLeft : Fixed s left leftRecords) (fixedRight : Fixed s right rightRecords) where
     -- the part handed back is that of the right, wherever that has one
-    abbrev RightPart : ℕ → Type 0
+    abbrev pub RightPart : ℕ → Type 0
     RightPart j = (q : ℕ) → q < c → digestAt t q ≡ digestAt right j → markAt right j ≡ 1 → part q ≡ partOf rightRecords j
 
     module _ (j : ℕ) (h : j < m) (ih : (i : ℕ) → i < j → RightPart i) (q : ℕ) (l : q < c) (e : digestAt t q ≡ digestAt right j) (mark : markAt right j ≡ 1) where
@@ -159,7 +159,7 @@ module _ (left right : Bytes) (leftRecords rightRecords third : List ℕ) (p : P
       | inr b ↦ right-below k (omega arith) j b
     ]
 
-    right-part : (j : ℕ) → j < m → RightPart j
+    pub right-part : (j : ℕ) → j < m → RightPart j
     right-part j h = right-below m (omega arith) j h
 
   pub restored-is : (k : ℕ) → k ≤ c → restored t records third k ≡ copiedTo k

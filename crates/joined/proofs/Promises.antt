@@ -1,6 +1,7 @@
 -- A joined site is one that calls could have reached, with any digest of 32 bytes, and so with SHA-256. Assumes nothing.
 use mathlib.Core.Path.{_≡_, sym, ap, _∙_, subst}
 use mathlib.Core.Bool.{true}
+use mathlib.Core.Logic.{_⊎_, _↔_}
 use mathlib.Core.List.{List, _++_, List·Memᴰ, Memᴰ·append-left, Memᴰ·append-right, Memᴰ·cast}
 use Prim.Native.Nat.{ℕ, _<_}
 use native.Mathlib.Omega.{arith}
@@ -30,8 +31,9 @@ use Rattle.join.specs.Steps.{Passed}
 use Rattle.join.proofs.Passes.{passes, joined-passed, copied-passed}
 use Rattle.join.proofs.Joining.{Joining}
 use Rattle.join.proofs.Handed.{whole, records-length}
-use Rattle.joined.specs.Promises.{joinOf, CanJoin, Reachable, left, right, Covered}
+use Rattle.joined.specs.Promises.{joinOf, CanJoin, ShowsDelivered, Reachable, left, right, Covered}
 use Rattle.joined.proofs.Fixed.{restored-is, joined-fixed}
+use Rattle.joined.proofs.Kept.{delivered}
 use Rattle.joined.proofs.Blocks.{blockOf, placed-right, joined-rows}
 use Rattle.joined.proofs.Agreed.{agreed}
 
@@ -78,8 +80,11 @@ module _ (digest : Bytes → Bytes) (sized : (b : Bytes) → length (digest b) �
     canonical : Canonical t
     canonical = all .canonical (r₁ .canonical)
 
+    fixedRight : Fixed s (y .table) (y .records)
+    fixedRight = subst (λ (u : Setup). Fixed u (y .table) (y .records)) one-setup (r₂ .fixed)
+
     fixed : Fixed s t records
-    fixed = joined-fixed (x .table) (y .table) (x .records) (y .records) third p s (r₁ .fixed) (subst (λ (u : Setup). Fixed u (y .table) (y .records)) one-setup (r₂ .fixed))
+    fixed = joined-fixed (x .table) (y .table) (x .records) (y .records) third p s (r₁ .fixed) fixedRight
 
     size : length records ≡ bufferSize
     size = records-length (x .table) (y .table) (x .records) (y .records) third p
@@ -87,11 +92,21 @@ module _ (digest : Bytes → Bytes) (sized : (b : Bytes) → length (digest b) �
     abbrev calls : List Call
     calls = callsOf digest sized s law t (all .formed) set block rows third canonical records fixed size (p .size)
 
-    reaches : siteWith digest s third calls ≡ joinOf x y third
-    reaches = retraced digest sized s law t (all .formed) set block rows third canonical records fixed size (p .size) ∙ (λ i. record {
+    -- what joining leaves
+    result-is : _≡_ {A = Site} (record { table = t; records = records }) (joinOf x y third)
+    result-is = λ i. record {
       table = sym (joined-passed (x .table) (y .table) (x .records) (y .records) third e) i;
-      records = (restored-is (x .table) (y .table) (x .records) (y .records) third p c (omega arith) ∙ sym (copied-passed (x .table) (y .table) (x .records) (y .records) third e)) i;
-    })
+      records = sym (copied-passed (x .table) (y .table) (x .records) (y .records) third e) i;
+    }
+
+    shows : (slot v : ℕ) → ShowsDelivered (joinOf x y third) slot v ↔ (ShowsDelivered x slot v ⊎ ShowsDelivered y slot v)
+    shows slot v = subst (λ (z : Site). ShowsDelivered z slot v ↔ (ShowsDelivered x slot v ⊎ ShowsDelivered y slot v)) result-is
+        (delivered x y third p s (r₁ .fixed) fixedRight slot v)
+
+    reaches : siteWith digest s third calls ≡ joinOf x y third
+    reaches =
+        retraced digest sized s law t (all .formed) set block rows third canonical records fixed size (p .size)
+        ∙ ap (λ (b : List ℕ). record { table = t; records = b }) (restored-is (x .table) (y .table) (x .records) (y .records) third p c (omega arith)) ∙ result-is
 
     -- what is admitted
 
@@ -123,6 +138,8 @@ module _ (digest : Bytes → Bytes) (sized : (b : Bytes) → length (digest b) �
       (siteWith digest s buffer₁ calls₁) (siteWith digest z buffer₂ calls₂) (reached digest sized s law buffer₁ calls₁) (reached digest sized z other buffer₂ calls₂) third e in
       record {
         reachable = r;
+        delivered = shows s z law (length buffer₁) (length buffer₂) (ledgerOf digest s buffer₁ calls₁) (ledgerOf digest z buffer₂ calls₂)
+            (siteWith digest s buffer₁ calls₁) (siteWith digest z buffer₂ calls₂) (reached digest sized s law buffer₁ calls₁) (reached digest sized z other buffer₂ calls₂) third e;
         goesOn = λ more. after-append digest (started s third) (r .calls) more ∙ ap (λ (x : Site). siteAfter digest x more) (r .reaches);
         promised = λ more buffer₃ calls₃. promised digest sized s law third buffer₃ (r .calls ++ more) calls₃;
         arrives = λ more. arrival.arrival digest sized s law third (r .calls ++ more);

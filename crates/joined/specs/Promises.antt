@@ -1,7 +1,7 @@
 -- Request Eight: "From tables and records that calls reached, the result is one that calls could have reached, so agreement covers joined tables
 -- too". proofs/Promises.antt shows it, with SHA-256.
 use mathlib.Core.Path.{_≡_}
-use mathlib.Core.Logic.{_⊎_, _≢_}
+use mathlib.Core.Logic.{_⊎_, _≢_, _↔_}
 use mathlib.Core.List.{List, _++_, List·Memᴰ}
 use Prim.Native.Nat.{ℕ, _+_, _*_, _≤_, _<_}
 use lib.ListN.{getD}
@@ -61,6 +61,8 @@ module _ (digest : Bytes → Bytes) where
     pub record Covered : Type 0 where
       -- "From tables and records that calls reached, the result is one that calls could have reached"
       pub reachable : Reachable s third blocks result
+      -- nothing that was delivered is lost, and nothing comes up: the result shows what either side shows
+      pub delivered : (slot v : ℕ) → ShowsDelivered result slot v ↔ (ShowsDelivered left slot v ⊎ ShowsDelivered right slot v)
       -- whatever calls it goes on by, it is a site of both theorems, beside any further site
       pub goesOn : (more : List Call) → siteWith digest s third (reachable .calls ++ more) ≡ siteAfter digest result more
       pub promised : (more : List Call) (buffer₃ : List ℕ) (calls₃ : List Call) → Promised digest s third buffer₃ (reachable .calls ++ more) calls₃

@@ -1,8 +1,6 @@
 -- `blocks_answer` meets its contract: one law for each way out. Assumes nothing.
-use mathlib.Core.Path.{_≡_, sym, ap, _∙_}
 use native.Mathlib.Omega.{arith}
 use borrow.Author.Needs.{needs}
-use Rattle.block.specs.declared.Answer.{Answer}
 use Rattle.table.proofs.Formed.{formed-of}
 use Rattle.join.proofs.Ways.{way24, way25, way0}
 use Rattle.join.proofs.blocks_answer.Statement.{statement}

@@ -1,5 +1,4 @@
 -- `join` meets its contract: the checks of the two sides, then those of their blocks. Assumes nothing.
-use mathlib.Core.Path.{_≡_}
 use borrow.Author.Needs.{needs}
 use Rattle.join.proofs.Call.{refused, one-setup-of, decided}
 use Rattle.join.proofs.join.Statement.{statement}

@@ -1,5 +1,4 @@
 -- `join_blocks` meets its contract: each block is looked up, and the checks of the blocks decide. Assumes nothing.
-use mathlib.Core.Path.{_≡_, sym, ap, _∙_}
 use borrow.Author.Needs.{needs}
 use Rattle.join.specs.Steps.{BothFormed}
 use Rattle.join.proofs.Call.{passed, as-was, as-joined}

@@ -1,6 +1,5 @@
 -- `is_in` meets its contract: a mask of 64 bits has no place from 64 on. Assumes nothing.
 use mathlib.Core.Path.{sym}
-use Prim.Native.Nat.{_^_}
 use native.Mathlib.Omega.{arith}
 use lib.Pow.{pow-mono}
 use borrow.Author.Needs.{needs}

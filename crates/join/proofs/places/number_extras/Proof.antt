@@ -1,11 +1,11 @@
 -- `number_extras` meets its contract. The loop's invariant: the blocks passed have their places in the result. Assumes nothing.
-use mathlib.Core.Path.{_≡_, sym, ap, _∙_}
+use mathlib.Core.Path.{_≡_, ap, _∙_}
 use mathlib.Core.Logic.{⊎-elim}
-use Prim.Native.Nat.{ℕ, _+_, _-_, _≤_, _<_}
+use Prim.Native.Nat.{_-_, _≤_, _<_}
 use native.Mathlib.Omega.{arith}
 use borrow.Author.Needs.{needs}
 use Rattle.table.specs.View.{maxPlaces}
-use Rattle.table.specs.Layout.{countOf, viewOf}
+use Rattle.table.specs.Layout.{countOf}
 use Rattle.table.proofs.Formed.{formed-of}
 use Rattle.join.specs.Promises.{placeBehind}
 use Rattle.join.specs.Steps.{BothFormed}

@@ -1,12 +1,11 @@
 -- `join_place` meets its contract: the block is put behind, marked, or left as it is. Assumes nothing.
-use mathlib.Core.Path.{_≡_, sym, ap, _∙_}
-use mathlib.Core.Logic.{_≢_}
+use mathlib.Core.Path.{sym, ap, _∙_}
 use Prim.Native.Nat.{ℕ, _≤_, _<_}
 use native.Mathlib.Omega.{arith}
 use lib.ListN.{getD}
 use borrow.Author.Needs.{needs}
-use Rattle.table.specs.Layout.{countOf, referencesAt, withRow}
-use Rattle.join.specs.Steps.{EachPlaced, renumberedBy, rowWith}
+use Rattle.table.specs.Layout.{countOf, withRow}
+use Rattle.join.specs.Steps.{renumberedBy, rowWith}
 use Rattle.join.proofs.Standing.{table-sized, right-place, each, next-place, put-is, mark-is, leave-is}
 use Rattle.join.proofs.rows.join_place.Statement.{statement}
 use Rattle.join.proofs.rows.join_place.Tie as tie

@@ -1,7 +1,6 @@
 -- `put_carried` meets its contract: the row's bytes with the new references, and the count. Assumes nothing.
-use mathlib.Core.Path.{_≡_, ap}
+use mathlib.Core.Path.{ap}
 use Prim.Native.Nat.{ℕ}
-use native.Mathlib.Omega.{arith}
 use lib.ListN.{take, drop}
 use borrow.Author.Needs.{needs}
 use Rattle.base.proofs.Parts.{part-size}
