@@ -61,7 +61,7 @@ module _ (digest : Bytes → Bytes) where
     pub record Covered : Type 0 where
       -- "From tables and records that calls reached, the result is one that calls could have reached"
       pub reachable : Reachable s third blocks result
-      -- nothing that was delivered is lost, and nothing comes up: the result shows what either side shows
+      -- nothing that was delivered is lost, and nothing is new: the result shows what either side shows
       pub delivered : (slot v : ℕ) → ShowsDelivered result slot v ↔ (ShowsDelivered left slot v ⊎ ShowsDelivered right slot v)
       -- whatever calls it goes on by, it is a site of both theorems, beside any further site
       pub goesOn : (more : List Call) → siteWith digest s third (reachable .calls ++ more) ≡ siteAfter digest result more
