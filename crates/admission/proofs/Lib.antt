@@ -1,4 +1,5 @@
 -- The laws of admission. Other crates' proofs cite them.
+mod LookUp
 pub mod Listed
 pub mod Referring
 pub mod Causes

@@ -18,7 +18,7 @@ use Rattle.table.specs.View.{Row, View}
 use Rattle.table.specs.Layout.{countOf, digestAt, viewOf, withRow}
 use Rattle.table.specs.Rules.{hasDigest}
 use Rattle.table.specs.Checks.{answerTo}
-use Rattle.table.specs.Steps.{Places}
+use Rattle.table.specs.Steps.{Indexed}
 use Rattle.admission.specs.Admission.{rowFor, heldChecks}
 
 -- the searches over a list of references by its own length
@@ -47,11 +47,12 @@ rowWith d site sequence references requests =
       mark = 0;
     }
 
--- a table and a block that checks 2 to 7 let pass, and the mask of the places that the block refers to
-pub record Ready (t b : Bytes) (references : ℕ) : Type 0 where
-  pub sized : Places t (countOf t)
+-- a table with its index and a block that checks 2 to 7 let pass, the mask of the places that the block refers to, and its first missing reference
+pub record Ready (t index b : Bytes) (references none : ℕ) : Type 0 where
+  pub indexed : Indexed t index
   pub shaped : Shaped b
   pub places : references ≡ placesListed t (countOf t) (referenceList b)
+  pub missing : none ≡ firstMissing (viewOf t) (countOf t) (referenceList b)
 
 -- checks 8 to 11, and the table after them
 unfoldable pub heldAnswer : Bytes → Bytes → Answer

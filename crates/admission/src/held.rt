@@ -1,69 +1,74 @@
 // What a block's references and digest are among the blocks that are held.
 use block::Answer;
 ghost use mathlib.Core.Path.{_≡_};
+ghost use mathlib.Core.Bool.{cond};
+ghost use lib.Dec.{eqb};
 ghost use Rattle.sha256.specs.Sha256.{sha256};
 ghost use Rattle.table.specs.Layout.{countOf, viewOf};
-ghost use Rattle.table.specs.Steps.{Places};
-ghost use Rattle.admission.specs.Steps.{Ready, among, firstMissing, placesListed, heldAnswer};
+ghost use Rattle.table.specs.Steps.{Indexed};
+ghost use Rattle.admission.specs.Steps.{Ready, firstMissing, placesListed, heldAnswer};
 
-// Whether the digest is among the references of the list.
-fn is_among(list: &[u8], digest: &[u8]) -> bool
-    ensures { λ r. ⌜ r ≡ among (now (list .entry)) (now (digest .entry)) ⌝ }
-{
-    let p = list.len() / block::REFERENCE_SIZE;
-    block::references::first_same(list, p, digest) < p
+// A list's references among the blocks that are held: their places, as a mask, and the index of the first that no place holds, or as many as
+// there are.
+pub struct Found {
+    pub places: u64,
+    pub missing: usize,
 }
 
-// The places held whose digests are among the references of the list, as a mask.
-pub fn places_listed(table: &[u8], list: &[u8]) -> u64
-    requires { ⌜ Places (now table) (countOf (now table)) ⌝ }
-    ensures { λ r. ⌜ r ≡ placesListed (now (table .entry)) (countOf (now (table .entry))) (now (list .entry)) ⌝ }
+// The first missing reference of those before `next`, where that of those before i is known and reference i, the one before `next`, is held.
+fn first_missing(missing: usize, i: usize, next: usize) -> usize
+    ensures { λ r. ⌜ r ≡ cond (eqb missing i) next missing ⌝ }
+{
+    if missing == i {
+        return next;
+    }
+    missing
+}
+
+// Looks up each reference of the list.
+pub fn look_up(table: &[u8], index: &[u8], list: &[u8]) -> Found
+    requires { ⌜ Indexed (now table) (now index) ⌝ }
+    ensures { λ r. ⌜ r .places ≡ placesListed (now (table .entry)) (countOf (now (table .entry))) (now (list .entry)) ⌝ }
+    ensures { λ r. ⌜ r .missing ≡ firstMissing (viewOf (now (table .entry))) (countOf (now (table .entry))) (now (list .entry)) ⌝ }
 {
     let k = table::rows::count_of(table);
-    let mut mask: u64 = 0;
-    let mut j: usize = 0;
-    while j < k {
-        if is_among(list, table::rows::digest_at(table, j)) {
-            mask = mask | (1u64 << j);
-        }
-        j += 1;
-    }
-    mask
-}
-
-// The index of the first reference of the list that no place below k holds, or as many as there are.
-fn first_missing(table: &[u8], k: usize, list: &[u8]) -> usize
-    requires { ⌜ Places (now table) k ⌝ }
-    ensures { λ r. ⌜ r ≡ firstMissing (viewOf (now (table .entry))) k (now (list .entry)) ⌝ }
-{
     let p = list.len() / block::REFERENCE_SIZE;
+    let mut places: u64 = 0;
+    let mut missing = 0;
     let mut i = 0;
     while i < p {
-        if k <= table::rules::place_of(table, k, block::references::reference(list, i)) {
-            return i;
+        let j = table::index::find(table, index, block::references::reference(list, i));
+        let next = i + 1;
+        if j < k {
+            places = places | (1u64 << j);
+            missing = first_missing(missing, i, next);
         }
-        i += 1;
+        i = next;
     }
-    p
+    Found { places, missing }
 }
 
-// Checks 8, 9, 10 and 11, of a block with this digest and these places referred to.
-pub fn held_answer(table: &[u8], block: &[u8], digest: &[u8], references: u64) -> Answer
-    requires { ⌜ Ready (now table) (now block) references × (now digest ≡ sha256 (now block)) ⌝ }
+// Checks 8, 9, 10 and 11, of a block with this digest, these places referred to and this first missing reference.
+pub fn held_answer(
+    table: &[u8],
+    index: &[u8],
+    block: &[u8],
+    digest: &[u8],
+    references: u64,
+    missing: usize,
+) -> Answer
+    requires { ⌜ Ready (now table) (now index) (now block) references missing × (now digest ≡ sha256 (now block)) ⌝ }
     ensures { λ r. ⌜ r ≡ heldAnswer (now (table .entry)) (now (block .entry)) ⌝ }
 {
     let k = table::rows::count_of(table);
-    let place = table::rules::place_of(table, k, digest);
+    let place = table::index::find(table, index, digest);
     if place < k {
         return Answer {
             refusal: 8,
             value: place,
         };
     }
-    let p = base::wide(block[3]);
-    let middle = block::HEADER_SIZE + block::REFERENCE_SIZE * p;
-    let missing = first_missing(table, k, &block[block::HEADER_SIZE..middle]);
-    if missing < p {
+    if missing < base::wide(block[3]) {
         return Answer {
             refusal: 9,
             value: missing,

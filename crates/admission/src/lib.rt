@@ -6,24 +6,26 @@ mod row;
 use block::Answer;
 use block::Reading;
 ghost use mathlib.Core.Path.{_≡_};
+ghost use mathlib.Core.Bool.{true};
 ghost use Rattle.sha256.specs.Sha256.{sha256};
 ghost use Rattle.block.specs.Reading.{fieldsOf};
 ghost use Rattle.block.specs.Steps.{Shaped};
-ghost use Rattle.table.specs.Layout.{countOf};
-ghost use Rattle.table.specs.Steps.{Places};
+ghost use Rattle.table.specs.Form.{inForm};
 ghost use Rattle.admission.specs.Admission.{admission, admitted};
 ghost use Rattle.admission.specs.Steps.{heldAnswer, entered};
 
 // Checks 8 to 11 of a block that the reader accepts, and the block put at the next place where they hold.
 fn enter(table: &mut [u8], block: &[u8], fields: block::Fields) -> Answer
-    requires { ⌜ Places (now table) (countOf (now table)) × Shaped (now block) × (fields ≡ fieldsOf (now block)) ⌝ }
+    requires { ⌜ (inForm (now table) ≡ true) × Shaped (now block) × (fields ≡ fieldsOf (now block)) ⌝ }
     ensures { λ r. ⌜ r ≡ heldAnswer (now (table .entry)) (now (block .entry)) ⌝ }
     ensures { λ _. ⌜ now (table .exit) ≡ entered (now (table .entry)) (now (block .entry)) ⌝ }
 {
     let middle = block::HEADER_SIZE + block::REFERENCE_SIZE * fields.references;
     let digest = sha256::digest(block);
-    let references = held::places_listed(table, &block[block::HEADER_SIZE..middle]);
-    let answer = held::held_answer(table, block, &digest, references);
+    let index = table::index::index_of(table);
+    let found = held::look_up(table, &index, &block[block::HEADER_SIZE..middle]);
+    let references = found.places;
+    let answer = held::held_answer(table, &index, block, &digest, references, found.missing);
     if answer.refusal != 0 {
         return answer;
     }

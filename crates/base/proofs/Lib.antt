@@ -7,6 +7,7 @@ pub mod Mask
 pub mod Sets
 pub mod TopPlace
 pub mod List
+pub mod Prints
 pub mod Members
 pub mod Those
 pub mod Passing

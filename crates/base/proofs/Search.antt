@@ -6,8 +6,8 @@ use Prim.Native.Nat.{ℕ, zero, suc, _+_, _≤_, _<_}
 use native.Mathlib.Nat.{eq-or-lt-of-le, le-of-suc-le-suc}
 use native.Mathlib.Numerals.{add-one}
 use native.Mathlib.Omega.{arith}
-use lib.Dec.{ltb}
-use borrow.Author.Tests.{lt-ltb, le-ltb, ltb-true, ltb-false, not-true, not-false}
+use lib.Dec.{eqb, ltb}
+use borrow.Author.Tests.{eqb-true, eqb-false, lt-ltb, le-ltb, ltb-true, ltb-false, not-true, not-false}
 use Rattle.base.specs.Search.{firstBelow, anyBelow, allBelow}
 use Rattle.base.proofs.Tests.{by-test, true-not-false, not-true-false}
 
@@ -63,10 +63,27 @@ module _ (f : ℕ → Bool) where
       go false q true p h ih l = ih (omega (arith, ltb-false (firstBelow f k) k q))
       go false q false p h ih l = elim (eq-or-lt-of-le (le-of-suc-le-suc h)) [ inl e ↦ rw e p | inr i ↦ ih (omega (arith, ltb-false (firstBelow f k) k q)) ]
 
+  -- the first below one more, which fails or passes
+  pub first-more-failing : (k : ℕ) → f k ≡ false → cond (eqb (firstBelow f k) k) (k + 1) (firstBelow f k) ≡ firstBelow f (k + 1)
+  unfolding firstBelow
+  first-more-failing k n = by-test (eqb (firstBelow f k) k)
+      (λ y. rw y (sym (first-past k (eqb-true (firstBelow f k) k y) n)))
+      (λ z. rw (z, add-one k, lt-ltb (firstBelow f k) k (omega (arith, first-le k, eqb-false (firstBelow f k) k z))))
+
+  pub first-more-passing : (k : ℕ) → f k ≡ true → firstBelow f k ≡ firstBelow f (k + 1)
+  unfolding firstBelow
+  first-more-passing k y = by-test (ltb (firstBelow f k) k)
+      (λ t. rw (add-one k, t))
+      (λ t. rw (add-one k, t, y) (omega (arith, first-le k, ltb-false (firstBelow f k) k t)))
+
   -- where none below k passes, there is no first, and the other way round
   pub any-false : (k : ℕ) → ((j : ℕ) → j < k → f j ≡ false) → anyBelow f k ≡ false
   unfolding anyBelow
   any-false k n = not-true-false _ (λ e. let l = ltb-true _ _ e in true-not-false (first-passes k l) (n _ l))
+
+  pub first-nowhere : (k : ℕ) → ((j : ℕ) → j < k → f j ≡ false) → firstBelow f k ≡ k
+  unfolding anyBelow
+  first-nowhere k n = omega (arith, first-le k, ltb-false (firstBelow f k) k (any-false k n))
 
   pub any-false-at : (k : ℕ) → anyBelow f k ≡ false → (j : ℕ) → j < k → f j ≡ false
   unfolding anyBelow

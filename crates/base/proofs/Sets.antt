@@ -3,20 +3,21 @@
 use mathlib.Core.Path.{_≡_, refl, sym, ap, _∙_}
 use mathlib.Core.Bool.{Bool, true, false, not, cond, _&&_, _||_}
 use Prim.Native.Nat.{ℕ, zero, suc, _+_, _-_, _*_, _/_, _%_, _^_, _≤_, _<_, min, max}
-use native.Mathlib.Nat.{div-eq-of-lt, mod-lt, zero-div}
+use native.Mathlib.Nat.{pow-suc, div-eq-of-lt, mod-lt, zero-div}
 use native.Mathlib.Decide.{decLt}
 use native.Mathlib.Omega.{arith}
-use lib.Dec.{eqb, leb, ltb}
-use lib.Pow.{pow-pos, pow-mono, split}
+use lib.Dec.{eqb, leb, ltb, lit<}
+use lib.Pow.{pow-pos, pow-mono, shl-exact, split}
 use lib.Bits.{bitOr, bitAnd, or-lt}
 use lib.Count.{ones}
-use borrow.Author.Tests.{eq-eqb, eqb-true, le-leb, leb-true, ltb-true, ltb-false, not-true}
+use borrow.Author.Tests.{eq-eqb, ne-eqb, eqb-true, le-leb, leb-true, ltb-true, ltb-false, not-true}
 use Rattle.base.specs.Search.{anyBelow}
 use Rattle.base.specs.Count.{countBelow}
 use Rattle.base.specs.Mask.{maskBelow, bitAt, inMask}
 use Rattle.base.proofs.Tests.{by-test, true-not-false, not-true-false, and-left, and-right, same-tests}
 use Rattle.base.proofs.Search.{any-false, any-false-at}
 use Rattle.base.proofs.Mask.{mask-below, mask-bit, mask-bit-past, ones-mask, bit-lt, bit-and, bit-or, bit-not, bits-ext}
+use Rattle.base.proofs.TopPlace.{highest-in, lower-in}
 
 bit-test : (b : Bool) → eqb (cond b 1 0) 1 ≡ b
 bit-test true = refl
@@ -133,6 +134,35 @@ mask-join w f m h =
     sym (mask-members w (bitOr (maskBelow f w) m) (or-lt w (maskBelow f w) m (mask-below f w) h))
     ∙ mask-same (inMask (bitOr (maskBelow f w) m)) (λ p. f p || inMask m p) w
     (λ p l. mask-or (maskBelow f w) m p ∙ ap (λ (t : Bool). t || inMask m p) (mask-has f w p l))
+
+-- what is in the mask of one place
+pub one-in : (p q : ℕ) → inMask (2 ^ p) q ≡ eqb p q
+one-in p q = elim (decLt q p) [
+  | yes l ↦ lower-in (2 ^ p) p (omega arith) (omega (arith, pow-suc 2 p, pow-pos p)) q l
+      ∙ ap (λ (x : ℕ). inMask x q) (sub-self (2 ^ p)) ∙ ap (λ (x : ℕ). eqb (x % 2) 1) (zero-div (2 ^ q)) ∙ sym (ne-eqb p q (λ e. absurd (omega arith)))
+  | no n ↦ elim (decLt p q) [
+    | yes l ↦ ap (λ (x : ℕ). eqb (x % 2) 1) (div-eq-of-lt (pow-lt p q l)) ∙ sym (ne-eqb p q (λ e. absurd (omega arith)))
+    | no o ↦ let e : q ≡ p = omega arith in
+        ap (inMask (2 ^ p)) e ∙ highest-in (2 ^ p) p (omega arith) (omega (arith, pow-suc 2 p, pow-pos p)) ∙ sym (eq-eqb p q (sym e))
+  ]
+]
+  where
+    sub-self : (x : ℕ) → x - x ≡ 0
+    sub-self x = omega arith
+
+    pow-lt : (p q : ℕ) → p < q → 2 ^ p < 2 ^ q
+    pow-lt p q l = omega (arith, pow-suc 2 p, pow-pos p, pow-mono {i = suc p} {j = q} l)
+
+-- the code's `m | 1 << p` at a width of w bits, for a place p anywhere in the mask
+pub mask-add : (w : ℕ) (f : ℕ → Bool) (k p : ℕ) → k ≤ w → p < k → bitOr (maskBelow f k) (1 * 2 ^ p % 2 ^ w) ≡ maskBelow (λ q. f q || eqb p q) k
+mask-add w f k p l h =
+    let e : 1 * 2 ^ p % 2 ^ w ≡ 2 ^ p = shl-exact 1 p w (lit< tt) (omega arith) ∙ one-mul (2 ^ p) in
+    ap (λ (x : ℕ). bitOr (maskBelow f k) x) e
+    ∙ mask-join k f (2 ^ p) (omega (arith, pow-suc 2 p, pow-pos p, pow-mono {i = suc p} {j = k} h))
+    ∙ mask-same (λ q. f q || inMask (2 ^ p) q) (λ q. f q || eqb p q) k (λ q l. ap (λ (t : Bool). f q || t) (one-in p q))
+  where
+    one-mul : (x : ℕ) → 1 * x ≡ x
+    one-mul x = omega arith
 
 -- the code's test `marked | m == marked`: no place of m fails the test that the mask was made by
 pub none-outside : (w : ℕ) (f : ℕ → Bool) (m : ℕ) → m < 2 ^ w → eqb (bitOr (maskBelow f w) m) (maskBelow f w) ≡ not (anyBelow (λ p. inMask m p && not (f p)) w)

@@ -2,6 +2,7 @@
 pub mod Search
 pub mod Count
 pub mod Mask
+pub mod Prints
 pub mod List
 pub mod Bytes
 pub mod Number

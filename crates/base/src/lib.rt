@@ -12,6 +12,9 @@ ghost use Rattle.base.specs.Word.{wordSize, word, wordBytes};
 // The bytes of a 64-bit number.
 pub const WORD_SIZE: usize = 8;
 
+// How many prints a mask has room for.
+pub const PRINTS: usize = 64;
+
 // A byte as a count or an index.
 pub fn wide(x: u8) -> usize
     ensures { λ r. ⌜ r ≡ x ⌝ }
@@ -67,19 +70,17 @@ pub fn same(a: &[u8], b: &[u8]) -> bool
     are_same
 }
 
-// Whether every byte is 0. The loop has no exit but its end, so that the compiler takes many bytes a turn.
+// Whether every byte is 0. The loop has no exit and no test but its end, so that the compiler takes many bytes a turn.
 pub fn all_zero(bytes: &[u8]) -> bool
     ensures { λ r. ⌜ r ≡ allZero (now (bytes .entry)) ⌝ }
 {
-    let mut are_zero = true;
+    let mut bits: u8 = 0;
     let mut i = 0;
     while i < bytes.len() {
-        if bytes[i] != 0 {
-            are_zero = false;
-        }
+        bits = bits | bytes[i];
         i += 1;
     }
-    are_zero
+    bits == 0
 }
 
 // The number of at most eight bytes, the low byte first.

@@ -40,8 +40,8 @@ held-next table other k v places a h e =
     }
 
 -- a place that was looked up is none above the last
-pub found-few : (t : Bytes) → inForm t ≡ true → (d : Bytes) (count place : ℕ) → count ≡ countOf t → place ≡ placeOf (viewOf t) count d → place ≤ maxPlaces
-found-few t f d count place n e = omega (arith, first-le (hasDigest (viewOf t) d) count, formed-of t f .held .fits)
+pub found-few : (t : Bytes) → inForm t ≡ true → (d : Bytes) (place : ℕ) → place ≡ placeOf (viewOf t) (countOf t) d → place ≤ maxPlaces
+found-few t f d place e = omega (arith, first-le (hasDigest (viewOf t) d) (countOf t), formed-of t f .held .fits)
 
 -- ---- the places in the result
 

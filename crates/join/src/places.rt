@@ -1,6 +1,6 @@
 // Where blocks of one table stand in another: each is looked up once, and all that follows goes by its place.
+use table::index;
 use table::rows;
-use table::rules;
 ghost use mathlib.Core.Path.{_≡_};
 ghost use lib.ListN.{length};
 ghost use Rattle.table.specs.View.{maxPlaces};
@@ -13,11 +13,11 @@ pub fn place_all(table: &[u8], other: &[u8], places: &mut [u8])
     requires { ⌜ BothFormed (now table) (now other) × (length (now places) ≡ maxPlaces) ⌝ }
     ensures { λ _. ⌜ Held (now (table .entry)) (now (other .entry)) (now (places .exit)) ⌝ }
 {
-    let held = rows::count_of(table);
+    let index = index::index_of(table);
     let count = rows::count_of(other);
     let mut k = 0;
     while k < count {
-        let place = rules::place_of(table, held, rows::digest_at(other, k));
+        let place = index::find(table, &index, rows::digest_at(other, k));
         places[k] = place as u8;
         k += 1;
     }

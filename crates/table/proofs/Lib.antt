@@ -1,6 +1,8 @@
 -- The table's laws. Other crates' proofs cite them.
 pub mod Views
 pub mod Formed
+mod Prints
+pub mod ByFirstByte
 pub mod Checks
 pub mod RowBytes
 pub mod Put

@@ -1,18 +1,20 @@
 -- What the contracts of inner functions cite: what an entry point has tested. Nothing here need be believed.
 use mathlib.Core.Path.{_≡_}
-use mathlib.Core.Bool.{Bool, not, _&&_}
+use mathlib.Core.Bool.{Bool, true, cond, not, _&&_}
 use mathlib.Core.List.{List, []}
-use Prim.Native.Nat.{ℕ, _/_, _^_, _≤_, _<_}
+use Prim.Native.Nat.{ℕ, zero, suc, _+_, _/_, _%_, _^_, _≤_, _<_}
 use lib.Dec.{eqb}
-use lib.ListN.{length}
+use lib.ListN.{length, getD}
 use Rattle.base.specs.Bytes.{Bytes}
 use Rattle.base.specs.Search.{anyBelow}
 use Rattle.base.specs.List.{listBelow}
 use Rattle.base.specs.Mask.{maskBelow, inMask}
+use Rattle.base.specs.Prints.{printCount, printsBelow}
 use Rattle.setup.specs.Setup.{maxSites}
 use Rattle.table.specs.View.{maxPlaces, Row}
-use Rattle.table.specs.Layout.{tableSize, setupOf, siteAt, sequenceAt, markAt, viewOf}
+use Rattle.table.specs.Layout.{tableSize, rowStart, setupOf, countOf, digestAt, siteAt, sequenceAt, markAt, viewOf}
 use Rattle.table.specs.Rules.{isParent, refersUninterpreted}
+use Rattle.table.specs.Form.{inForm}
 
 -- a table of the right length, and a place of it
 pub record Place (t : Bytes) (i : ℕ) : Type 0 where
@@ -44,11 +46,47 @@ siteBelow t site k = maskBelow (λ j. eqb (siteAt t j) site) k
 abbrev pub sitesBelow : Bytes → ℕ → List ℕ
 sitesBelow t k = listBelow (λ site. siteBelow t site k) maxSites
 
--- what the check of a row asks of a caller: its site below n, and which of the lower places are interpreted and which of its own site
-pub record Met (t : Bytes) (i marked own : ℕ) : Type 0 where
+-- a digest's group and its print, by its first two bytes
+abbrev pub groupCount : ℕ
+groupCount = 16
+
+abbrev pub groupAt : Bytes → ℕ → ℕ
+groupAt t i = getD t (rowStart i) 0 % groupCount
+
+abbrev pub printAt : Bytes → ℕ → ℕ
+printAt t i = getD t (rowStart i + 1) 0 % printCount
+
+-- the mask of the prints in the group of place i that the lower places have
+abbrev pub printsMet : Bytes → ℕ → ℕ
+printsMet t i = printsBelow (groupAt t) (printAt t) i (groupAt t i)
+
+-- what the check of a row asks of a caller: its site below n, which of the lower places are interpreted and which of its own site, and the
+-- prints of its group
+pub record Met (t : Bytes) (i marked own prints : ℕ) : Type 0 where
   pub site : siteAt t i < setupOf t .sites
   pub marks : marked ≡ marksBelow t i
   pub same : own ≡ siteBelow t (siteAt t i) i
+  pub met : prints ≡ printsMet t i
+
+-- one more than the highest place below k whose digest begins with the byte, 0 if there is none
+unfoldable pub lastOf : Bytes → ℕ → ℕ → ℕ
+lastOf t byte zero = 0
+lastOf t byte (suc k) = cond (eqb (getD (digestAt t k) 0 0) byte) (suc k) (lastOf t byte k)
+
+-- that of each byte, and so for all places held: the table's index
+abbrev pub byteCount : ℕ
+byteCount = 256
+
+abbrev pub indexBelow : Bytes → ℕ → List ℕ
+indexBelow t k = listBelow (λ byte. lastOf t byte k) byteCount
+
+abbrev pub indexOf : Bytes → List ℕ
+indexOf t = indexBelow t (countOf t)
+
+-- what a search by the index asks of a caller
+pub record Indexed (t : Bytes) (index : List ℕ) : Type 0 where
+  pub formed : inForm t ≡ true
+  pub indexed : index ≡ indexOf t
 
 -- what the rule below asks of a caller: references to lower places only, and which of these are interpreted
 pub record Lower (t : Bytes) (i references marked : ℕ) : Type 0 where

@@ -1,15 +1,46 @@
 // Whether what a table holds is in form.
+use crate::ROW_SIZE;
+use crate::ROWS_OFFSET;
 use crate::rows;
 use crate::rules;
 use setup::MAX_SITES;
 ghost use mathlib.Core.Path.{_≡_};
 ghost use Prim.Native.Nat.{_≤_};
 ghost use lib.ListN.{length};
-ghost use Rattle.base.specs.Search.{allBelow};
+ghost use Rattle.base.specs.Search.{anyBelow, allBelow};
 ghost use Rattle.setup.specs.Setup.{maxSites};
-ghost use Rattle.table.specs.Layout.{tableSize, setupOf, viewOf};
-ghost use Rattle.table.specs.Rules.{rowInForm, heldInForm};
-ghost use Rattle.table.specs.Steps.{Place, Places, Lower, Met, marksClosed};
+ghost use Rattle.table.specs.Layout.{tableSize, setupOf, digestAt, viewOf};
+ghost use Rattle.table.specs.Rules.{hasDigest, rowInForm, heldInForm};
+ghost use Rattle.table.specs.Steps.{Place, Places, Lower, Met, groupAt, printAt, printsMet, marksClosed};
+
+// A digest is of one of these groups and has a print in it, by its first two bytes. Equal digests have both in common, and others seldom do.
+const GROUPS: usize = 16;
+
+fn group_at(table: &[u8], i: usize) -> usize
+    requires { ⌜ Place (now table) i ⌝ }
+    ensures { λ r. ⌜ r ≡ groupAt (now (table .entry)) i ⌝ }
+{
+    base::wide(table[ROWS_OFFSET + ROW_SIZE * i]) % GROUPS
+}
+
+fn print_at(table: &[u8], i: usize) -> usize
+    requires { ⌜ Place (now table) i ⌝ }
+    ensures { λ r. ⌜ r ≡ printAt (now (table .entry)) i ⌝ }
+{
+    base::wide(table[ROWS_OFFSET + ROW_SIZE * i + 1]) % base::PRINTS
+}
+
+// Whether a lower place holds the digest of place i, where `prints` is the mask of the prints in its group that the lower places have. No
+// digest is compared where its own print is not among them.
+fn is_repeated(table: &[u8], i: usize, prints: u64) -> bool
+    requires { ⌜ Place (now table) i × (prints ≡ printsMet (now table) i) ⌝ }
+    ensures { λ r. ⌜ r ≡ anyBelow (hasDigest (viewOf (now (table .entry))) (digestAt (now (table .entry)) i)) i ⌝ }
+{
+    if !base::in_mask(prints, print_at(table, i)) {
+        return false;
+    }
+    rules::place_of(table, i, rows::digest_at(table, i)) < i
+}
 
 // Whether all references of an interpreted place are interpreted, where `marked` is the mask of the lower places that are.
 fn marks_closed(table: &[u8], i: usize, references: u64, marked: u64) -> bool
@@ -24,10 +55,11 @@ fn marks_closed(table: &[u8], i: usize, references: u64, marked: u64) -> bool
 }
 
 // Whether the row of place i is in form, where its site is below n. Of the lower places `marked` is the mask of the interpreted ones and
-// `own` that of the row's own site: a parent is among these, so the parent rule goes over no other reference.
-fn row_in_form(table: &[u8], i: usize, marked: u64, own: u64) -> bool
+// `own` that of the row's own site: a parent is among these, so the parent rule goes over no other reference. `prints` is the mask of the
+// prints in the group of its digest.
+fn row_in_form(table: &[u8], i: usize, marked: u64, own: u64, prints: u64) -> bool
     requires { ⌜ Place (now table) i ⌝ }
-    requires { ⌜ Met (now table) i marked own ⌝ }
+    requires { ⌜ Met (now table) i marked own prints ⌝ }
     ensures { λ r. ⌜ r ≡ rowInForm (setupOf (now (table .entry))) (viewOf (now (table .entry))) i ⌝ }
 {
     if 1 < rows::mark_at(table, i) {
@@ -40,7 +72,7 @@ fn row_in_form(table: &[u8], i: usize, marked: u64, own: u64) -> bool
     if (block::MAX_REFERENCES as u32) < u64::count_ones(references) {
         return false;
     }
-    if rules::place_of(table, i, rows::digest_at(table, i)) < i {
+    if is_repeated(table, i, prints) {
         return false;
     }
     if !marks_closed(table, i, references, marked) {
@@ -55,8 +87,8 @@ fn row_in_form(table: &[u8], i: usize, marked: u64, own: u64) -> bool
     )
 }
 
-// Whether every row below k is. The marks met so far are kept as a mask, and the places met of each site as another, so that no row looks
-// through those below it.
+// Whether every row below k is. The marks met so far are kept as a mask, the places met of each site as another, and the prints met of each
+// group, so that no row looks through those below it.
 fn rows_in_form(table: &[u8], k: usize) -> bool
     requires { ⌜ Places (now table) k ⌝ }
     requires { ⌜ setupOf (now table) .sites ≤ maxSites ⌝ }
@@ -65,6 +97,7 @@ fn rows_in_form(table: &[u8], k: usize) -> bool
     let n = base::wide(rows::sites_of(table));
     let mut marked: u64 = 0;
     let mut of_site = [0u64; MAX_SITES];
+    let mut of_group = [0u64; GROUPS];
     let mut i = 0;
     while i < k {
         let site = base::wide(rows::site_at(table, i));
@@ -72,13 +105,16 @@ fn rows_in_form(table: &[u8], k: usize) -> bool
             return false;
         }
         let own = of_site[site];
-        if !row_in_form(table, i, marked, own) {
+        let group = group_at(table, i);
+        let prints = of_group[group];
+        if !row_in_form(table, i, marked, own, prints) {
             return false;
         }
         if rows::mark_at(table, i) == 1 {
             marked = marked | (1u64 << i);
         }
         of_site[site] = own | (1u64 << i);
+        of_group[group] = prints | (1u64 << print_at(table, i));
         i += 1;
     }
     true

@@ -2,6 +2,7 @@
 // content is judged as specs/Form.antt says, a fresh table is the layout of its setup, and a table in form is the layout of its own
 // contents (proofs/Laid.antt). Assumes nothing of the bytes.
 mod form;
+pub mod index;
 pub mod rows;
 pub mod rules;
 

@@ -30,6 +30,7 @@ module _ (t : Bytes) (e : inForm t ≡ true) where
       record {
         sized = formed-places t e;
         few = sites-few (setupOf t .sites) (sites-lawful (setupOf t) (f .held .lawful));
+        sites = λ i h. row-formed i h .site;
       }
 
   pub held-place : (i : ℕ) → i < countOf t → Place t i

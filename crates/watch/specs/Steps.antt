@@ -1,17 +1,27 @@
 -- What the contracts of inner functions cite: what an entry point has tested. Nothing here need be believed.
 use mathlib.Core.Bool.{cond}
-use Prim.Native.Nat.{ℕ, zero, suc, _≤_}
+use Prim.Native.Nat.{ℕ, zero, suc, _%_, _≤_, _<_}
 use lib.Bits.{bitOr}
 use Rattle.base.specs.Mask.{inMask}
+use Rattle.base.specs.Prints.{printCount, printsBelow}
 use Rattle.base.specs.Bytes.{Bytes}
 use Rattle.setup.specs.Setup.{maxSites}
-use Rattle.table.specs.Layout.{setupOf, countOf, referencesAt}
+use Rattle.table.specs.Layout.{setupOf, countOf, siteAt, sequenceAt, referencesAt}
 use Rattle.table.specs.Steps.{Places}
 
 -- a table with its places, and sites that a mask of sixteen bits has room for
 pub record Ready (t : Bytes) : Type 0 where
   pub sized : Places t (countOf t)
   pub few : setupOf t .sites ≤ maxSites
+  pub sites : (i : ℕ) → i < countOf t → siteAt t i < setupOf t .sites
+
+-- a block's print among those of its site, by its sequence number
+abbrev pub printAt : Bytes → ℕ → ℕ
+printAt t i = sequenceAt t i % printCount
+
+-- the mask of the prints of its site that the lower places have
+abbrev pub printsMet : Bytes → ℕ → ℕ
+printsMet t i = printsBelow (siteAt t) (printAt t) i (siteAt t i)
 
 -- a mask of places after each place below k that is in it, from the highest on, has added the places that it refers to
 unfoldable pub gathered : Bytes → ℕ → ℕ → ℕ

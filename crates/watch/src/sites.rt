@@ -1,12 +1,13 @@
 // Which sites have two blocks of one sequence number. The mask `seen` says which places are looked at.
+use setup::MAX_SITES;
 use table::rows;
 ghost use mathlib.Core.Path.{_≡_};
 ghost use Rattle.base.specs.Search.{anyBelow};
 ghost use Rattle.base.specs.Mask.{inMask};
-ghost use Rattle.table.specs.Layout.{setupOf, countOf, viewOf};
+ghost use Rattle.table.specs.Layout.{setupOf, countOf, siteAt, viewOf};
 ghost use Rattle.table.specs.Steps.{Place, Places};
-ghost use Rattle.watch.specs.Forks.{ofSite, ofSequence, repeatedAt, forkedIn, forkedMask};
-ghost use Rattle.watch.specs.Steps.{Ready};
+ghost use Rattle.watch.specs.Forks.{everywhere, ofSite, ofSequence, repeatedAt, forkedIn, forkedMask};
+ghost use Rattle.watch.specs.Steps.{Ready, printAt, printsMet};
 
 // Every place is looked at.
 pub const EVERYWHERE: u64 = 0xffff_ffff_ffff_ffff;
@@ -75,19 +76,43 @@ pub fn forked(table: &[u8], seen: u64, site: u8) -> bool
     false
 }
 
-// The mask of the sites that forked.
+// A block's print among those of its site: blocks with one sequence number have it in common.
+fn print_at(table: &[u8], i: usize) -> usize
+    requires { ⌜ Place (now table) i ⌝ }
+    ensures { λ r. ⌜ r ≡ printAt (now (table .entry)) i ⌝ }
+{
+    (rows::sequence_at(table, i) as usize) % base::PRINTS
+}
+
+// Whether a lower place holds a block of the same site and sequence number, where `prints` is the mask of the prints of its site that the lower
+// places have. No place is looked at where its own print is not among them.
+fn is_fork(table: &[u8], i: usize, prints: u64) -> bool
+    requires { ⌜ Place (now table) i × (prints ≡ printsMet (now table) i) ⌝ }
+    ensures { λ r. ⌜ r ≡ repeatedAt (viewOf (now (table .entry))) everywhere (siteAt (now (table .entry)) i) i ⌝ }
+{
+    if !base::in_mask(prints, print_at(table, i)) {
+        return false;
+    }
+    repeats(table, EVERYWHERE, i, rows::site_at(table, i))
+}
+
+// The mask of the sites that forked, in one pass: the prints met of each site are kept as masks, so that few blocks are compared with others.
 pub fn forked_mask(table: &[u8]) -> u16
     requires { ⌜ Ready (now table) ⌝ }
     ensures { λ r. ⌜ r ≡ forkedMask (setupOf (now (table .entry))) (viewOf (now (table .entry))) ⌝ }
 {
-    let n = rows::sites_of(table);
+    let k = rows::count_of(table);
     let mut mask: u16 = 0;
-    let mut p: u8 = 0;
-    while p < n {
-        if forked(table, EVERYWHERE, p) {
-            mask = mask | (1u16 << p);
+    let mut of_site = [0u64; MAX_SITES];
+    let mut i = 0;
+    while i < k {
+        let site = base::wide(rows::site_at(table, i));
+        let prints = of_site[site];
+        if is_fork(table, i, prints) {
+            mask = mask | (1u16 << site);
         }
-        p += 1;
+        of_site[site] = prints | (1u64 << print_at(table, i));
+        i += 1;
     }
     mask
 }

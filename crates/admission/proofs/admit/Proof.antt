@@ -138,7 +138,7 @@ enter-requires c κs =
     let v = r .before in
     let d = v .before in
     let a = start d .args in (
-      formed-places _ (formed (first d)),
+      formed (first d),
       shaped _ (shape (second d)),
       fields (a .table .now) (a .block .now) (a .verdict) (formed (first d)) (shape (second d)) (site d) (v .if4 .left) _ (r .read-block .ensures) _ (m .reading .given .1),
     )

@@ -19,11 +19,12 @@ use Rattle.block.specs.declared.Fields.{Fields}
 use Rattle.block.proofs.Shape.{reference-part, request-part}
 use Rattle.table.specs.View.{maxPlaces, Row, SameRow}
 use Rattle.table.specs.Layout.{countOf, viewOf, withRow}
-use Rattle.table.specs.Steps.{Place, Places}
+use Rattle.table.specs.Steps.{Place, Places, Indexed}
+use Rattle.table.proofs.Formed.{formed-places}
 use Rattle.table.proofs.Checks.{numbered, all-hold}
 use Rattle.table.proofs.RowBytes.{row-bytes-same}
 use Rattle.admission.specs.Admission.{rowFor, heldChecks}
-use Rattle.admission.specs.Steps.{Ready, placesListed, rowWith, heldAnswer, entered}
+use Rattle.admission.specs.Steps.{Ready, firstMissing, placesListed, rowWith, heldAnswer, entered}
 use Rattle.admission.proofs.Referring.{listed}
 use Rattle.admission.proofs.enter.Statement.{statement}
 use Rattle.admission.proofs.enter.Tie as tie
@@ -54,8 +55,15 @@ module _ (t b : Bytes) (f : Fields) (shape : Shaped b) (ef : f ≡ fieldsOf b) w
     places : references ≡ placesListed t (countOf t) (referenceList b)
     places = er ∙ ap (placesListed t (countOf t)) (reference-part b (f .references) counted)
 
-    ready : Places t (countOf t) → Ready t b references
-    ready s = record { sized = s; shaped = shape; places = places }
+    ready : (index : Bytes) (none : ℕ) → Indexed t index
+        → none ≡ firstMissing (viewOf t) (countOf t) (take (middle - headerSize) (drop headerSize b)) → Ready t index b references none
+    ready index none i e =
+        record {
+          indexed = i;
+          shaped = shape;
+          places = places;
+          missing = e ∙ ap (firstMissing (viewOf t) (countOf t)) (reference-part b (f .references) counted);
+        }
 
     same-row : d ≡ sha256 b → SameRow (rowWith d (f .site) (f .sequence) references (take (length b - middle) (drop middle b))) (rowFor sha256 (viewOf t) b)
     same-row ed =
@@ -78,12 +86,29 @@ way-refused : (t b : Bytes) (a : Answer) → a ≡ heldAnswer t b → a .refusal
 unfolding entered
 way-refused t b a e n = (e, rw (← e, ne-eqb (a .refusal) 0 n))
 
+-- where the code was before
+abbrev found : tie.After-digest2 → tie.After-look-up
+found c = c .before .before .before
+
+abbrev index : tie.After-look-up-arg2 → tie.After-index-of
+index c = c .before .before .before
+
+abbrev digest : tie.After-index-of → tie.After-digest
+digest c = c .before .before
+
+abbrev start : tie.After-digest → tie.Start
+start c = c .before .before .before .before
+
+held : (c : tie.After-index-of) → Indexed (start (digest c) .args .table .now) (c .index-of .result)
+held c = record { formed = start (digest c) .pre .0; indexed = c .index-of .ensures }
+
 held-answer-requires : tie.Need-held-answer-requires
 held-answer-requires c κs =
-    let p = c .before .before in
-    let d = p .before .before .before in
-    let s = d .before .before .before .before in
-    (ready (s .args .table .now) (s .args .block .now) (s .args .fields) (s .pre .1) (s .pre .2) (d .digest .result) _ (p .places-listed .ensures) (s .pre .0), d .digest .ensures)
+    let p = found c in
+    let x = index (p .before) in
+    let d = digest x in
+    let s = start d in
+    (ready (s .args .table .now) (s .args .block .now) (s .args .fields) (s .pre .1) (s .pre .2) (d .digest .result) _ (p .look-up .ensures .0) _ _ (held x) (p .look-up .ensures .1), d .digest .ensures)
 
 returns : tie.Need-returns
 returns c = way-refused _ _ _ (c .before .before .held-answer .ensures) (c .if1 .taken)
@@ -92,25 +117,35 @@ put-row-requires : tie.Need-put-row-requires
 put-row-requires c κs =
     let e = c .before .before .before in
     let h = e .before .before in
-    let d = h .before .before .before .before .before .before in
-    let s = d .before .before .before .before in
-    (room _ _ (s .pre .0) (ap (λ (x : Answer). x .refusal) (sym (h .held-answer .ensures)) ∙ e .if1 .left), ap length (d .digest .ensures) ∙ sha256-length (s .args .block .now))
+    let d = digest (index (found (h .before) .before)) in
+    let s = start d in (
+      room _ _ (formed-places _ (s .pre .0)) (ap (λ (x : Answer). x .refusal) (sym (h .held-answer .ensures)) ∙ e .if1 .left),
+      ap length (d .digest .ensures) ∙ sha256-length (s .args .block .now),
+    )
 
 returns-2 : tie.Need-returns-2
 returns-2 c =
     let r = c .before .before in
     let e = r .before .before .before .before in
     let h = e .before .before in
-    let p = h .before .before .before in
-    let d = p .before .before .before in
-    let s = d .before .before .before .before in
-    way-entered (s .args .table .now) (s .args .block .now) (s .args .fields) (s .pre .1) (s .pre .2) _ _ (p .places-listed .ensures) (d .digest .ensures)
+    let p = found (h .before) in
+    let d = digest (index (p .before)) in
+    let s = start d in
+    way-entered (s .args .table .now) (s .args .block .now) (s .args .fields) (s .pre .1) (s .pre .2) _ _ (p .look-up .ensures .0) (d .digest .ensures)
     _ _ (h .held-answer .ensures) (e .if1 .left) (r .put-row .ensures)
 
 -- the two lists lie within the block
 fits : (c : tie.After-struct-known) → let a = c .before .before .before .args in
     (a .fields .references ≤ maxReferences) × (headerSize + referenceSize * a .fields .references ≤ length (a .block .now))
 fits c = let s = c .before .before .before in within (s .args .table .now) (s .args .block .now) (s .args .fields) (s .pre .1) (s .pre .2)
+
+-- the same, where the list is handed on
+fits-list : (c : tie.After-index) → let a = start (digest (c .before .before)) .args in
+    (a .fields .references ≤ maxReferences) × (headerSize + referenceSize * a .fields .references ≤ length (a .block .now))
+fits-list c = fits (digest (c .before .before) .before)
+
+abbrev listed-of : tie.After-digest3 → tie.After-index
+listed-of c = found (c .before .before .before .before .before) .before .before
 
 pub enter-spec : {M : Type 1} → statement M
 enter-spec =
@@ -119,17 +154,20 @@ enter-spec =
     (λ c. let h = fits c in search needs)
     (λ c. let h = fits c in search needs)
     (λ c κs. search needs)
+    (λ c κs. start (c .before) .pre .0)
     (λ c. search needs)
+    (λ c. let h = fits-list c in search needs)
+    (λ c. let h = fits-list c in search needs)
+    (λ c. let h = fits-list c in search needs)
+    (λ c κs. held (index c))
     (λ c. search needs)
-    (λ c. let h = fits (c .before .before) in search needs)
-    (λ c κs. search needs)
     (λ c. search needs)
     held-answer-requires
     (λ c. search needs)
     returns
     (λ c. search needs)
-    (λ c. let h = fits (c .before .before .before .before .before .before .before .before .before .before .before) in search needs)
-    (λ c. let h = fits (c .before .before .before .before .before .before .before .before .before .before .before) in search needs)
+    (λ c. let h = fits-list (listed-of c) in search needs)
+    (λ c. let h = fits-list (listed-of c) in search needs)
     (λ c. search needs)
     put-row-requires
     (λ c. search needs)

@@ -1,34 +1,32 @@
 -- `held_answer` meets its contract: one law for each way out. Assumes nothing.
-use mathlib.Core.Path.{_≡_, refl, sym, ap, ap₂, _∙_}
+use mathlib.Core.Path.{_≡_, refl, sym, ap, _∙_}
 use mathlib.Core.Bool.{Bool, true, false}
-use Prim.Native.Nat.{ℕ, _+_, _-_, _*_, _≤_, _<_}
+use Prim.Native.Nat.{ℕ, _-_, _≤_, _<_}
 use native.Mathlib.Omega.{arith}
 use lib.Dec.{ltb}
-use lib.ListN.{take, drop}
 use borrow.Author.Needs.{needs}
 use borrow.Author.Tests.{lt-ltb, le-ltb, not-true, not-false}
 use Rattle.base.specs.Search.{firstBelow, anyBelow}
 use Rattle.base.specs.Mask.{inMask}
 use Rattle.base.specs.Bytes.{Bytes}
 use Rattle.sha256.specs.Sha256.{sha256}
-use Rattle.block.specs.Limits.{headerSize, referenceSize}
 use Rattle.block.specs.Layout.{siteOf, sequenceOf, referenceCount}
-use Rattle.block.proofs.Shape.{reference-part}
 use Rattle.table.specs.View.{maxPlaces}
 use Rattle.table.specs.Layout.{countOf, viewOf}
 use Rattle.table.specs.Rules.{hasDigest, placeOf, parentRule}
 use Rattle.table.specs.Checks.{success, refused, answerTo}
 use Rattle.table.specs.Steps.{rowOf}
 use Rattle.table.proofs.Views.{same-refl, rule-reads}
+use Rattle.table.proofs.Formed.{formed-places}
 use Rattle.admission.specs.Admission.{missing, rowFor}
-use Rattle.admission.specs.Steps.{Ready, firstMissing, heldAnswer}
+use Rattle.admission.specs.Steps.{Ready, heldAnswer}
 use Rattle.admission.proofs.Referring.{first-missing, listed}
 use Rattle.admission.proofs.held.held_answer.Statement.{statement}
 use Rattle.admission.proofs.held.held_answer.Tie as tie
 
-module _ (t b d : Bytes) (references k place : ℕ) (ready : Ready t b references) (ed : d ≡ sha256 b) (ek : k ≡ countOf t) (ep : place ≡ placeOf (viewOf t) k d) where
+module _ (t index b d : Bytes) (references none k place : ℕ) (ready : Ready t index b references none) (ed : d ≡ sha256 b) (ek : k ≡ countOf t) (ep : place ≡ placeOf (viewOf t) (countOf t) d) where
   at-place : place ≡ placeOf (viewOf t) (countOf t) (sha256 b)
-  at-place = ep ∙ ap₂ (placeOf (viewOf t)) ek ed
+  at-place = ep ∙ ap (placeOf (viewOf t) (countOf t)) ed
 
   pub way8 : place < k → refused 8 place ≡ heldAnswer t b
   unfolding heldAnswer answerTo anyBelow
@@ -38,24 +36,23 @@ module _ (t b d : Bytes) (references k place : ℕ) (ready : Ready t b reference
   unfolding anyBelow
   new h = ap (λ (n : ℕ). ltb n (countOf t)) (sym at-place) ∙ le-ltb place (countOf t) (omega arith)
 
-  module _ (h : k ≤ place) (p i : ℕ) (er : p ≡ referenceCount b)
-      (ei : i ≡ firstMissing (viewOf t) k (take ((headerSize + referenceSize * p) - headerSize) (drop headerSize b))) where
-    at-missing : i ≡ firstBelow (missing (viewOf t) b) (referenceCount b)
-    at-missing = ei ∙ ap₂ (firstMissing (viewOf t)) ek (reference-part b p er) ∙ first-missing b (ready .shaped) (viewOf t)
+  module _ (h : k ≤ place) (p : ℕ) (er : p ≡ referenceCount b) where
+    at-missing : none ≡ firstBelow (missing (viewOf t) b) (referenceCount b)
+    at-missing = ready .missing ∙ first-missing b (ready .shaped) (viewOf t)
 
-    missed : i < p → anyBelow (missing (viewOf t) b) (referenceCount b) ≡ true
+    missed : none < p → anyBelow (missing (viewOf t) b) (referenceCount b) ≡ true
     unfolding anyBelow
-    missed l = ap (λ (n : ℕ). ltb n (referenceCount b)) (sym at-missing) ∙ lt-ltb i (referenceCount b) (omega arith)
+    missed l = ap (λ (n : ℕ). ltb n (referenceCount b)) (sym at-missing) ∙ lt-ltb none (referenceCount b) (omega arith)
 
-    pub way9 : i < p → refused 9 i ≡ heldAnswer t b
+    pub way9 : none < p → refused 9 none ≡ heldAnswer t b
     unfolding heldAnswer answerTo
     way9 l = rw (new h, missed l, at-missing)
 
-    found : p ≤ i → anyBelow (missing (viewOf t) b) (referenceCount b) ≡ false
+    found : p ≤ none → anyBelow (missing (viewOf t) b) (referenceCount b) ≡ false
     unfolding anyBelow
-    found l = ap (λ (n : ℕ). ltb n (referenceCount b)) (sym at-missing) ∙ le-ltb i (referenceCount b) (omega arith)
+    found l = ap (λ (n : ℕ). ltb n (referenceCount b)) (sym at-missing) ∙ le-ltb none (referenceCount b) (omega arith)
 
-    module _ (l : p ≤ i) (n : ℕ) (rule : Bool) (en : n ≡ sequenceOf b) (eu : rule ≡ parentRule (viewOf t) k (rowOf (siteOf b) n references)) where
+    module _ (l : p ≤ none) (n : ℕ) (rule : Bool) (en : n ≡ sequenceOf b) (eu : rule ≡ parentRule (viewOf t) k (rowOf (siteOf b) n references)) where
       at-rule : rule ≡ parentRule (viewOf t) (countOf t) (rowFor sha256 (viewOf t) b)
       at-rule =
           eu ∙ ap (λ (x : ℕ). parentRule (viewOf t) x (rowOf (siteOf b) n references)) ek
@@ -77,31 +74,29 @@ module _ (t b d : Bytes) (references k place : ℕ) (ready : Ready t b reference
 returns : tie.Need-returns
 returns c =
     let k = c .before .before in
-    let s = k .before .before .before .before in
-    way8 _ _ _ _ _ _ (s .pre .0) (s .pre .1) (k .count-of .ensures) (c .before .place-of .ensures) (c .if1 .taken)
+    let s = k .before .before .before .before .before in
+    way8 _ _ _ _ _ _ _ _ (s .pre .0) (s .pre .1) (k .count-of .ensures) (c .before .find .ensures) (c .if1 .taken)
 
 returns-2 : tie.Need-returns-2
 returns-2 c =
-    let m = c .before in
-    let w = m .before .before in
+    let w = c .before in
     let g = w .before .before in
     let k = g .before .before in
-    let s = k .before .before .before .before in
-    way9 _ _ _ _ _ _ (s .pre .0) (s .pre .1) (k .count-of .ensures) (g .before .place-of .ensures) (g .if1 .left)
-    _ _ (w .wide .ensures) (m .first-missing .ensures) (c .if2 .taken)
+    let s = k .before .before .before .before .before in
+    way9 _ _ _ _ _ _ _ _ (s .pre .0) (s .pre .1) (k .count-of .ensures) (g .before .find .ensures) (g .if1 .left)
+    _ (w .wide .ensures) (c .if2 .taken)
 
 returns-3 : tie.Need-returns-3
 returns-3 c =
     let r = c .before in
     let n = r .before in
     let f = n .before .before .before .before in
-    let m = f .before in
-    let w = m .before .before in
+    let w = f .before in
     let g = w .before .before in
     let k = g .before .before in
-    let s = k .before .before .before .before in
-    way10 _ _ _ _ _ _ (s .pre .0) (s .pre .1) (k .count-of .ensures) (g .before .place-of .ensures) (g .if1 .left)
-    _ _ (w .wide .ensures) (m .first-missing .ensures) (f .if2 .left) _ _ (n .number-of .ensures) (r .parent-rule .ensures) (not-true _ (c .if3 .taken))
+    let s = k .before .before .before .before .before in
+    way10 _ _ _ _ _ _ _ _ (s .pre .0) (s .pre .1) (k .count-of .ensures) (g .before .find .ensures) (g .if1 .left)
+    _ (w .wide .ensures) (f .if2 .left) _ _ (n .number-of .ensures) (r .parent-rule .ensures) (not-true _ (c .if3 .taken))
 
 returns-4 : tie.Need-returns-4
 returns-4 c =
@@ -109,13 +104,12 @@ returns-4 c =
     let r = e .before in
     let n = r .before in
     let f = n .before .before .before .before in
-    let m = f .before in
-    let w = m .before .before in
+    let w = f .before in
     let g = w .before .before in
     let k = g .before .before in
-    let s = k .before .before .before .before in
-    way11 _ _ _ _ _ _ (s .pre .0) (s .pre .1) (k .count-of .ensures) (g .before .place-of .ensures) (g .if1 .left)
-    _ _ (w .wide .ensures) (m .first-missing .ensures) (f .if2 .left) _ _ (n .number-of .ensures) (r .parent-rule .ensures) (not-false _ (e .if3 .left)) (c .if4 .taken)
+    let s = k .before .before .before .before .before in
+    way11 _ _ _ _ _ _ _ _ (s .pre .0) (s .pre .1) (k .count-of .ensures) (g .before .find .ensures) (g .if1 .left)
+    _ (w .wide .ensures) (f .if2 .left) _ _ (n .number-of .ensures) (r .parent-rule .ensures) (not-false _ (e .if3 .left)) (c .if4 .taken)
 
 returns-5 : tie.Need-returns-5
 returns-5 c =
@@ -123,27 +117,20 @@ returns-5 c =
     let r = e .before in
     let n = r .before in
     let f = n .before .before .before .before in
-    let m = f .before in
-    let w = m .before .before in
+    let w = f .before in
     let g = w .before .before in
     let k = g .before .before in
-    let s = k .before .before .before .before in
-    way0 _ _ _ _ _ _ (s .pre .0) (s .pre .1) (k .count-of .ensures) (g .before .place-of .ensures) (g .if1 .left)
-    _ _ (w .wide .ensures) (m .first-missing .ensures) (f .if2 .left) _ _ (n .number-of .ensures) (r .parent-rule .ensures) (not-false _ (e .if3 .left)) (c .if4 .left)
+    let s = k .before .before .before .before .before in
+    way0 _ _ _ _ _ _ _ _ (s .pre .0) (s .pre .1) (k .count-of .ensures) (g .before .find .ensures) (g .if1 .left)
+    _ (w .wide .ensures) (f .if2 .left) _ _ (n .number-of .ensures) (r .parent-rule .ensures) (not-false _ (e .if3 .left)) (c .if4 .left)
 
 pub held-answer-spec : {M : Type 1} → statement M
 held-answer-spec =
     tie.close
     (tie.spec
-    (λ c κs. search needs)
-    (λ c κs. search needs)
+    (λ c κs. formed-places _ (c .before .before .before .before .pre .0 .indexed .formed) .size)
+    (λ c κs. c .before .before .before .before .before .pre .0 .indexed)
     returns
-    (λ c. search needs)
-    (λ c κs. search needs)
-    (λ c. search needs)
-    (λ c. search needs)
-    (λ c. search needs)
-    (λ c. search needs)
     (λ c. search needs)
     (λ c κs. search needs)
     returns-2
@@ -151,7 +138,9 @@ held-answer-spec =
     (λ c. search needs)
     (λ c. search needs)
     (λ c κs. search needs)
-    (λ c κs. search needs)
+    (λ c κs. let k = c .before .before .before .before .before .before .before .before .before in
+    let s = k .before .before .before .before .before in
+    rw (k .count-of .ensures) (formed-places _ (s .pre .0 .indexed .formed)))
     returns-3
     returns-4
     returns-5)

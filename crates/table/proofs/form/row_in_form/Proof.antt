@@ -8,7 +8,7 @@ use lib.ListN.{getD}
 use lib.Bits.{bitAnd}
 use lib.Count.{ones}
 use borrow.Author.Needs.{needs}
-use borrow.Author.Tests.{eq-eqb, ne-eqb, le-leb, lt-leb, lt-ltb, le-ltb, not-true, not-false}
+use borrow.Author.Tests.{eq-eqb, ne-eqb, le-leb, lt-leb, lt-ltb, not-true, not-false}
 use Rattle.base.specs.Search.{anyBelow}
 use Rattle.base.specs.Count.{countBelow}
 use Rattle.base.specs.Mask.{inMask}
@@ -32,7 +32,7 @@ abbrev back3 : tie.Else3 → tie.Else2
 back3 c = c .before
 
 abbrev back4 : tie.Else4 → tie.Else3
-back4 c = c .before .before .before
+back4 c = c .before .before
 
 abbrev back5 : tie.Else5 → tie.Else4
 back5 c = c .before .before
@@ -74,14 +74,12 @@ below c = sym (lower (c .before)) ∙ rw (← c .before .references-at .ensures)
 sixteen : (c : tie.Else3) → leb (countBelow (inMask (refs (c .before .before))) maxPlaces) maxReferences ≡ true
 sixteen c = rw (← few (c .before .before), ← c .before .before .references-at .ensures) (le-leb _ maxReferences (c .if3 .left))
 
-same-place : (c : tie.After-place-of) → let d = back2 (back3 (c .before .before)) in
-    anyBelow (hasDigest (viewOf (t d)) (digestAt (t d) (i d))) (i d) ≡ ltb (c .place-of .result) (i d)
-unfolding anyBelow
-same-place c = let d = back2 (back3 (c .before .before)) in
-    ap (λ (n : ℕ). ltb n (i d)) (sym (rw (c .before .digest-at .ensures) at (c .place-of .ensures)))
+same-place : (c : tie.After-is-repeated) → let d = back2 (back3 (c .before)) in
+    anyBelow (hasDigest (viewOf (t d)) (digestAt (t d) (i d))) (i d) ≡ c .is-repeated .result
+same-place c = sym (c .is-repeated .ensures)
 
 new : (c : tie.Else4) → let d = back2 (back3 (back4 c)) in anyBelow (hasDigest (viewOf (t d)) (digestAt (t d) (i d))) (i d) ≡ false
-new c = same-place (c .before) ∙ le-ltb _ _ (c .if4 .left)
+new c = same-place (c .before) ∙ c .if4 .left
 
 closed : (c : tie.After-marks-closed) → let d = back2 (back3 (back4 (c .before))) in
     marksClosed (t d) (i d) (referencesAt (t d) (i d)) ≡ c .marks-closed .result
@@ -125,9 +123,9 @@ returns-3 c =
 returns-4 : tie.Need-returns-4
 unfolding rowInForm
 returns-4 c =
-    let b = c .before .before .before in
+    let b = c .before .before in
     let e = back2 (back3 b) in
-    rw (site (e .before), mark e, below (back3 b), sixteen b, same-place (c .before), lt-ltb _ _ (c .if4 .taken))
+    rw (site (e .before), mark e, below (back3 b), sixteen b, same-place (c .before), c .if4 .taken)
 
 returns-5 : tie.Need-returns-5
 unfolding rowInForm
@@ -170,8 +168,7 @@ row-in-form-spec =
     returns-2
     (λ c. search needs)
     returns-3
-    (λ c κs. search needs)
-    (λ c κs. search needs)
+    (λ c κs. let p = start (back2 (back3 c) .before) .pre .1 .met in search needs)
     returns-4
     (λ c κs. let m = start (back2 (back3 (back4 c)) .before) .pre .1 .marks in search needs)
     returns-5

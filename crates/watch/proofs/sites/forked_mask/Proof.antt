@@ -1,49 +1,89 @@
--- `forked_mask` meets its contract. The loop's invariant: `mask` is that of the sites passed. Assumes nothing.
+-- `forked_mask` meets its contract. The loop's invariant: `mask` is that of the sites which the places passed show to be forked, and `of_site` has
+-- the masks of their prints. Assumes nothing.
 use mathlib.Core.Path.{_≡_, refl, sym, ap, _∙_}
 use mathlib.Core.Logic.{⊎-elim}
-use mathlib.Core.Bool.{Bool}
-use Prim.Native.Nat.{ℕ, _≤_, _-_, _*_, _%_, _^_}
+use Prim.Native.Nat.{ℕ, _≤_, _<_, _-_, _*_, _%_, _^_}
 use native.Mathlib.Omega.{arith}
 use lib.Bits.{bitOr}
+use lib.ListN.{getD}
 use borrow.Author.Needs.{needs}
+use Rattle.base.specs.Search.{anyBelow, firstBelow}
+use Rattle.base.specs.List.{listBelow}
 use Rattle.base.specs.Mask.{maskBelow}
-use Rattle.base.proofs.Mask.{mask-put, mask-skip}
-use Rattle.table.specs.Layout.{setupOf, viewOf}
-use Rattle.watch.specs.Forks.{everywhere, forkedIn}
-use Rattle.watch.specs.Steps.{Ready}
-use Rattle.watch.proofs.Everywhere.{everywhere-mask}
+use Rattle.base.specs.Prints.{printCount, groupsBelow}
+use Rattle.base.proofs.Prints.{group-mask, group-more}
+use Rattle.setup.specs.Setup.{maxSites}
+use Rattle.table.specs.Layout.{setupOf, countOf, siteAt}
+use Rattle.watch.specs.Forks.{forkedIn}
+use Rattle.watch.specs.Steps.{Ready, printAt, printsMet}
+use Rattle.watch.proofs.OnePass.{print-lt, forkedBelow, forked-none, forked-put, forked-skip}
 use Rattle.watch.proofs.sites.forked_mask.Statement.{statement}
 use Rattle.watch.proofs.sites.forked_mask.Tie as tie
 
 abbrev Inv-loop : tie.InvT-loop
-Inv-loop table n mask₀ p₀ mask p = (p ≤ n) × (n ≡ setupOf table .sites) × Ready table × (mask ≡ maskBelow (forkedIn (viewOf table) everywhere) p)
+Inv-loop table k mask₀ ofSite₀ i₀ mask ofSite i =
+    (i ≤ k) × (k ≡ countOf table) × Ready table × (mask ≡ forkedBelow table (setupOf table .sites) i)
+    × (ofSite ≡ groupsBelow (siteAt table) (printAt table) maxSites i)
 
 abbrev μ-loop : tie.MeasureT-loop
-μ-loop table n mask₀ p₀ mask p = n - p
+μ-loop table k mask₀ ofSite₀ i₀ mask ofSite i = k - i
 
 loop-holds : tie.Need-loop-holds Inv-loop μ-loop
-unfolding maskBelow
-loop-holds c = (omega arith, search needs, search needs, refl)
+unfolding maskBelow listBelow anyBelow firstBelow
+loop-holds c = let t = c .before .before .args .table .now in (omega arith, c .count-of .ensures, search needs, forked-none t (setupOf t .sites), refl)
+
+abbrev loop : tie.After-wide Inv-loop μ-loop → tie.At-loop Inv-loop μ-loop
+loop c = c .before .before .before
+
+abbrev start : tie.After-wide Inv-loop μ-loop → tie.Start Inv-loop μ-loop
+start c = loop c .before .before .before
+
+-- the block's site is one of the setup
+site : (c : tie.After-wide Inv-loop μ-loop) → c .wide .result ≡ siteAt (start c .args .table .now) (loop c .loop .i)
+site c = c .wide .ensures ∙ c .before .site-at .ensures
+
+entered : (c : tie.After-wide Inv-loop μ-loop) → c .wide .result < setupOf (start c .args .table .now) .sites
+entered c = omega (arith, site c, loop c .loop .inv .2 .sites (loop c .loop .i) (omega (arith, loop c .loop .inv .1)))
+
+within : (c : tie.After-wide Inv-loop μ-loop) → c .wide .result < maxSites
+within c = omega (arith, entered c, loop c .loop .inv .2 .few)
+
+site-within : (c : tie.After-wide Inv-loop μ-loop) → siteAt (start c .args .table .now) (loop c .loop .i) < maxSites
+site-within c = omega (arith, site c, within c)
+
+-- the prints of its site
+prints : (c : tie.After-wide Inv-loop μ-loop) → getD (loop c .loop .of-site) (c .wide .result) 0 ≡ printsMet (start c .args .table .now) (loop c .loop .i)
+prints c =
+    let l = loop c .loop in
+    let t = start c .args .table .now in
+    ap (λ (x : ℕ). getD (l .of-site) x 0) (site c) ∙ group-mask (siteAt t) (printAt t) (l .i) maxSites _ (site-within c) (l .inv .4)
+
+print : (c : tie.After-print-at Inv-loop μ-loop) → c .print-at .result < printCount
+print c = let w = c .before .before .before in omega (arith, c .print-at .ensures, print-lt (start w .args .table .now) (loop w .loop .i))
 
 loop-again : tie.Need-loop-again Inv-loop μ-loop
 loop-again c =
-    let w = c .before in
-    let l = w .before .before .loop in
-    let v = viewOf (w .before .before .before .before .before .args .table .now) in
-    let at = sym (w .forked .ensures ∙ ap (λ (seen : ℕ → Bool). forkedIn v seen (l .p)) everywhere-mask) in (
+    let j = c .before in
+    let w = j .before .before in
+    let l = loop w .loop in
+    let t = start w .args .table .now in
+    let n = setupOf t .sites in (
       omega arith,
       search needs,
       search needs,
       ⊎-elim
-          (λ w. w .1 ∙ ap (λ (x : ℕ). bitOr x (1 * 2 ^ l .p % 2 ^ 16)) (l .inv .3) ∙ mask-put 16 (forkedIn v everywhere) (l .p) (omega arith) (at ∙ w .0 .taken))
-          (λ w. w .1 ∙ l .inv .3 ∙ mask-skip (forkedIn v everywhere) (l .p) (at ∙ w .0 .left))
-          (c .if1 .came),
+          (λ y. y .1 ∙ ap (λ (x : ℕ). bitOr x (1 * 2 ^ w .wide .result % 2 ^ 16)) (l .inv .3)
+          ∙ forked-put t n (l .i) (l .inv .2 .few) _ (site w) (entered w) (sym (j .before .is-fork .ensures) ∙ y .0 .taken))
+          (λ z. z .1 ∙ l .inv .3 ∙ forked-skip t n (l .i) (sym (j .before .is-fork .ensures) ∙ z .0 .left))
+          (j .if1 .came),
+      group-more (siteAt t) (printAt t) (l .i) maxSites _ (site-within w) (l .inv .4) _ _ (site w) (c .print-at .ensures) (print-lt t (l .i)),
     )
 
 returns : tie.Need-returns Inv-loop μ-loop
+unfolding forkedIn
 returns c =
     let l = c .before .loop in
-    let e : l .p ≡ setupOf (c .before .before .before .before .args .table .now) .sites = omega arith in
+    let e : l .i ≡ countOf (c .before .before .before .before .args .table .now) = omega (arith, l .inv .1) in
     rw e at (l .inv .3)
 
 pub forked-mask-spec : {M : Type 1} → statement M
@@ -55,8 +95,16 @@ forked-mask-spec =
     (λ c κs. search needs)
     loop-holds
     (λ c κs. search needs)
-    (λ c. search needs)
-    (λ c. search needs)
+    (λ c κs. search needs)
+    (λ c. let h = within c in search needs)
+    (λ c. let h = within c in search needs)
+    (λ c κs. let h = prints c in search needs)
+    (λ c. let h = within (c .before .before) in search needs)
+    (λ c. let h = within (c .before .before) in search needs)
+    (λ c κs. search needs)
+    (λ c. let h = print c in search needs)
+    (λ c. let h = within (c .before .before .before) in search needs)
+    (λ c. let h = within (c .before .before .before) in search needs)
     (λ c. search needs)
     (λ c. search needs)
     loop-again

@@ -1,0 +1,98 @@
+-- `look_up` meets its contract. The loop's invariant: `places` has those of the references passed, and `missing` is the first of them that is, or as
+-- many as they are. Assumes nothing.
+use mathlib.Core.Path.{_≡_, refl, sym, ap, _∙_}
+use mathlib.Core.Bool.{cond}
+use Prim.Native.Nat.{ℕ, _+_, _-_, _*_, _/_, _%_, _^_, _≤_, _<_}
+use native.Mathlib.Omega.{arith}
+use lib.Bits.{bitOr}
+use lib.Dec.{eqb}
+use lib.ListN.{length}
+use borrow.Author.Needs.{needs}
+use Rattle.base.specs.Search.{firstBelow}
+use Rattle.base.proofs.Search.{first-none, first-more-failing, first-more-passing}
+use Rattle.block.specs.Limits.{referenceSize}
+use Rattle.block.specs.Layout.{referenceAt}
+use Rattle.table.specs.Layout.{countOf, viewOf}
+use Rattle.table.specs.Rules.{placeOf}
+use Rattle.table.specs.Steps.{Indexed}
+use Rattle.table.proofs.Formed.{formed-places}
+use Rattle.admission.proofs.LookUp.{namedBy, named-none, named-put, named-skip, absent, is-absent, is-there}
+use Rattle.admission.proofs.held.look_up.Statement.{statement}
+use Rattle.admission.proofs.held.look_up.Tie as tie
+
+abbrev Inv-loop : tie.InvT-loop
+Inv-loop table index list k p places₀ missing₀ i₀ places missing i =
+    (i ≤ p) × (k ≡ countOf table) × (p ≡ length list / referenceSize) × Indexed table index
+    × (places ≡ namedBy table (countOf table) list i) × (missing ≡ firstBelow (absent table (countOf table) list) i)
+
+abbrev μ-loop : tie.MeasureT-loop
+μ-loop table index list k p places₀ missing₀ i₀ places missing i = p - i
+
+loop-holds : tie.Need-loop-holds Inv-loop μ-loop
+loop-holds c = (omega arith, c .count-of .ensures, refl, search needs, named-none _ _ _, sym (first-none _))
+
+-- the place found for the reference
+place : (c : tie.After-find Inv-loop μ-loop) → let l = c .before .before .before in let a = l .before .before .before .before .before .args in
+    c .find .result ≡ placeOf (viewOf (a .table .now)) (countOf (a .table .now)) (referenceAt (a .list .now) (l .loop .i))
+place c =
+    let l = c .before .before .before in
+    let a = l .before .before .before .before .before .args in
+    c .find .ensures ∙ ap (placeOf (viewOf (a .table .now)) (countOf (a .table .now))) (c .before .reference .ensures)
+
+loop-again : tie.Need-loop-again Inv-loop μ-loop
+loop-again c =
+    let f = c .before .before in
+    let d = f .before .before .before in
+    let l = d .loop in
+    let a = d .before .before .before .before .before .args in
+    let t = a .table .now in
+    let h : f .find .result < countOf t = omega (arith, c .before .if1 .taken, l .inv .1) in (
+      omega arith,
+      search needs,
+      refl,
+      search needs,
+      ap (λ (x : ℕ). bitOr x (1 * 2 ^ f .find .result % 2 ^ 64)) (l .inv .4) ∙ named-put t (a .list .now) (l .i) _ (l .inv .3 .formed) (place f) h,
+      c .first-missing .ensures ∙ ap (λ (x : ℕ). cond (eqb x (l .i)) (l .i + 1) x) (l .inv .5)
+          ∙ first-more-failing (absent t (countOf t) (a .list .now)) (l .i) (is-there t (countOf t) (a .list .now) (l .i) _ (place f) h),
+    )
+
+loop-again-2 : tie.Need-loop-again-2 Inv-loop μ-loop
+loop-again-2 c =
+    let f = c .before in
+    let d = f .before .before .before in
+    let l = d .loop in
+    let a = d .before .before .before .before .before .args in
+    let t = a .table .now in
+    let h : countOf t ≤ f .find .result = omega (arith, c .if1 .left, l .inv .1) in (
+      omega arith,
+      search needs,
+      refl,
+      search needs,
+      l .inv .4 ∙ named-skip t (a .list .now) (l .i) _ (l .inv .3 .formed) (place f) h,
+      l .inv .5 ∙ first-more-passing (absent t (countOf t) (a .list .now)) (l .i) (is-absent t (countOf t) (a .list .now) (l .i) _ (place f) h),
+    )
+
+returns : tie.Need-returns Inv-loop μ-loop
+returns c =
+    let l = c .before .loop in
+    let e : l .i ≡ length (c .before .before .before .before .before .before .args .list .now) / referenceSize = omega arith in
+    (rw e at (l .inv .4), rw e at (l .inv .5))
+
+pub look-up-spec : {M : Type 1} → statement M
+look-up-spec =
+    tie.close
+    (tie.spec
+    Inv-loop
+    μ-loop
+    (λ c κs. formed-places _ (c .before .before .before .pre .formed) .size)
+    loop-holds
+    (λ c κs. search needs)
+    (λ c κs. c .before .before .loop .inv .3)
+    (λ c. search needs)
+    (λ c. let h = formed-places _ (c .before .before .before .before .loop .inv .3 .formed) .bound in search needs)
+    (λ c κs. search needs)
+    (λ c. search needs)
+    loop-again
+    (λ c. search needs)
+    loop-again-2
+    returns)

@@ -1,0 +1,55 @@
+// Where a digest is held, found by its first byte.
+use crate::rows;
+use crate::rules;
+ghost use mathlib.Core.Path.{_≡_};
+ghost use mathlib.Core.Bool.{true};
+ghost use lib.ListN.{getD};
+ghost use Rattle.table.specs.Layout.{countOf, viewOf};
+ghost use Rattle.table.specs.Rules.{placeOf};
+ghost use Rattle.table.specs.Form.{inForm};
+ghost use Rattle.table.specs.Steps.{Indexed, indexOf};
+
+// As many as there are bytes.
+pub const INDEX_SIZE: usize = 256;
+
+// The first byte of a digest.
+fn first_of(digest: &[u8]) -> u8
+    ensures { λ r. ⌜ r ≡ getD (now (digest .entry)) 0 0 ⌝ }
+{
+    if digest.len() == 0 {
+        return 0;
+    }
+    digest[0]
+}
+
+// For each byte one more than the highest place whose digest begins with it, 0 if there is none.
+pub fn index_of(table: &[u8]) -> [u8; INDEX_SIZE]
+    requires { ⌜ inForm (now table) ≡ true ⌝ }
+    ensures { λ r. ⌜ r ≡ indexOf (now (table .entry)) ⌝ }
+{
+    let k = rows::count_of(table);
+    let mut index = [0u8; INDEX_SIZE];
+    let mut j = 0;
+    while j < k {
+        index[base::wide(first_of(rows::digest_at(table, j)))] = (j + 1) as u8;
+        j += 1;
+    }
+    index
+}
+
+// The place that holds the block of this digest, or the count. The digests of a table in form are all different, so one comparison is enough
+// but where another digest begins as this one does; then all places are looked through.
+pub fn find(table: &[u8], index: &[u8], digest: &[u8]) -> usize
+    requires { ⌜ Indexed (now table) (now index) ⌝ }
+    ensures { λ r. ⌜ r ≡ placeOf (viewOf (now (table .entry))) (countOf (now (table .entry))) (now (digest .entry)) ⌝ }
+{
+    let k = rows::count_of(table);
+    let last = base::wide(index[base::wide(first_of(digest))]);
+    if last == 0 {
+        return k;
+    }
+    if base::same(rows::digest_at(table, last - 1), digest) {
+        return last - 1;
+    }
+    rules::place_of(table, k, digest)
+}
