@@ -44,6 +44,17 @@ unfolding countBelow
 count-same f g zero h = refl
 count-same f g (suc k) h = rw (count-same f g k (λ j l. h j (omega arith)), h k (omega arith))
 
+-- one more is counted where one more passes
+pub count-one-more : (f g : ℕ → Bool) (k p : ℕ) → p < k → f p ≡ false → g p ≡ true → ((q : ℕ) → q < k → q ≢ p → f q ≡ g q)
+    → countBelow g k ≡ countBelow f k + 1
+unfolding countBelow
+count-one-more f g zero p h n y same = absurd (omega arith)
+count-one-more f g (suc k) p h n y same = elim (eq-or-lt-of-le (le-of-suc-le-suc h)) [
+  | inl e ↦ let n′ : f k ≡ false = rw e at n in let y′ : g k ≡ true = rw e at y in
+      rw (n′, y′) (omega (arith, count-same f g k (λ q l. same q (omega arith) (λ z. absurd (omega arith)))))
+  | inr l ↦ rw (same k (omega arith) (λ z. absurd (omega arith))) (omega (arith, count-one-more f g k p l n y (λ q m. same q (omega arith))))
+]
+
 -- more pass where the test is weaker
 pub count-mono : (f g : ℕ → Bool) (k : ℕ) → ((p : ℕ) → p < k → f p ≡ true → g p ≡ true) → countBelow f k ≤ countBelow g k
 unfolding countBelow

@@ -6,10 +6,10 @@ mod record;
 use setup::MAX_SITES;
 ghost use mathlib.Core.Path.{_≡_};
 ghost use mathlib.Core.Bool.{_&&_};
-ghost use Prim.Native.Nat.{_≤_, _<_};
+ghost use Prim.Native.Nat.{_+_, _≤_, _<_};
 ghost use lib.Dec.{eqb, leb};
 ghost use lib.ListN.{length};
-ghost use Rattle.setup.specs.Setup.{maxSites, echoQuorum, readyAmplification, readyQuorum};
+ghost use Rattle.setup.specs.Setup.{maxSites};
 ghost use Rattle.broadcast.specs.Record.{blank};
 ghost use Rattle.broadcast.specs.Process.{support, takeSend, takeEcho, takeReady, received, request};
 
@@ -54,40 +54,17 @@ pub fn empty() -> SlotRecord
     }
 }
 
-// ---- what the supporters of a number bring about: each is due where its entry is still 0. The entry and the heard come by themselves, so that
-// no record is copied to decide
-
-// READY, where the number has its ECHO quorum.
-fn ready_on_echoes(ready: u16, echoes: &[u16], n: u8, number: u16) -> bool
-    requires { ⌜ (n ≤ maxSites) × (length (now echoes) ≡ maxSites) ⌝ }
-    ensures { λ r. ⌜ r ≡ (eqb ready 0 && leb (echoQuorum n) (support n (now (echoes .entry)) number)) ⌝ }
+// Whether what the supporters of a number bring about is due: its entry is still 0, and with the message that is heard now they reach the
+// threshold. The entry and what was heard before come by themselves, so that no record is copied to decide, and the message is noted after
+// that: to read all that was heard right behind a store of one number makes the processor wait.
+fn is_due(entry: u16, heard: &[u16], n: u8, number: u16, threshold: u32) -> bool
+    requires { ⌜ (n ≤ maxSites) × (length (now heard) ≡ maxSites) ⌝ }
+    ensures { λ r. ⌜ r ≡ (eqb entry 0 && leb threshold (support n (now (heard .entry)) number + 1)) ⌝ }
 {
-    if ready != 0 {
+    if entry != 0 {
         return false;
     }
-    setup::echo_quorum(n) <= heard::support(echoes, n, number)
-}
-
-// READY, where enough sites sent it for the number.
-fn ready_on_readies(ready: u16, readies: &[u16], n: u8, number: u16) -> bool
-    requires { ⌜ (n ≤ maxSites) × (length (now readies) ≡ maxSites) ⌝ }
-    ensures { λ r. ⌜ r ≡ (eqb ready 0 && leb (readyAmplification n) (support n (now (readies .entry)) number)) ⌝ }
-{
-    if ready != 0 {
-        return false;
-    }
-    setup::ready_amplification(n) <= heard::support(readies, n, number)
-}
-
-// Delivery, where the number has its READY quorum.
-fn deliver_on_readies(delivered: u16, readies: &[u16], n: u8, number: u16) -> bool
-    requires { ⌜ (n ≤ maxSites) × (length (now readies) ≡ maxSites) ⌝ }
-    ensures { λ r. ⌜ r ≡ (eqb delivered 0 && leb (readyQuorum n) (support n (now (readies .entry)) number)) ⌝ }
-{
-    if delivered != 0 {
-        return false;
-    }
-    setup::ready_quorum(n) <= heard::support(readies, n, number)
+    threshold <= heard::support(heard, n, number) + 1
 }
 
 // ---- one message of each kind
@@ -105,38 +82,44 @@ fn take_send(state: SlotRecord, owner: u8, sender: u8, number: u16) -> SlotRecor
     record::send_echo(state, number)
 }
 
-// An ECHO counts where none was heard from its sender.
+// An ECHO counts where none was heard from its sender. A number with its ECHO quorum brings about READY.
 fn take_echo(state: SlotRecord, n: u8, sender: u8, number: u16) -> SlotRecord
-    requires { ⌜ (n ≤ maxSites) × (sender < n) ⌝ }
+    requires { ⌜ (n ≤ maxSites) × (sender < n) × (0 < number) ⌝ }
     ensures { λ r. ⌜ r ≡ takeEcho n sender number state ⌝ }
 {
+    let heard = state.echoes;
     let mut s = state;
     if s.echoes[base::wide(sender)] != 0 {
         return s;
     }
     s.echoes[base::wide(sender)] = number;
-    let echoes = s.echoes;
-    if ready_on_echoes(s.sent.ready, &echoes, n, number) {
+    if is_due(s.sent.ready, &heard, n, number, setup::echo_quorum(n)) {
         return record::send_ready(s, number);
     }
     s
 }
 
-// A READY counts where none was heard from its sender.
+// A READY counts where none was heard from its sender. Enough of them for a number bring about READY, and a quorum delivery.
 fn take_ready(state: SlotRecord, n: u8, sender: u8, number: u16) -> SlotRecord
-    requires { ⌜ (n ≤ maxSites) × (sender < n) ⌝ }
+    requires { ⌜ (n ≤ maxSites) × (sender < n) × (0 < number) ⌝ }
     ensures { λ r. ⌜ r ≡ takeReady n sender number state ⌝ }
 {
+    let heard = state.readies;
     let mut s = state;
     if s.readies[base::wide(sender)] != 0 {
         return s;
     }
     s.readies[base::wide(sender)] = number;
-    let readies = s.readies;
-    if ready_on_readies(s.sent.ready, &readies, n, number) {
+    if is_due(
+        s.sent.ready,
+        &heard,
+        n,
+        number,
+        setup::ready_amplification(n),
+    ) {
         s = record::send_ready(s, number);
     }
-    if deliver_on_readies(s.sent.delivered, &readies, n, number) {
+    if is_due(s.sent.delivered, &heard, n, number, setup::ready_quorum(n)) {
         return record::deliver(s, number);
     }
     s
