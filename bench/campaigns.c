@@ -1,4 +1,4 @@
-/* Building the blocks of the campaigns. */
+/* Building the blocks of the campaigns, and holding them. */
 #include "campaigns.h"
 
 #include <stdbool.h>
@@ -77,3 +77,21 @@ campaign busy_campaign(void)
 }
 
 campaign ordinary_campaign(void) { return make("ordinary: 4 sites, 4 references", ORDINARY_SITES, ordinary_rule); }
+
+gt_answer admit_and_interpret(uint8_t table[GT_TABLE_BYTES], uint16_t records[GT_RECORDS_NUMBERS], const built_block *block)
+{
+    gt_answer answer = gt_admit(table, GT_TABLE_BYTES, block->bytes, block->length, 1);
+
+    if (answer.refusal == 0)
+        answer.refusal = gt_interpret(table, GT_TABLE_BYTES, answer.value, records, GT_RECORDS_NUMBERS).refusal;
+    return answer;
+}
+
+void hold_first(const campaign *c, size_t blocks, uint8_t table[GT_TABLE_BYTES], uint16_t records[GT_RECORDS_NUMBERS])
+{
+    expect(gt_fresh(c->sites, c->owners, GT_SLOTS, table, GT_TABLE_BYTES).refusal == 0, "the setup was refused");
+    for (size_t place = 0; place < blocks; place++) {
+        gt_answer answer = admit_and_interpret(table, records, &c->blocks[place]);
+        expect(answer.refusal == 0 && answer.value == place, "a block of the campaign was refused");
+    }
+}

@@ -30,4 +30,11 @@ campaign busy_campaign(void);
  * in the fifth. */
 campaign ordinary_campaign(void);
 
+/* A block arrives: it is admitted and, where it was, interpreted. The answer is the admission's, or the refusal of the
+ * interpretation. */
+gt_answer admit_and_interpret(uint8_t table[GT_TABLE_BYTES], uint16_t records[GT_RECORDS_NUMBERS], const built_block *block);
+
+/* Makes the table that holds so many blocks of a campaign, all interpreted, and their records; numbers of other places stay. */
+void hold_first(const campaign *c, size_t blocks, uint8_t table[GT_TABLE_BYTES], uint16_t records[GT_RECORDS_NUMBERS]);
+
 #endif

@@ -36,10 +36,7 @@ static built_block next_block(const side *s, uint8_t site)
 
 static void hold(side *s, const built_block *b)
 {
-    gt_answer held = gt_admit(s->table, GT_TABLE_BYTES, b->bytes, b->length, 1);
-    gt_answer interpreted = gt_interpret(s->table, GT_TABLE_BYTES, held.value, s->records, GT_RECORDS_NUMBERS);
-
-    expect(held.refusal == 0 && interpreted.refusal == 0, "a block was refused");
+    expect(admit_and_interpret(s->table, s->records, b).refusal == 0, "a block was refused");
 }
 
 /* Sites build in rounds, each block on all of the round before, until the side holds so many blocks. The other side, if

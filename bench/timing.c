@@ -14,7 +14,7 @@ static double cpu_seconds(void)
     return (double)now.tv_sec + 1e-9 * (double)now.tv_nsec;
 }
 
-static double seconds_of(batch run, size_t kind, const void *context)
+double seconds_of(batch run, size_t kind, const void *context)
 {
     double start = cpu_seconds();
 

@@ -16,6 +16,9 @@ typedef struct {
 /* Runs a batch of this kind. */
 typedef void (*batch)(size_t kind, const void *context);
 
+/* The CPU seconds that a batch takes. */
+double seconds_of(batch run, size_t kind, const void *context);
+
 /* Times a batch of each kind in turn, in every repetition, after a batch of each to warm up. */
 void time_in_turn(size_t kinds, timing timings[], batch run, const void *context);
 
