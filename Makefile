@@ -31,6 +31,7 @@ RUST_LISTING = target/baseline/release/listing
 RUST_SOURCES = bench/baseline_rust/Cargo.toml $(wildcard bench/baseline_rust/src/*.rs bench/baseline_rust/src/bin/*.rs)
 VERSUS = $(patsubst %,bench/%.c,versus timing implementations same same_at_random chance campaigns) $(C_BASELINE)
 ARRIVALS = $(patsubst %,bench/%.c,timing controllers layout same_arrivals chance waiting campaigns) $(C_BASELINE) bench/baseline/shelf.c
+GROWTH = $(patsubst %,bench/%.c,timing layout campaigns) $(C_BASELINE)
 JOINS = $(patsubst %,bench/%.c,timing joiners layout same_joins chance campaigns) $(C_BASELINE) bench/baseline/join.c
 BENCH_HEADERS = $(wildcard bench/*.h bench/baseline_rust/*.h) $(C_BASELINE_HEADERS) $(HEADERS)
 
@@ -65,12 +66,14 @@ test: prerequisites
 	@tools/gate.sh
 
 # What the library costs on this machine, against the baselines and against a digest.
-bench: prerequisites $(HOST)/bench_sha256 $(HOST)/bench_campaign $(HOST)/bench_table $(HOST)/bench_arrivals $(HOST)/bench_joins $(HOST)/listing_c $(RUST_LISTING) $(LISTING)
+bench: prerequisites $(HOST)/bench_sha256 $(HOST)/bench_campaign $(HOST)/bench_table $(HOST)/bench_growth $(HOST)/bench_arrivals $(HOST)/bench_joins $(HOST)/listing_c $(RUST_LISTING) $(LISTING)
 	$(HOST)/bench_sha256
 	@echo
 	$(HOST)/bench_campaign
 	@echo
 	$(HOST)/bench_table
+	@echo
+	$(HOST)/bench_growth
 	@echo
 	$(HOST)/bench_arrivals
 	@echo
@@ -152,6 +155,9 @@ $(HOST)/bench_sha256 $(HOST)/bench_campaign: $(HOST)/bench_%: bench/%.c $(VERSUS
 
 $(HOST)/bench_table: bench/table.c bench/timing.c bench/campaigns.c $(BENCH_HEADERS) $(LIBRARY) | $(HOST)
 	$(CC) $(BENCH_CFLAGS) -Ihost -o $@ $< bench/timing.c bench/campaigns.c $(LIBRARY)
+
+$(HOST)/bench_growth: bench/growth.c $(GROWTH) $(BENCH_HEADERS) $(LIBRARY) | $(HOST)
+	$(CC) $(BENCH_CFLAGS) -Ihost -o $@ $< $(GROWTH) $(LIBRARY)
 
 $(HOST)/bench_arrivals: bench/arrivals.c $(ARRIVALS) $(BENCH_HEADERS) $(LIBRARY) | $(HOST)
 	$(CC) $(BENCH_CFLAGS) -Ihost -o $@ $< $(ARRIVALS) $(LIBRARY)
