@@ -1,7 +1,7 @@
 # make demo        shows the listing and the control program, each on a small campaign
 # make test        proves and tests everything: the gate
-# make bench       measures SHA-256, whole campaigns, form and the listing against baselines in C and Rust, arrivals and joins
-#                  against C
+# make bench       measures SHA-256, whole campaigns, form and the listing against baselines in C and Rust, arrivals, joins and
+#                  a table that fills against C, and a million arrivals that a full table refuses
 # make memory      adds up what the core's calls take of the device's memory, and fails where it is too much; and what a
 #                  controller of four campaigns takes, and a join of two tables
 # make fuzz        compares the library and the listing with the harness's model for long: FUZZ_SEED, FUZZ_CASES and FUZZ_LISTINGS
@@ -66,7 +66,7 @@ test: prerequisites
 	@tools/gate.sh
 
 # What the library costs on this machine, against the baselines and against a digest.
-bench: prerequisites $(HOST)/bench_sha256 $(HOST)/bench_campaign $(HOST)/bench_table $(HOST)/bench_growth $(HOST)/bench_arrivals $(HOST)/bench_joins $(HOST)/listing_c $(RUST_LISTING) $(LISTING)
+bench: prerequisites $(HOST)/bench_sha256 $(HOST)/bench_campaign $(HOST)/bench_table $(HOST)/bench_growth $(HOST)/bench_arrivals $(HOST)/bench_joins $(HOST)/listing_c $(HOST)/child $(RUST_LISTING) $(LISTING)
 	$(HOST)/bench_sha256
 	@echo
 	$(HOST)/bench_campaign
@@ -79,7 +79,7 @@ bench: prerequisites $(HOST)/bench_sha256 $(HOST)/bench_campaign $(HOST)/bench_t
 	@echo
 	$(HOST)/bench_joins
 	@echo
-	python3 -B bench/listing.py target/streams $(LISTING) $(HOST)/listing_c $(RUST_LISTING)
+	python3 -B bench/listing.py target/streams $(HOST)/child $(LISTING) $(HOST)/listing_c $(RUST_LISTING)
 
 # What the core's calls take of the device's memory, and a controller's, and a join.
 memory: prerequisites $(HOST)/device $(HOST)/controller $(HOST)/join $(HOST)/stack
@@ -149,6 +149,9 @@ $(RUST_BASELINE) $(RUST_LISTING) &: $(RUST_SOURCES) | prerequisites
 
 $(HOST)/listing_c: bench/baseline/listing.c $(C_BASELINE) $(C_BASELINE_HEADERS) | $(HOST)
 	$(CC) $(BENCH_CFLAGS) -o $@ $< $(C_BASELINE)
+
+$(HOST)/child: bench/child.c bench/expect.h | $(HOST)
+	$(CC) $(BENCH_CFLAGS) -o $@ $<
 
 $(HOST)/bench_sha256 $(HOST)/bench_campaign: $(HOST)/bench_%: bench/%.c $(VERSUS) $(BENCH_HEADERS) $(LIBRARY) $(RUST_BASELINE) | $(HOST)
 	$(CC) $(BENCH_CFLAGS) -Ihost -o $@ $< $(VERSUS) $(LIBRARY) $(RUST_BASELINE)

@@ -1,10 +1,12 @@
 #!/usr/bin/env python3
-"""The listing program against those of the baselines, on streams of arrivals.
+"""The listing program against those of the baselines, on streams of arrivals; then ours alone, on streams that go on and on
+after the table is full.
 
-    listing.py FOLDER OURS C RUST
+    listing.py FOLDER CHILD OURS C RUST
 
-Each program runs as a child on the same file, in turn, and its CPU time is taken. Where the outputs differ it ends with
-status 1; it judges no speed. The streams and outputs are written to FOLDER.
+Each program runs as a child on the same file, in turn, and its CPU time is taken. CHILD runs ours where its memory is taken
+too. Where the outputs differ, or an arrival at a full table gets another answer than 11, it ends with status 1; it judges no
+speed. The streams and outputs are written to FOLDER.
 """
 
 import os
@@ -18,16 +20,24 @@ import streams
 REPETITIONS = 21
 STREAMS = {"soon full": streams.soon_full, "slowly filled": streams.slowly_filled, "no arrivals": streams.no_arrivals}
 NAMES = ["ours", "C", "Rust"]
+FLOODS = [10000, 100000, 1000000]  # arrivals after the table is full
+FLOOD_REPETITIONS = 5
+
+
+def usage_of(command, stream, output):
+    """Runs a command and gives what the system counted of it."""
+    files = [(os.POSIX_SPAWN_OPEN, 0, stream, os.O_RDONLY, 0),
+             (os.POSIX_SPAWN_OPEN, 1, output, os.O_WRONLY | os.O_CREAT | os.O_TRUNC, 0o644)]
+    child = os.posix_spawn(command[0], command, os.environ, file_actions=files)
+    _, status, usage = os.wait4(child, 0)
+    if status != 0:
+        sys.exit(f"{command[-1]}: status {status} on {stream}")
+    return usage
 
 
 def seconds_of(program, stream, output):
     """Runs a program and gives its CPU seconds, user and system."""
-    files = [(os.POSIX_SPAWN_OPEN, 0, stream, os.O_RDONLY, 0),
-             (os.POSIX_SPAWN_OPEN, 1, output, os.O_WRONLY | os.O_CREAT | os.O_TRUNC, 0o644)]
-    child = os.posix_spawn(program, [program], os.environ, file_actions=files)
-    _, status, usage = os.wait4(child, 0)
-    if status != 0:
-        sys.exit(f"{program}: status {status} on {stream}")
+    usage = usage_of([program], stream, output)
     return usage.ru_utime + usage.ru_stime
 
 
@@ -49,9 +59,14 @@ def expect_same(programs, stream, folder):
     return ours.decode("ascii")
 
 
+def refusals_of(lines):
+    """How many lines have which refusal; a delivery's has 0."""
+    return Counter(int(line.split()[-1]) for line in lines.splitlines()[1:])
+
+
 def content_of(lines):
-    """How many lines have which refusal."""
-    counts = Counter(int(line.split()[-1]) for line in lines.splitlines()[1:])
+    """The same in words."""
+    counts = refusals_of(lines)
     deliveries = counts.pop(0, 0)
     refusals = ", ".join(f"{count:,} with {number}" for number, count in sorted(counts.items()))
     return f"{deliveries} deliveries; refused: {refusals or 'none'}"
@@ -69,9 +84,8 @@ def row_of(title, rows):
     return f"{title:16}" + "".join(f"{value:10.2f}" for value in milliseconds) + "".join(f"{value:10.2f}" for value in ratios)
 
 
-def main(folder, *programs):
-    folder = Path(folder)
-    folder.mkdir(parents=True, exist_ok=True)
+def compare(folder, programs):
+    """Ours against the baselines."""
     print(f"The listing of {streams.ARRIVALS:,} arrivals: the proved program (ours) against those in C and Rust.")
     print(f"CPU time of each program as a child, user and system: medians of {REPETITIONS} repetitions, each of the three in turn,")
     print("after a run of each whose outputs are compared. Input and output are files; the input was read before, the output")
@@ -88,6 +102,49 @@ def main(folder, *programs):
         print(row_of(title, measured(programs, stream, folder)), flush=True)
     print()
     print("\n".join(contents))
+
+
+def taken_by(child, program, stream, folder):
+    """CPU seconds and peak KiB of a program."""
+    figures = folder / "figures"
+    usage_of([child, figures, program], stream, folder / "timed.lines")
+    seconds, peak = figures.read_text(encoding="ascii").split()
+    return float(seconds), int(peak)
+
+
+def expect_refused(program, stream, refused, folder):
+    """Those arrivals get 11, and all others are taken."""
+    output = folder / "flooded.lines"
+    seconds_of(program, stream, output)
+    counts = refusals_of(output.read_text(encoding="ascii"))
+    del counts[0]
+    if counts != {11: refused}:
+        sys.exit(f"refusals for {stream}: {dict(counts)}")
+
+
+def flood(folder, child, program):
+    """Ours on streams that go on after the table is full."""
+    print("The listing of a full table: 64 blocks fill it, and then so many come, of 8 bytes each, that get 11. Our program alone:")
+    print(f"its CPU time, the median of {FLOOD_REPETITIONS} repetitions after a run whose lines are looked at, and the most memory")
+    print("that was resident in any of them.")
+    print()
+    print(f"{'refused':>10}{'input bytes':>14}{'ours ms':>10}{'us each':>10}{'peak KiB':>10}")
+    for refused in FLOODS:
+        stream = folder / f"flooded_{refused}.bin"
+        stream.write_bytes(streams.flooded(refused))
+        expect_refused(program, stream, refused, folder)
+        seconds, peaks = zip(*(taken_by(child, program, stream, folder) for _ in range(FLOOD_REPETITIONS)))
+        median = statistics.median(seconds)
+        size = stream.stat().st_size
+        print(f"{refused:10,}{size:14,}{1e3 * median:10.2f}{1e6 * median / refused:10.2f}{max(peaks):10,}", flush=True)
+
+
+def main(folder, child, *programs):
+    folder = Path(folder)
+    folder.mkdir(parents=True, exist_ok=True)
+    compare(folder, programs)
+    print()
+    flood(folder, child, programs[0])
 
 
 if __name__ == "__main__":

@@ -135,12 +135,12 @@ def one_too_many(rng, held):
 
 # ---- Streams
 
-def stream(seed, is_new, others):
-    """Arrivals of which those where `is_new` says so are taken, of one site after the other, until 64 are; the rest are
-    drawn from `others` by weight."""
+def stream(seed, is_new, others, arrivals=ARRIVALS):
+    """So many arrivals, of which those where `is_new` says so are taken, of one site after the other, until 64 are; the rest
+    are drawn from `others` by weight."""
     rng = random.Random(seed)
     held, parts = [], [SETUP]
-    for number in range(ARRIVALS):
+    for number in range(arrivals):
         if len(held) < PLACES and (not held or is_new(number)):
             data = next_block(rng, held, len(held) % SITES)
             hold(held, data)
@@ -159,6 +159,14 @@ def soon_full():
 def slowly_filled():
     """A table that fills evenly over the whole stream, with repetitions and damage between."""
     return stream(2, lambda number: number % (ARRIVALS // PLACES) == 0, {repeated: 70, unknown: 15, damaged: 15})
+
+
+def flooded(refused):
+    """A full table, and then so many arrivals, a multiple of ten, that get 11. They are short, and ten come over and over, so
+    that a million take little room and are quickly made."""
+    full = stream(3, lambda number: True, {}, PLACES)
+    ten = b"".join(arrival(encode(0, 0, [], [(0, number)])) for number in range(1, 11))
+    return full + refused // 10 * ten
 
 
 def no_arrivals():
