@@ -1,4 +1,4 @@
-/* Building the blocks of the campaigns, and holding them. */
+/* Building blocks, and holding them. */
 #include "campaigns.h"
 
 #include <stdbool.h>
@@ -77,6 +77,16 @@ campaign busy_campaign(void)
 }
 
 campaign ordinary_campaign(void) { return make("ordinary: 4 sites, 4 references", ORDINARY_SITES, ordinary_rule); }
+
+built_block build_next(const uint8_t table[GT_TABLE_BYTES], uint8_t site, const uint8_t *requests, size_t length)
+{
+    built_block b;
+    gt_answer built = gt_build(table, GT_TABLE_BYTES, site, requests, length, b.bytes, sizeof b.bytes);
+
+    expect(built.refusal == 0, "a block was not built");
+    b.length = built.value;
+    return b;
+}
 
 gt_answer admit_and_interpret(uint8_t table[GT_TABLE_BYTES], uint16_t records[GT_RECORDS_NUMBERS], const built_block *block)
 {

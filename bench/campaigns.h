@@ -1,5 +1,5 @@
 /* The campaigns that the benchmarks run: as many blocks as a table holds, in rounds. In each round every site builds one
- * block, which refers to all blocks of the round before. */
+ * block, which refers to all blocks of the round before. And tables that hold them; a refusal there ends the program. */
 #ifndef BENCH_CAMPAIGNS_H
 #define BENCH_CAMPAIGNS_H
 
@@ -30,8 +30,11 @@ campaign busy_campaign(void);
  * in the fifth. */
 campaign ordinary_campaign(void);
 
+/* What a site builds next by the building rule, with these requests of so many bytes. */
+built_block build_next(const uint8_t table[GT_TABLE_BYTES], uint8_t site, const uint8_t *requests, size_t length);
+
 /* A block arrives: it is admitted and, where it was, interpreted. The answer is the admission's, or the refusal of the
- * interpretation. */
+ * interpretation: a refusal is the caller's to judge. */
 gt_answer admit_and_interpret(uint8_t table[GT_TABLE_BYTES], uint16_t records[GT_RECORDS_NUMBERS], const built_block *block);
 
 /* Makes the table that holds so many blocks of a campaign, all interpreted, and their records; numbers of other places stay. */

@@ -16,17 +16,6 @@ enum { BUSY, ORDINARY, MEASURED_CAMPAIGNS };
 
 static campaign measured[MEASURED_CAMPAIGNS];
 
-/* The block that a site would build next on a full table, with these requests. */
-static built_block block_after(const uint8_t full[GT_TABLE_BYTES], uint8_t site, const uint8_t *requests, size_t length)
-{
-    built_block b;
-    gt_answer built = gt_build(full, GT_TABLE_BYTES, site, requests, length, b.bytes, sizeof b.bytes);
-
-    expect(built.refusal == 0, "a block was not built");
-    b.length = built.value;
-    return b;
-}
-
 /* ---- An arrival at a table that holds so many blocks */
 
 static const size_t held_counts[] = {8, 16, 32, LAST_PLACE, GT_MAX_PLACES};
@@ -36,13 +25,13 @@ static uint8_t our_kept[GT_TABLE_BYTES], our_table[GT_TABLE_BYTES];
 static baseline_table c_kept, c_table;
 static uint16_t our_records[GT_RECORDS_NUMBERS], c_records[GT_RECORDS_NUMBERS];
 
-/* The campaign's next block, or after its last one that of site 0, with as many requests as the last has. */
+/* The campaign's next block; after its last one what site 0 would build, with the requests of the last. */
 static built_block next_of(const campaign *c, size_t held)
 {
     const built_block *last = &c->blocks[LAST_PLACE];
     size_t requests = 3u * last->bytes[4];
 
-    return held < GT_MAX_PLACES ? c->blocks[held] : block_after(our_kept, 0, last->bytes + last->length - requests, requests);
+    return held < GT_MAX_PLACES ? c->blocks[held] : build_next(our_kept, 0, last->bytes + last->length - requests, requests);
 }
 
 static void prepare(const campaign *c, size_t held)
@@ -147,7 +136,7 @@ static void fill_site(full_site *s, const campaign *c)
 
     hold_first(c, GT_MAX_PLACES, s->table, s->records);
     for (uint8_t site = 0; site < c->sites; site++)
-        s->next[site] = block_after(s->table, site, requests, sizeof requests);
+        s->next[site] = build_next(s->table, site, requests, sizeof requests);
     memcpy(s->table_before, s->table, sizeof s->table);
     memcpy(s->records_before, s->records, sizeof s->records);
 }

@@ -21,17 +21,12 @@ static void start(side *s)
     s->numbers = GT_RECORDS_NUMBERS;
 }
 
-/* By the building rule; blocks of the first round have a request. */
+/* Blocks of the first round have a request. */
 static built_block next_block(const side *s, uint8_t site)
 {
     const uint8_t request[] = {site, 0, 42};
-    size_t requests = s->table[COUNT] == 0 ? sizeof request : 0;
-    built_block b;
-    gt_answer built = gt_build(s->table, GT_TABLE_BYTES, site, request, requests, b.bytes, sizeof b.bytes);
 
-    expect(built.refusal == 0, "a block was not built");
-    b.length = built.value;
-    return b;
+    return build_next(s->table, site, request, s->table[COUNT] == 0 ? sizeof request : 0);
 }
 
 static void hold(side *s, const built_block *b)
