@@ -411,10 +411,87 @@ static void check_full(void)
     check("full table, the 65th under verdict 0", refused_of_length(t, GT_TABLE_BYTES, next, 0, 5, 0));
 }
 
+/* ---- Digests that begin alike: 64 blocks of site 0 without references, each with a digest of its own. */
+
+/* A digest is looked for by its first bytes. These have all but the last in common. */
+static digest alike(uint8_t last)
+{
+    digest d = not_held(7);
+
+    d.bytes[GT_DIGEST_BYTES - 1] = last;
+    return d;
+}
+
+/* These differ in their first two bytes as well, by multiples of 16 and of 64. */
+static digest nearly_alike(uint8_t last)
+{
+    digest d = alike(last);
+
+    d.bytes[0] = (uint8_t)(d.bytes[0] + 16 * last);
+    d.bytes[1] = (uint8_t)(d.bytes[1] + 64 * last);
+    return d;
+}
+
+static table with_digests(digest (*of)(uint8_t place))
+{
+    table t = empty_table(4);
+
+    for (uint8_t place = 0; place < GT_MAX_PLACES; place++) {
+        digest d = of(place);
+        put_row(&t, block_of(0, 0), 0);
+        memcpy(row(&t, place), d.bytes, sizeof d.bytes);
+    }
+    return t;
+}
+
+/* The same, with the digest of one place at another too. */
+static table repeating(digest (*of)(uint8_t place), uint8_t place, uint8_t repeated)
+{
+    table t = with_digests(of);
+
+    memcpy(row(&t, place), row(&t, repeated), GT_DIGEST_BYTES);
+    return t;
+}
+
+/* The same without its last block, so that there is room. */
+static table with_room(digest (*of)(uint8_t place))
+{
+    table t = with_digests(of);
+
+    memset(row(&t, GT_MAX_PLACES - 1), 0, ROW_BYTES);
+    t.bytes[COUNT] = GT_MAX_PLACES - 1;
+    return t;
+}
+
+static bool finds_each(digest (*of)(uint8_t place))
+{
+    table t = with_room(of);
+    bool each = true;
+
+    for (uint8_t place = 0; place + 1 < GT_MAX_PLACES; place++) {
+        block b = with_reference(block_of(1, 0), of(place));
+        each = each && admitted(t, b, GT_MAX_PLACES - 1, with_row(t, b, (uint64_t)1 << place));
+    }
+    return each;
+}
+
+static void check_alike(void)
+{
+    check("form, digests that differ in the last byte", in_form(with_digests(alike)));
+    check("form, digests whose first bytes are nearly alike", in_form(with_digests(nearly_alike)));
+    check("form, the last digest that of place 0", !in_form(repeating(alike, GT_MAX_PLACES - 1, 0)));
+    check("form, the second digest that of place 0", !in_form(repeating(nearly_alike, 1, 0)));
+    check("admission, a reference to each of the digests alike", finds_each(alike));
+    check("admission, a reference to each of those nearly alike", finds_each(nearly_alike));
+    check("admission, a reference like those held, and not held",
+          refused(with_room(alike), with_reference(with_reference(block_of(1, 0), alike(3)), alike(64)), 9, 1));
+}
+
 int main(void)
 {
     check_fresh();
     check_form();
+    check_alike();
     check_admitted();
     check_table_refused();
     check_block_refused();

@@ -11,7 +11,7 @@ use lib.ListN.{getD, set}
 use borrow.Author.Tests.{eq-eqb, ne-eqb}
 use Rattle.base.specs.Search.{anyBelow}
 use Rattle.base.specs.Mask.{inMask}
-use Rattle.base.specs.Prints.{printCount, hasPrint, printsBelow, groupsBelow}
+use Rattle.base.specs.Steps.{printCount, hasPrint, printsBelow, groupsBelow}
 use Rattle.base.proofs.Tests.{true-not-false, or-false}
 use Rattle.base.proofs.Search.{any-false-at, any-more}
 use Rattle.base.proofs.Sets.{mask-has, mask-same, mask-add}

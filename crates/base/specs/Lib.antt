@@ -2,8 +2,8 @@
 pub mod Search
 pub mod Count
 pub mod Mask
-pub mod Prints
 pub mod List
 pub mod Bytes
 pub mod Number
 pub mod Word
+pub mod Steps

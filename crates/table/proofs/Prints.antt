@@ -11,7 +11,7 @@ use lib.Seq.{getD-take, getD-drop}
 use Rattle.base.specs.Bytes.{Bytes}
 use Rattle.base.specs.Search.{anyBelow}
 use Rattle.base.specs.Mask.{inMask}
-use Rattle.base.specs.Prints.{printCount}
+use Rattle.base.specs.Steps.{printCount}
 use Rattle.base.proofs.Search.{any-false}
 use Rattle.base.proofs.Prints.{new-print}
 use Rattle.base.proofs.Bytes.{other-same}

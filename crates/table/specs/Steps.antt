@@ -9,7 +9,7 @@ use Rattle.base.specs.Bytes.{Bytes}
 use Rattle.base.specs.Search.{anyBelow}
 use Rattle.base.specs.List.{listBelow}
 use Rattle.base.specs.Mask.{maskBelow, inMask}
-use Rattle.base.specs.Prints.{printCount, printsBelow}
+use Rattle.base.specs.Steps.{printCount, printsBelow}
 use Rattle.setup.specs.Setup.{maxSites}
 use Rattle.table.specs.View.{maxPlaces, Row}
 use Rattle.table.specs.Layout.{tableSize, rowStart, setupOf, countOf, digestAt, siteAt, sequenceAt, markAt, viewOf}

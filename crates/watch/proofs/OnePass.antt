@@ -10,7 +10,7 @@ use lib.Dec.{eqb, lit<}
 use borrow.Author.Tests.{ne-eqb, eqb-true, eqb-false}
 use Rattle.base.specs.Search.{firstBelow, anyBelow}
 use Rattle.base.specs.Mask.{maskBelow, inMask}
-use Rattle.base.specs.Prints.{printCount}
+use Rattle.base.specs.Steps.{printCount}
 use Rattle.base.specs.Bytes.{Bytes}
 use Rattle.base.proofs.Tests.{by-test, not-true-false, and-left, and-right, or-false}
 use Rattle.base.proofs.Search.{any-false, any-more}

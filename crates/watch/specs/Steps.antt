@@ -3,7 +3,7 @@ use mathlib.Core.Bool.{cond}
 use Prim.Native.Nat.{ℕ, zero, suc, _%_, _≤_, _<_}
 use lib.Bits.{bitOr}
 use Rattle.base.specs.Mask.{inMask}
-use Rattle.base.specs.Prints.{printCount, printsBelow}
+use Rattle.base.specs.Steps.{printCount, printsBelow}
 use Rattle.base.specs.Bytes.{Bytes}
 use Rattle.setup.specs.Setup.{maxSites}
 use Rattle.table.specs.Layout.{setupOf, countOf, siteAt, sequenceAt, referencesAt}

@@ -15,7 +15,7 @@ use Rattle.base.specs.Bytes.{Bytes}
 use Rattle.base.specs.Search.{firstBelow, anyBelow}
 use Rattle.base.specs.List.{listBelow}
 use Rattle.base.specs.Mask.{maskBelow}
-use Rattle.base.specs.Prints.{printCount, groupsBelow}
+use Rattle.base.specs.Steps.{printCount, groupsBelow}
 use Rattle.base.proofs.Tests.{one-more}
 use Rattle.base.proofs.Search.{all-true, all-false}
 use Rattle.base.proofs.List.{list-at, set-list}

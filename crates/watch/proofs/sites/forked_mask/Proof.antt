@@ -10,7 +10,7 @@ use borrow.Author.Needs.{needs}
 use Rattle.base.specs.Search.{anyBelow, firstBelow}
 use Rattle.base.specs.List.{listBelow}
 use Rattle.base.specs.Mask.{maskBelow}
-use Rattle.base.specs.Prints.{printCount, groupsBelow}
+use Rattle.base.specs.Steps.{printCount, groupsBelow}
 use Rattle.base.proofs.Prints.{group-mask, group-more}
 use Rattle.setup.specs.Setup.{maxSites}
 use Rattle.table.specs.Layout.{setupOf, countOf, siteAt}

@@ -1,5 +1,6 @@
--- Prints: a quick test that a number's key is new. Each number has a group and a print below 64, both made from its key, so that numbers with one
--- key have both in common and others seldom do. A mask for each group keeps which prints were met in it. Nothing here need be believed.
+-- What the contracts of inner functions cite; nothing here need be believed. Prints are a quick test that a number's key is new. Each number has a
+-- group and a print below 64, both made from its key, so that numbers with one key have both in common and others seldom do. A mask for each
+-- group keeps which prints were met in it.
 use mathlib.Core.Bool.{Bool, _&&_}
 use mathlib.Core.List.{List}
 use Prim.Native.Nat.{ℕ}
