@@ -3,7 +3,8 @@ use mathlib.Core.Path.{_≡_, sym, ap, ap₂, _∙_}
 use Prim.Native.Nat.{ℕ, _+_, _≤_}
 use native.Mathlib.Nat.{zero-add}
 use native.Mathlib.Omega.{arith}
-use lib.ListN.{length, drop, replicate, length-append}
+use lib.ListN.{length, take, drop, replicate, length-append}
+use lib.Seq.{take-append-seam}
 use Rattle.base.specs.Bytes.{Bytes, splice}
 use Rattle.report.specs.Framing.{Outcome, linesSize, linesOf, handed}
 use Rattle.report.specs.declared.Lines.{Lines}
@@ -30,3 +31,8 @@ handed-fits o s e l =
     let m : length (splice (replicate linesSize 0) 0 (o .lines)) ≡ linesSize = ap (λ (q : Stepped). length (q .lines .bytes)) (sym e) ∙ l in
     let n : s .lines .length ≡ length (o .lines) = ap (λ (q : Stepped). q .lines .length) e in
     omega (arith, length-append (o .lines) (drop (0 + length (o .lines)) (replicate linesSize 0)))
+
+-- and they are what stands at the front of it
+pub handed-text : (o : Outcome) (s : Stepped) → s ≡ handed o → take (s .lines .length) (s .lines .bytes) ≡ o .lines
+unfolding linesOf splice
+handed-text o s e = rw e (take-append-seam (o .lines) (drop (0 + length (o .lines)) (replicate linesSize 0)))

@@ -10,6 +10,10 @@ pub mod Written
 pub mod Taken
 pub mod Skipped
 pub mod Listed
+pub mod Due
+pub mod Ends
+pub mod AllDue
+pub mod Advanced
 pub mod Promises
 pub mod Placed
 pub mod Calls

@@ -3,5 +3,6 @@ pub mod Text
 pub mod Arrivals
 pub mod Listing
 pub mod Framing
+pub mod Gathering
 pub mod Promises
 pub mod Agreed

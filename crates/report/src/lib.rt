@@ -4,10 +4,12 @@
 // for a slot while at most f sites forked (specs/Agreed.antt). Assumes nothing.
 mod arrival;
 mod framing;
+mod gathering;
 mod text;
 
 use block::MAX_BLOCK_SIZE;
 use block::SLOTS;
+pub use gathering::gather;
 ghost use mathlib.Core.Path.{_≡_};
 ghost use Prim.Native.Nat.{_≤_};
 ghost use Rattle.sha256.specs.Sha256.{sha256};
@@ -72,6 +74,14 @@ pub struct Lines {
 pub struct Stepped {
     pub state: State,
     pub lines: Lines,
+}
+
+// What gathering came to: the next state, how many of the unread bytes the steps used, and how many bytes of lines stand at the front of the
+// output.
+pub struct Gathered {
+    pub state: State,
+    pub used: usize,
+    pub length: usize,
 }
 
 // The state before the first byte.

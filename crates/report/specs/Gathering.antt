@@ -1,0 +1,106 @@
+-- The listing of bytes that come in parts. Steps are made on the bytes that came, one after the other, as long as the next one is due; the
+-- bytes that no step got stay unread, and the next part comes behind them.
+use mathlib.Core.Bool.{Bool, true, false, _&&_, _||_}
+use mathlib.Core.List.{List, [], _∷_, _++_}
+use Prim.Native.Nat.{ℕ, zero, suc, _+_, _-_}
+use lib.Dec.{leb, ltb}
+use lib.ListN.{length, take, drop}
+use Rattle.base.specs.Bytes.{Bytes}
+use Rattle.agreement.specs.Run.{Site}
+use Rattle.report.specs.Framing.{wanted, Outcome, start, stepped, siteStepped, linesSize}
+use Rattle.report.specs.declared.State.{State}
+use Rattle.report.specs.declared.Gathered.{Gathered}
+
+-- what the steps so far came to: the next state, the site, how many of the unread bytes they used, their lines, and how many they were
+pub record Gathering : Type 0 where
+  pub state : State
+  pub site : Site
+  pub used : ℕ
+  pub lines : Bytes
+  pub steps : ℕ
+
+-- before the first step
+abbrev pub noSteps : State → Site → Gathering
+noSteps s x = record { state = s; site = x; used = 0; lines = []; steps = 0 }
+
+-- whether the next step is due, where so many bytes are left and the output has so much room: the listing is not at its end; the bytes that
+-- it wants are there, or no more will come; and there is room for a step's lines
+unfoldable pub isDue : Bool → State → ℕ → ℕ → Bool
+isDue isEnded s left room = ltb 0 (wanted s) && ((leb (wanted s) left || isEnded) && leb linesSize room)
+
+-- what that step gets
+abbrev pub pieceAt : State → ℕ → Bytes → Bytes
+pieceAt s used unread = take (wanted s) (drop used unread)
+
+module _ (digest : Bytes → Bytes) where
+  -- that step's outcome, and the site after it
+  abbrev pub outcomeAt : State → Site → ℕ → Bytes → Outcome
+  outcomeAt s x used unread = stepped digest s x (pieceAt s used unread)
+
+  abbrev pub siteAt : State → Site → ℕ → Bytes → Site
+  siteAt s x used unread = siteStepped digest s x (pieceAt s used unread)
+
+  -- the unread bytes, whether no more will come, and the output's size
+  module _ (unread : Bytes) (isEnded : Bool) (size : ℕ) where
+    abbrev pub due : Gathering → Bool
+    due g = isDue isEnded (g .state) (length unread - g .used) (size - length (g .lines))
+
+    -- one step more
+    abbrev pub oneMore : Gathering → Gathering
+    oneMore g =
+        record {
+          state = outcomeAt (g .state) (g .site) (g .used) unread .state;
+          site = siteAt (g .state) (g .site) (g .used) unread;
+          used = g .used + length (pieceAt (g .state) (g .used) unread);
+          lines = g .lines ++ outcomeAt (g .state) (g .site) (g .used) unread .lines;
+          steps = suc (g .steps);
+        }
+
+    -- as long as the next one is due, and at most so many
+    unfoldable pub gatherOn : ℕ → Gathering → Gathering
+    gatherOn zero g = g
+    gatherOn (suc most) g = elim (due g) [ true ↦ gatherOn most (oneMore g) | false ↦ g ]
+
+    -- every step that is due takes a byte, or gets too few and so is the last one: one step more than there are bytes is enough
+    unfoldable pub gathering : State → Site → Gathering
+    gathering s x = gatherOn (suc (length unread)) (noSteps s x)
+
+  -- ---- an input that comes in parts
+
+  -- between two turns: the state, the site, the bytes that no step got yet, and all lines so far
+  pub record Progress : Type 0 where
+    pub state : State
+    pub site : Site
+    pub unread : Bytes
+    pub lines : Bytes
+
+  -- before the first byte
+  abbrev pub nothingRead : Site → Progress
+  nothingRead x = record { state = start; site = x; unread = []; lines = [] }
+
+  -- the output's size
+  module _ (size : ℕ) where
+    -- a turn: the steps that are due, and then a part, which may be of no bytes, comes behind what is unread
+    abbrev pub turn : Bool → Progress → Bytes → Progress
+    turn isEnded p part =
+        record {
+          state = gathering (p .unread) isEnded size (p .state) (p .site) .state;
+          site = gathering (p .unread) isEnded size (p .state) (p .site) .site;
+          unread = drop (gathering (p .unread) isEnded size (p .state) (p .site) .used) (p .unread) ++ part;
+          lines = p .lines ++ gathering (p .unread) isEnded size (p .state) (p .site) .lines;
+        }
+
+    -- a turn for each part, while more may come
+    unfoldable pub turns : Progress → List Bytes → Progress
+    turns p [] = p
+    turns p (part ∷ parts) = turns (turn false p part) parts
+
+    -- so many turns after the last part: no more will come
+    unfoldable pub lastTurns : ℕ → Progress → Progress
+    lastTurns zero p = p
+    lastTurns (suc k) p = lastTurns k (turn true p [])
+
+-- ---- how the outcome is handed over
+
+abbrev pub gatheredOf : Gathering → Gathered
+gatheredOf g = record { state = g .state; used = g .used; length = length (g .lines) }
