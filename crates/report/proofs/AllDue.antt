@@ -95,8 +95,8 @@ module _ (digest : Bytes → Bytes) (unread : Bytes) (isEnded : Bool) (size : �
 
   -- ---- what holds before the first step, and after a step that is due if it held before, holds of what was gathered
 
-  kept-on : (P : Gathering → Type 0) → ((g : Gathering) → due digest unread isEnded size g ≡ true → P g → P (oneMore digest unread isEnded size g))
-      → (n : ℕ) (g : Gathering) → P g → P (on n g)
+  pub kept-on : (P : Gathering → Type 0) → ((g : Gathering) → due digest unread isEnded size g ≡ true → P g → P (oneMore digest unread isEnded size g))
+      → (n : ℕ) (g : Gathering) → P g → P (gatherOn digest unread isEnded size n g)
   kept-on P keep zero g p = subst P (sym (no-more g)) p
   kept-on P keep (suc n) g p = by-test (is-due-at g)
       (λ d. subst P (sym (one-due n g d)) (kept-on P keep n (next g) (keep g d p)))
@@ -106,3 +106,21 @@ module _ (digest : Bytes → Bytes) (unread : Bytes) (isEnded : Bool) (size : �
       → (s : State) (x : Site) → P (noSteps s x) → P (gathering digest unread isEnded size s x)
   unfolding gathering
   kept P keep s x p = kept-on P keep (suc (length unread)) (noSteps s x) p
+
+  -- ---- the first step
+
+  pub nothing-due : (s : State) (x : Site) → due digest unread isEnded size (noSteps s x) ≡ false → gathering digest unread isEnded size s x ≡ noSteps s x
+  unfolding gathering
+  nothing-due s x d = none-due (suc (length unread)) (noSteps s x) d
+
+  pub some-due : (s : State) (x : Site) → due digest unread isEnded size (noSteps s x) ≡ true
+      → work (length unread) (gathering digest unread isEnded size s x .state) (gathering digest unread isEnded size s x .used) < work (length unread) s 0
+  unfolding gathering
+  some-due s x d =
+      let first : Gathering = next (noSteps s x) in
+      let rest : (on (length unread) first .used ≤ length unread) × (workAt (on (length unread) first) ≤ workAt first) =
+      kept-on (λ (g : Gathering). (g .used ≤ length unread) × (workAt g ≤ workAt first))
+      (λ g e w. (next-within g (w .0), omega (arith, less-work g (w .0) e, w .1)))
+      (length unread) first (next-within (noSteps s x) (omega arith), omega arith) in
+      let e : workAt (on (suc (length unread)) (noSteps s x)) ≡ workAt (on (length unread) first) = ap workAt (one-due (length unread) (noSteps s x) d) in
+      omega (arith, e, rest .1, less-work (noSteps s x) (omega arith) d)

@@ -14,6 +14,8 @@ pub mod Due
 pub mod Ends
 pub mod AllDue
 pub mod Advanced
+pub mod Gathers
+pub mod InParts
 pub mod Promises
 pub mod Placed
 pub mod Calls

@@ -6,7 +6,7 @@ use Prim.Native.Nat.{ℕ, _≤_, _<_}
 use native.Mathlib.Omega.{arith}
 use lib.ListN.{length, take, drop, length-take, length-drop}
 use lib.Seq.{getD-take}
-use Rattle.base.specs.Bytes.{Bytes}
+use Rattle.base.specs.Bytes.{Bytes, joined}
 use Rattle.base.proofs.Tests.{by-test}
 use Rattle.base.proofs.Parts.{part-of-front}
 use Rattle.block.specs.Limits.{slotCount}
@@ -25,6 +25,8 @@ use Rattle.report.proofs.Setups.{unlawful-refused, lawful-made, table-m
 use Rattle.report.proofs.Framed.{listingIn}
 use Rattle.report.proofs.Written.{Writes, stops, goes-on}
 use Rattle.report.proofs.Listed.{lists}
+use Rattle.report.proofs.Gathers.{within, stopped, written}
+use Rattle.report.proofs.InParts.{listed-in-parts, reached}
 
 wanted-small : (e : Expected) → wantedBy e ≤ pieceSize
 unfolding wantedBy
@@ -59,10 +61,18 @@ module _ (digest : Bytes → Bytes) (input : Bytes) (x : Site) where
       (omega arith) (omega (arith, length-take slotCount (drop 1 input), length-drop 1 input))
       (lists digest 0 site (drop setupSize input) (omega (arith, length-drop setupSize input))))
 
+  input-listed : length (x .table) ≡ tableSize → length input < countLimit → Writes digest start x input (listing digest (x .records) input)
+  input-listed sized few = by-test (lawful setup) (λ law. lawful-listed law sized few) unlawful-listed
+
 pub promises : (digest : Bytes → Bytes) → Promises digest
 promises digest =
     record {
-      listed = λ input x turns few sized enough.
-          by-test (lawful (setupIn input)) (λ law. lawful-listed digest input x law sized few turns enough) (λ law. unlawful-listed digest input x law turns enough);
+      listed = λ input x turns few sized enough. input-listed digest input x sized few turns enough;
+      gathered = λ unread more isEnded size s x turns none. written digest unread isEnded size more none s x turns;
+      usedThere = λ unread isEnded size s x. within digest unread isEnded size s x;
+      allDue = λ unread isEnded size s x. stopped digest unread isEnded size s x;
+      listedInParts = λ parts x size last few sized end.
+          listed-in-parts digest size parts x last (listing digest (x .records) (joined parts)) (input-listed digest (joined parts) x sized few) end;
+      reached = λ parts x size last room enough. reached digest size room parts x last enough;
       small = λ s. wanted-small (s .expected);
     }

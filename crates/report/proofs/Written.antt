@@ -17,7 +17,8 @@ module _ (digest : Bytes → Bytes) where
   abbrev pub Writes : State → Site → Bytes → Bytes → Type 0
   Writes s x input text = (turns : ℕ) → length input < turns → run digest turns s x input ≡ text
 
-  ended : (turns arrival : ℕ) (x : Site) (input : Bytes) → run digest turns (expecting End arrival) x input ≡ []
+  -- nothing is written after the end
+  pub ended : (turns arrival : ℕ) (x : Site) (input : Bytes) → run digest turns (expecting End arrival) x input ≡ []
   unfolding run stepBy siteBy wantedBy
   ended zero arrival x input = refl
   ended (suc turns) arrival x input = ended turns arrival x input

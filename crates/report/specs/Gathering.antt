@@ -32,6 +32,17 @@ isDue isEnded s left room = ltb 0 (wanted s) && ((leb (wanted s) left || isEnded
 abbrev pub pieceAt : State → ℕ → Bytes → Bytes
 pieceAt s used unread = take (wanted s) (drop used unread)
 
+-- between two turns of an input that comes in parts: the state, the site, the bytes that no step got yet, and all lines so far
+pub record Progress : Type 0 where
+  pub state : State
+  pub site : Site
+  pub unread : Bytes
+  pub lines : Bytes
+
+-- before the first byte
+abbrev pub nothingRead : Site → Progress
+nothingRead x = record { state = start; site = x; unread = []; lines = [] }
+
 module _ (digest : Bytes → Bytes) where
   -- that step's outcome, and the site after it
   abbrev pub outcomeAt : State → Site → ℕ → Bytes → Outcome
@@ -66,17 +77,6 @@ module _ (digest : Bytes → Bytes) where
     gathering s x = gatherOn (suc (length unread)) (noSteps s x)
 
   -- ---- an input that comes in parts
-
-  -- between two turns: the state, the site, the bytes that no step got yet, and all lines so far
-  pub record Progress : Type 0 where
-    pub state : State
-    pub site : Site
-    pub unread : Bytes
-    pub lines : Bytes
-
-  -- before the first byte
-  abbrev pub nothingRead : Site → Progress
-  nothingRead x = record { state = start; site = x; unread = []; lines = [] }
 
   -- the output's size
   module _ (size : ℕ) where

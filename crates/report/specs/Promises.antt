@@ -1,13 +1,24 @@
--- What the steps promise together; proofs/Promises.antt shows it for every digest, and so for SHA-256.
+-- What the steps promise together, also on an input that comes in parts; proofs/Promises.antt shows it for every digest, and so for SHA-256.
 use mathlib.Core.Path.{_≡_}
-use Prim.Native.Nat.{ℕ, _≤_, _<_}
-use lib.ListN.{length}
-use Rattle.base.specs.Bytes.{Bytes}
+use mathlib.Core.Bool.{Bool, true, false}
+use mathlib.Core.Logic.{_⊎_}
+use mathlib.Core.List.{List, [], _++_}
+use Prim.Native.Nat.{ℕ, _+_, _-_, _≤_, _<_}
+use lib.ListN.{length, drop}
+use Rattle.base.specs.Bytes.{Bytes, joined}
 use Rattle.table.specs.Layout.{tableSize}
 use Rattle.agreement.specs.Run.{Site}
 use Rattle.report.specs.Listing.{listing}
-use Rattle.report.specs.Framing.{pieceSize, wanted, countLimit, start, run}
+use Rattle.report.specs.Framing.{pieceSize, wanted, countLimit, start, run, linesSize}
+use Rattle.report.specs.Gathering.{Gathering, gathering, nothingRead, turns, lastTurns}
 use Rattle.report.specs.declared.State.{State}
+
+-- why the next step is not due
+abbrev pub Stopped : Bytes → Bool → ℕ → Gathering → Type 0
+Stopped unread isEnded size g =
+    (wanted (g .state) ≡ 0)
+    ⊎ (((length unread - g .used < wanted (g .state)) × (isEnded ≡ false))
+    ⊎ (size - length (g .lines) < linesSize))
 
 module _ (digest : Bytes → Bytes) where
   pub record Promises : Type 0 where
@@ -16,5 +27,26 @@ module _ (digest : Bytes → Bytes) where
     -- and later ones write nothing
     pub listed : (input : Bytes) (x : Site) (turns : ℕ) → length input < countLimit → length (x .table) ≡ tableSize → length input < turns
         → run digest turns start x input ≡ listing digest (x .records) input
+    -- what is gathered are the steps' lines in their order, and what is left are the bytes that no step got: a run on the bytes that came, and
+    -- on any more behind them, writes the lines that were gathered, and then what a run writes from the state that was reached on the bytes
+    -- that are left and the same more. Where no more will come, there are none
+    pub gathered : (unread more : Bytes) (isEnded : Bool) (size : ℕ) (s : State) (x : Site) (turns : ℕ) → (isEnded ≡ true → more ≡ [])
+        → run digest (gathering digest unread isEnded size s x .steps + turns) s x (unread ++ more)
+        ≡ gathering digest unread isEnded size s x .lines
+        ++ run digest turns (gathering digest unread isEnded size s x .state) (gathering digest unread isEnded size s x .site)
+        (drop (gathering digest unread isEnded size s x .used) unread ++ more)
+    -- no more bytes are used than came
+    pub usedThere : (unread : Bytes) (isEnded : Bool) (size : ℕ) (s : State) (x : Site) → gathering digest unread isEnded size s x .used ≤ length unread
+    -- gathering stops only where the listing is at its end, where fewer bytes are left than it wants and more may come, or where the output
+    -- lacks room for a step's lines
+    pub allDue : (unread : Bytes) (isEnded : Bool) (size : ℕ) (s : State) (x : Site) → Stopped unread isEnded size (gathering digest unread isEnded size s x)
+    -- an input that comes in parts, however it is cut, and whatever the output's size: once the state that is reached wants nothing, the lines
+    -- of all turns, joined, are the listing of the parts, joined. The premises are those of `listed`
+    pub listedInParts : (parts : List Bytes) (x : Site) (size last : ℕ) → length (joined parts) < countLimit → length (x .table) ≡ tableSize
+        → wanted (lastTurns digest size last (turns digest size (nothingRead x) parts) .state) ≡ 0
+        → lastTurns digest size last (turns digest size (nothingRead x) parts) .lines ≡ listing digest (x .records) (joined parts)
+    -- and it is reached: where the output has room for a step's lines, one turn more than there are bytes, after the last part, is enough
+    pub reached : (parts : List Bytes) (x : Site) (size last : ℕ) → linesSize ≤ size → length (joined parts) < last
+        → wanted (lastTurns digest size last (turns digest size (nothingRead x) parts) .state) ≡ 0
     -- no step asks for more than a verdict and the longest block
     pub small : (s : State) → wanted s ≤ pieceSize
