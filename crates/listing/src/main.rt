@@ -1,57 +1,55 @@
 // The listing program: reads a campaign from standard input and writes its listing to standard output. Every line comes from `report`; here
-// is only reading and writing. Promises: it is safe, it ends, and it holds one block at most. Assumes: the contracts of the kit's calls on
-// files. That the lines come out in their order is tested.
+// is only reading and writing. It reads what is there, up to a buffer of 4,096 bytes, and writes the lines that it has before a read that may
+// wait. Promises: it is safe, it ends, and it holds no more of the input than that buffer does; each turn makes the steps that are due on the
+// bytes that are unread, keeps those that no step used, in their order, and puts what comes behind them. Assumes: the contracts of the kit's
+// calls on files. That a read puts the next bytes there, and that the lines are written, is tested.
 use interpret::BUFFER_SIZE;
 use libc::STDERR_FILENO;
 use libc::STDIN_FILENO;
 use libc::STDOUT_FILENO;
-use report::Lines;
-use report::PIECE_SIZE;
 use report::State;
 use table::TABLE_SIZE;
+ghost use mathlib.Core.Path.{_≡_};
+ghost use mathlib.Core.Bool.{true};
+ghost use mathlib.Core.List.{[], _++_};
 ghost use Prim.Native.Nat.{_≤_, _<_};
-ghost use lib.ListN.{length};
+ghost use lib.ListN.{length, length as ListN·length, take, drop};
+ghost use Rattle.base.specs.Bytes.{Bytes, splice};
+ghost use Rattle.sha256.specs.Sha256.{sha256};
 ghost use Rattle.report.specs.Framing.{pieceSize, linesSize};
+ghost use Rattle.report.specs.Gathering.{gathering};
 
-// How many bytes stand at the front of a buffer, and whether reading or writing failed.
+// How many bytes stand at the front of the input, whether no more will come, and whether reading or writing failed.
 struct Front {
     count: usize,
+    is_ended: bool,
     is_failed: bool,
 }
 
-// One read into the piece, behind the bytes that stand there: how many do then.
-fn read_more(piece: &mut [u8], count: usize) -> Front
-    requires { ⌜ count ≤ length (now piece) ⌝ }
-    ensures { λ r. ⌜ r .count ≤ length (now (piece .exit)) ⌝ }
+// Of the bytes at the front, moves those that are not used to the front.
+fn to_front(input: &mut [u8], used: usize, count: usize)
+    requires { ⌜ (used ≤ count) × (count ≤ length (now input)) ⌝ }
+    ensures { λ _. ⌜ now (input .exit) ≡ splice (now (input .entry)) 0 (drop used (take count (now (input .entry)))) ⌝ }
 {
-    let got = libc::read(STDIN_FILENO, &mut piece[count..]);
-    let more = io::count(got, &piece[count..]);
-    Front {
-        count: count + more,
-        is_failed: got < 0,
+    let mut i = used;
+    while i < count {
+        input[i - used] = input[i];
+        i += 1;
     }
 }
 
-// Reads until the piece is full, the input ends or a read fails.
-fn fill(piece: &mut [u8]) -> Front
-    ensures { λ r. ⌜ r .count ≤ length (now (piece .exit)) ⌝ }
+// One read behind the bytes at the front. Where nothing more comes, the input is at its end.
+fn read_more(input: &mut [u8], count: usize) -> Front
+    requires { ⌜ count < length (now input) ⌝ }
+    ensures { λ r. ⌜ (count ≤ r .count) × (r .count ≤ length (now (input .exit))) ⌝ }
+    ensures { λ _. ⌜ take count (now (input .exit)) ≡ take count (now (input .entry)) ⌝ }
 {
-    let size = piece.len();
-    let mut count = 0;
-    while count < size {
-        let read = read_more(piece, count);
-        if read.is_failed {
-            return read;
-        }
-        // Nothing more came: the input is at its end.
-        if read.count <= count {
-            break;
-        }
-        count = read.count;
-    }
+    let got = libc::read(STDIN_FILENO, &mut input[count..]);
+    let more = io::count(got, &input[count..]);
     Front {
-        count,
-        is_failed: false,
+        count: count + more,
+        is_ended: more == 0,
+        is_failed: got < 0,
     }
 }
 
@@ -59,124 +57,117 @@ fn say(message: &[u8]) {
     io::write_all(STDERR_FILENO, message);
 }
 
-// Writes the bytes that wait at the front of the output, and answers whether that failed.
-fn write_front(output: &[u8], waiting: usize) -> bool
-    requires { ⌜ waiting ≤ length (now output) ⌝ }
+// Reads on where more may come, and fewer bytes are there than the state wants.
+fn read_on(state: State, input: &mut [u8], count: usize, is_ended: bool) -> Front
+    requires { ⌜ (count ≤ length (now input)) × (pieceSize ≤ length (now input)) ⌝ }
+    ensures { λ r. ⌜ (count ≤ r .count) × (r .count ≤ length (now (input .exit))) × («is_ended» ≡ true → r .count ≡ count) ⌝ }
+    ensures { λ _. ⌜ take count (now (input .exit)) ≡ take count (now (input .entry)) ⌝ }
 {
-    let is_written = io::write_all(STDOUT_FILENO, &output[..waiting]);
-    if !is_written {
-        say(b"listing: writing failed\n");
-    }
-    !is_written
-}
-
-// Puts lines behind the bytes that wait in the output, which are written first where the lines have no room. Nothing waits after a write
-// that failed.
-fn add(output: &mut [u8], waiting: usize, lines: &[u8]) -> Front
-    requires { ⌜ (waiting ≤ length (now output)) × (length (now lines) ≤ length (now output)) ⌝ }
-    ensures { λ r. ⌜ r .count ≤ length (now (output .exit)) ⌝ }
-{
-    if lines.len() <= output.len() - waiting {
-        base::put(output, waiting, lines);
+    if is_ended {
         return Front {
-            count: waiting + lines.len(),
+            count,
+            is_ended: true,
             is_failed: false,
         };
     }
-    if write_front(output, waiting) {
+    if report::wanted(state) <= count {
         return Front {
-            count: 0,
-            is_failed: true,
+            count,
+            is_ended: false,
+            is_failed: false,
         };
     }
-    base::put(output, 0, lines);
-    Front {
-        count: lines.len(),
-        is_failed: false,
-    }
-}
-
-// Reads what the state wants to the front of the piece.
-fn read_piece(state: State, piece: &mut [u8]) -> Front
-    requires { ⌜ pieceSize ≤ length (now piece) ⌝ }
-    ensures { λ r. ⌜ r .count ≤ length (now (piece .exit)) ⌝ }
-{
-    let size = report::wanted(state);
-    let read = fill(&mut piece[..size]);
+    let read = read_more(input, count);
     if read.is_failed {
         say(b"listing: reading failed\n");
     }
     read
 }
 
-// Adds the lines of a step to what waits in the output.
-fn add_lines(output: &mut [u8], waiting: usize, lines: Lines) -> Front
-    requires { ⌜ (waiting ≤ length (now output)) × (linesSize ≤ length (now output)) × (lines .length ≤ linesSize) ⌝ }
-    ensures { λ r. ⌜ r .count ≤ length (now (output .exit)) ⌝ }
+// Writes the lines at the front of the output, and answers whether that failed.
+fn write_front(output: &[u8], count: usize) -> bool
+    requires { ⌜ count ≤ length (now output) ⌝ }
 {
-    let bytes = lines.bytes;
-    let length = lines.length;
-    add(output, waiting, &bytes[..length])
+    let is_written = io::write_all(STDOUT_FILENO, &output[..count]);
+    if !is_written {
+        say(b"listing: writing failed\n");
+    }
+    !is_written
 }
 
-// After a step: the next state, how many bytes wait in the output, and whether nothing more is read, since the listing is at its end or
-// reading or writing failed.
+// Between two turns: the state, how many bytes at the front of the input are unread, whether no more will come, and whether the program is
+// done, since the listing is at its end or reading or writing failed.
 struct Progress {
     state: State,
-    waiting: usize,
+    count: usize,
+    is_ended: bool,
     is_done: bool,
 }
 
-// One step on a piece of the input.
-fn advance(
+// Writes the lines of a turn, and reads on unless the listing is at its end.
+fn write_and_read(
     state: State,
-    table: &mut [u8],
-    records: &mut [u16],
-    piece: &[u8],
-    output: &mut [u8],
-    waiting: usize,
+    input: &mut [u8],
+    count: usize,
+    is_ended: bool,
+    output: &[u8],
+    length: usize,
 ) -> Progress
-    requires { ⌜ (waiting ≤ length (now output)) × (linesSize ≤ length (now output)) ⌝ }
-    ensures { λ r. ⌜ r .waiting ≤ length (now (output .exit)) ⌝ }
+    requires { ⌜ (count ≤ ListN·length (now input)) × (pieceSize ≤ ListN·length (now input)) × (length ≤ ListN·length (now output)) ⌝ }
+    ensures { λ r. ⌜ (r .state ≡ state) × (count ≤ r .count) × (r .count ≤ ListN·length (now (input .exit))) × («is_ended» ≡ true → r .count ≡ count) ⌝ }
+    ensures { λ _. ⌜ take count (now (input .exit)) ≡ take count (now (input .entry)) ⌝ }
 {
-    let stepped = report::step(state, table, records, piece);
-    let next = stepped.state;
-    let lines = stepped.lines;
-    let added = add_lines(output, waiting, lines);
+    if write_front(output, length) {
+        return Progress {
+            state,
+            count,
+            is_ended,
+            is_done: true,
+        };
+    }
+    if report::wanted(state) == 0 {
+        return Progress {
+            state,
+            count,
+            is_ended,
+            is_done: true,
+        };
+    }
+    let read = read_on(state, input, count, is_ended);
     Progress {
-        state: next,
-        waiting: added.count,
-        is_done: added.is_failed || report::wanted(next) == 0,
+        state,
+        count: read.count,
+        is_ended: read.is_ended,
+        is_done: read.is_failed,
     }
 }
 
-// Reads the next piece, and makes a step on it.
+// One turn: the steps that are due, with their lines, and then the bytes that come.
 fn turn(
     before: Progress,
     table: &mut [u8],
     records: &mut [u16],
-    piece: &mut [u8],
+    input: &mut [u8],
     output: &mut [u8],
 ) -> Progress
-    requires { ⌜ (before .waiting ≤ length (now output)) × (pieceSize ≤ length (now piece)) × (linesSize ≤ length (now output)) ⌝ }
-    ensures { λ r. ⌜ r .waiting ≤ length (now (output .exit)) ⌝ }
+    requires { ⌜ (before .count ≤ length (now input)) × (pieceSize ≤ length (now input)) × (linesSize ≤ length (now output)) ⌝ }
+    ensures { λ r. ⌜ (r .state ≡ gathering sha256 (take (before .count) (now (input .entry))) (before .«is_ended») (length (now (output .entry))) (before .state) (record { table = now (table .entry); records = now (records .entry) }) .state) × (r .count ≤ length (now (input .exit))) ⌝ }
+    ensures { λ _. ⌜ now (table .exit) ≡ gathering sha256 (take (before .count) (now (input .entry))) (before .«is_ended») (length (now (output .entry))) (before .state) (record { table = now (table .entry); records = now (records .entry) }) .site .table ⌝ }
+    ensures { λ _. ⌜ now (records .exit) ≡ gathering sha256 (take (before .count) (now (input .entry))) (before .«is_ended») (length (now (output .entry))) (before .state) (record { table = now (table .entry); records = now (records .entry) }) .site .records ⌝ }
+    ensures { λ r. ⌜ ((came : Bytes) × (take (r .count) (now (input .exit)) ≡ drop (gathering sha256 (take (before .count) (now (input .entry))) (before .«is_ended») (length (now (output .entry))) (before .state) (record { table = now (table .entry); records = now (records .entry) }) .used) (take (before .count) (now (input .entry))) ++ came) × (before .«is_ended» ≡ true → came ≡ [])) ⌝ }
 {
     let state = before.state;
-    let waiting = before.waiting;
-    let read = read_piece(state, piece);
-    if read.is_failed {
-        return Progress {
-            state,
-            waiting,
-            is_done: true,
-        };
-    }
-    let count = read.count;
-    advance(state, table, records, &piece[..count], output, waiting)
+    let count = before.count;
+    let is_ended = before.is_ended;
+    let gathered = report::gather(state, table, records, &input[..count], is_ended, output);
+    let next = gathered.state;
+    let used = gathered.used;
+    to_front(input, used, count);
+    write_and_read(next, input, count - used, is_ended, output, gathered.length)
 }
 
 // A proved loop has to end, and nothing says that the input does. So the turns are counted down from a number that no run uses up. None is left
-// once nothing more is read.
+// once the program is done.
 fn turns_left(turns: u64, is_done: bool) -> u64
     requires { ⌜ 0 < turns ⌝ }
     ensures { λ r. ⌜ r < turns ⌝ }
@@ -187,27 +178,27 @@ fn turns_left(turns: u64, is_done: bool) -> u64
     turns - 1
 }
 
-fn list(table: &mut [u8], records: &mut [u16], piece: &mut [u8], output: &mut [u8])
-    requires { ⌜ (pieceSize ≤ length (now piece)) × (linesSize ≤ length (now output)) ⌝ }
+fn list(table: &mut [u8], records: &mut [u16], input: &mut [u8], output: &mut [u8])
+    requires { ⌜ (pieceSize ≤ length (now input)) × (linesSize ≤ length (now output)) ⌝ }
 {
     let state = report::start();
     let mut progress = Progress {
         state,
-        waiting: 0,
+        count: 0,
+        is_ended: false,
         is_done: false,
     };
     let mut turns = u64::MAX;
     while 0 < turns {
-        progress = turn(progress, table, records, piece, output);
+        progress = turn(progress, table, records, input, output);
         turns = turns_left(turns, progress.is_done);
     }
-    write_front(output, progress.waiting);
 }
 
 fn main() {
     let mut table = [0u8; TABLE_SIZE];
     let mut records = [0u16; BUFFER_SIZE];
-    let mut piece = [0u8; PIECE_SIZE];
+    let mut input = io::buffer();
     let mut output = io::buffer();
-    list(&mut table, &mut records, &mut piece, &mut output);
+    list(&mut table, &mut records, &mut input, &mut output);
 }

@@ -8,15 +8,15 @@ use Rattle.listing.proofs.list.Statement.{statement}
 use Rattle.listing.proofs.list.Tie as tie
 
 abbrev Inv-loop : tie.InvT-loop
-Inv-loop table₀ records₀ piece₀ output₀ progress₀ turns₀ table records piece output progress turns =
+Inv-loop table₀ records₀ input₀ output₀ progress₀ turns₀ table records input output progress turns =
     (length table ≡ length table₀)
     × (length records ≡ length records₀)
-    × (length piece ≡ length piece₀)
+    × (length input ≡ length input₀)
     × (length output ≡ length output₀)
-    × (progress .waiting ≤ length output)
+    × (progress .count ≤ length input)
 
 abbrev μ-loop : tie.MeasureT-loop
-μ-loop table₀ records₀ piece₀ output₀ progress₀ turns₀ table records piece output progress turns = turns
+μ-loop table₀ records₀ input₀ output₀ progress₀ turns₀ table records input output progress turns = turns
 
 turn-requires : tie.Need-turn-requires Inv-loop μ-loop
 turn-requires c κs = (c .before .before .before .before .before .loop .inv .4, omega arith, omega arith)
@@ -26,7 +26,7 @@ loop-again c =
     let t = c .before .before .before .before .before .before .before .before .before .turn in
     let l = c .before .before .before .before .before .before .before .before .before .before .before .before .before .before .before .loop in
     let k = t .kept in
-    (k .1 .0 ∙ l .inv .0, k .1 .1 .0 ∙ l .inv .1, k .1 .1 .1 .0 ∙ l .inv .2, k .1 .1 .1 .1 .0 ∙ l .inv .3, t .ensures)
+    (k .1 .0 ∙ l .inv .0, k .1 .1 .0 ∙ l .inv .1, k .1 .1 .1 .0 ∙ l .inv .2, k .1 .1 .1 .1 .0 ∙ l .inv .3, t .ensures .0 .1)
 
 pub list-spec : {M : Type 1} → statement M
 list-spec =
@@ -40,9 +40,8 @@ list-spec =
     (λ c κs. search needs)
     (λ c. c .turns-left .ensures)
     loop-again
-    (λ c κs. c .before .before .loop .inv .4)
-    (λ c. c .before .before .before .loop .inv .0)
-    (λ c. c .before .before .before .loop .inv .1)
-    (λ c. c .before .before .before .loop .inv .2)
-    (λ c. c .before .before .before .loop .inv .3)
+    (λ c. c .before .loop .inv .0)
+    (λ c. c .before .loop .inv .1)
+    (λ c. c .before .loop .inv .2)
+    (λ c. c .before .loop .inv .3)
     (λ c. tt))

@@ -1,25 +1,123 @@
--- `turn` is safe: what was read is a front of the piece. Assumes nothing.
-use mathlib.Core.Path.{sym}
+-- `turn` meets its contract: the steps are those of gathering, and what no step used stands before what comes. Assumes nothing.
+use mathlib.Core.Path.{_≡_, sym, ap, _∙_}
+use mathlib.Core.Bool.{true}
+use mathlib.Core.List.{[], _++_}
+use Prim.Native.Nat.{ℕ, _+_, _-_, _≤_}
+use native.Mathlib.Omega.{arith}
 use borrow.Author.Needs.{needs}
-use lib.Seq.{length-take-le}
+use lib.ListN.{length, take, drop, length-take, length-drop, length-append, take-append-drop, drop-of-length-le}
+use lib.Seq.{take-take, length-take-le}
+use Rattle.base.specs.Bytes.{Bytes, splice}
+use Rattle.base.proofs.Splice.{take-splice}
+use Rattle.sha256.specs.Sha256.{sha256}
+use Rattle.report.specs.Gathering.{Gathering, gathering}
+use Rattle.report.specs.declared.Gathered.{Gathered}
+use Rattle.report.proofs.Gathers.{within}
 use Rattle.listing.proofs.turn.Statement.{statement}
 use Rattle.listing.proofs.turn.Tie as tie
 
-front : tie.Need-slice-aggregate-advance
-front c = let r = c .before .before .before .before .before .before .read-piece in sym (length-take-le (r .result .count) (r .last .1 .0) (r .ensures))
+-- lines that stand in the output are no longer than it
+front-fits : (b text : Bytes) → length (splice b 0 text) ≡ length b → length text ≤ length b
+unfolding splice
+front-fits b text e = omega (arith, length-append text (drop (0 + length text) b))
+
+-- what is unread after a turn: what was unread before less what is used, and then what came
+module _ (before moved after : Bytes) (used count n : ℕ) (low : used ≤ count) (high : count ≤ length before)
+    (m : moved ≡ splice before 0 (drop used (take count before))) (k : take (count - used) after ≡ take (count - used) moved)
+    (more : count - used ≤ n) (there : n ≤ length after) where
+  abbrev left : Bytes
+  left = drop used (take count before)
+
+  abbrev came : Bytes
+  came = drop (count - used) (take n after)
+
+  left-length : 0 + length left ≡ count - used
+  left-length = omega (arith, length-drop used (take count before), length-take count before)
+
+  left-first : take (count - used) moved ≡ left
+  left-first = ap (take (count - used)) m ∙ ap (λ (i : ℕ). take i (splice before 0 left)) (sym left-length) ∙ take-splice before 0 left (omega arith)
+
+  unread-after : take n after ≡ drop used (take count before) ++ drop (count - used) (take n after)
+  unread-after = sym (take-append-drop (count - used) (take n after)) ∙ ap (λ (b : Bytes). b ++ came) (take-take (count - used) n after more ∙ k ∙ left-first)
+
+  none-came : n ≡ count - used → drop (count - used) (take n after) ≡ []
+  none-came e = drop-of-length-le (take n after) {i = count - used} (omega (arith, length-take n after))
+
+-- what the turn gathers
+abbrev gathered-at : tie.After-gather → Gathering
+gathered-at c =
+    let a = c .before .before .before .before .before .before .before .before .before .before .args in
+    gathering sha256 (take (a .before .count) (a .input .now)) (a .before .«is_ended») (length (a .output .now)) (a .before .state) (record { table = a .table .now; records = a .records .now })
+
+-- what is gathered uses no more bytes than are unread, and its lines fit the output
+used-there : (c : tie.After-gather) → c .gather .result .used ≤ c .before .before .before .before .before .before .before .before .before .before .args .before .count
+used-there c =
+    let a = c .before .before .before .before .before .before .before .before .before .before .args in
+    let e : c .gather .result .used ≡ gathered-at c .used = ap (λ (r : Gathered). r .used) (c .gather .ensures .0) in
+    omega (
+      arith,
+      e,
+      within sha256 (take (a .before .count) (a .input .now)) (a .before .«is_ended») (length (a .output .now)) (a .before .state) (record { table = a .table .now; records = a .records .now }),
+      length-take (a .before .count) (a .input .now),
+    )
+
+lines-fit : (c : tie.After-gather) → c .gather .result .length ≤ length (c .before .before .before .before .before .before .before .before .before .before .args .output .now)
+lines-fit c =
+    let a = c .before .before .before .before .before .before .before .before .before .before .args in
+    let e : c .gather .result .length ≡ length (gathered-at c .lines) = ap (λ (r : Gathered). r .length) (c .gather .ensures .0) in
+    omega (arith, e, front-fits (a .output .now) (gathered-at c .lines) (sym (ap length (c .gather .ensures .1 .1 .1)) ∙ c .gather .kept .1 .1 .1 .1 .1 .0))
+
+front : tie.Need-slice-aggregate-gather
+front c = let s = c .before .before .before .before .before .before .before .before in sym (length-take-le (s .args .before .count) (s .args .input .now) (s .pre .0))
+
+to-front-requires : tie.Need-to-front-requires
+to-front-requires c κs = (used-there (c .before .before .before .before .before .before .before .before), c .before .before .before .before .before .before .before .before .before .before .before .before .before .before .before .before .before .before .pre .0)
+
+sub-left : tie.Need-sub-write-and-read
+sub-left c = used-there (c .before .before .before .before .before .before .before .before .before .before .before .before)
+
+write-and-read-requires : tie.Need-write-and-read-requires
+write-and-read-requires c κs =
+    let g = c .before .before .before .before .before .before .before .before .before .before .before .before .before in
+    let s = c .before .before .before .before .before .before .before .before .before .before .before .before .before .before .before .before .before .before .before .before .before .before .before in
+    let k = c .before .before .before .before .to-front .kept .0 in
+    (omega (arith, k, s .pre .0), omega (arith, k, s .pre .1), omega (arith, lines-fit g, g .gather .kept .1 .1 .1 .1 .1 .0))
+
+returns : tie.Need-returns
+returns c =
+    let a = c .before .before .before .before .before .before .before .before .before .before .before .before .before .before .before .before .before .before .before .before .before .before .before .before .before .before .args in
+    let g = c .before .before .before .before .before .before .before .before .before .before .before .before .before .before .before .before in
+    let m = c .before .before .before .before .before .before .before .to-front in
+    let w = c .before .before .write-and-read in
+    let u : g .gather .result .used ≡ gathered-at g .used = ap (λ (r : Gathered). r .used) (g .gather .ensures .0) in
+    let n = unread-after (a .input .now) (m .last .0) (w .last .1 .0) (g .gather .result .used) (a .before .count) (w .result .count) (used-there g) (c .before .before .before .before .before .before .before .before .before .before .before .before .before .before .before .before .before .before .before .before .before .before .before .before .before .before .pre .0) (m .ensures) (w .ensures .1) (w .ensures .0 .1) (w .ensures .0 .2) in
+    let none = none-came (a .input .now) (m .last .0) (w .last .1 .0) (g .gather .result .used) (a .before .count) (w .result .count) (used-there g) (c .before .before .before .before .before .before .before .before .before .before .before .before .before .before .before .before .before .before .before .before .before .before .before .before .before .before .pre .0) (m .ensures) (w .ensures .1) (w .ensures .0 .1) (w .ensures .0 .2) in (
+      (w .ensures .0 .0 ∙ ap (λ (r : Gathered). r .state) (g .gather .ensures .0), w .ensures .0 .2),
+      (
+        g .gather .ensures .1 .0,
+        (
+          g .gather .ensures .1 .1 .0,
+          (
+            drop (a .before .count - g .gather .result .used) (take (w .result .count) (w .last .1 .0)),
+            n ∙ ap (λ (k : ℕ). drop k (take (a .before .count) (a .input .now)) ++ drop (a .before .count - g .gather .result .used) (take (w .result .count) (w .last .1 .0))) u,
+            λ e. none (w .ensures .0 .3 e),
+          ),
+        ),
+      ),
+    )
 
 pub turn-spec : {M : Type 1} → statement M
 turn-spec =
     tie.close
     (tie.spec
-    (λ c κs. search needs)
-    (λ c. search needs)
-    (λ c. search needs)
     (λ c. search needs)
     front
     (λ c κs. search needs)
+    to-front-requires
+    sub-left
+    write-and-read-requires
     (λ c. search needs)
     (λ c. search needs)
     (λ c. search needs)
     (λ c. search needs)
-    (λ c. search needs))
+    returns)
