@@ -1,10 +1,14 @@
-"""The listing program: document 01's example, the cases of listing_cases.py, its streams, and its memory."""
+"""The listing program: document 01's example, the cases of listing_cases.py, its streams, when its lines come, and its memory."""
 
+import fcntl
 import os
 import re
+import select
 import signal
 import subprocess
 import tempfile
+import termios
+import time
 from pathlib import Path
 
 import listing_cases
@@ -197,6 +201,157 @@ def test_input_that_fails_in_the_middle():
     os.close(writing)
     expect_ended(ended, 0, b"listing: reading failed\n")
     expect(ended.stdout.decode("ascii") == text_of([refused(0)]), ended.stdout)
+
+
+# ---- Lines at once, and few calls of the system
+
+class Live:
+    """The program on an input that is sent bit by bit, whose lines are seen as they come."""
+
+    def __init__(self):
+        self.process = subprocess.Popen([LISTING], stdin=subprocess.PIPE, stdout=subprocess.PIPE, bufsize=0)
+        self.seen = b""
+
+    def __enter__(self):
+        return self
+
+    def __exit__(self, *_):
+        self.process.kill()
+        self.process.stdin.close()
+        self.process.stdout.close()
+        self.process.wait()
+
+    def send(self, data):
+        self.process.stdin.write(data)
+
+    def line(self):
+        """The next line, without a byte more of the input."""
+        while b"\n" not in self.seen:
+            expect(select.select([self.process.stdout], [], [], LONGEST_RUN)[0], f"no line, only {self.seen!r}")
+            came = os.read(self.process.stdout.fileno(), 65536)
+            expect(came, f"the output ended after {self.seen!r}")
+            self.seen += came
+        line, self.seen = self.seen.split(b"\n", 1)
+        return line.decode("ascii")
+
+    def expect_lines(self, lines):
+        for wanted in lines:
+            got = self.line()
+            expect(got == wanted, f"got {got}, wanted {wanted}")
+
+    def expect_silent(self):
+        """For a moment no line comes: none that would have come with the bytes sent so far."""
+        expect(not self.seen and not select.select([self.process.stdout], [], [], 0.05)[0], "a line came too soon")
+
+    def expect_end(self, lines=()):
+        """These lines come with the input's end, and no more."""
+        self.process.stdin.close()
+        self.expect_lines(lines)
+        rest = self.seen + self.process.stdout.read()
+        expect((rest, self.process.wait(LONGEST_RUN)) == (b"", 0), f"{rest!r}, exit status {self.process.returncode}")
+
+
+NAMES, *_ = LISTINGS["chain"].splitlines()
+
+
+def arrivals_of(stream):
+    """The whole arrivals behind the setup, as they stand in a stream, and what the end cuts."""
+    found, at = [], 9
+    while at < len(stream):
+        end = at + 3 + int.from_bytes(stream[at:at + 2], "big")
+        if end > len(stream):
+            break
+        found.append(stream[at:end])
+        at = end
+    return found, stream[at:]
+
+
+def test_each_line_comes_before_more_is_sent():
+    for name in ["chain", "four_sites", "refusals"]:
+        stream, lines = CAMPAIGNS[name], LISTINGS[name].splitlines()[1:]
+        with Live() as live:
+            live.send(stream[:9])
+            live.expect_lines([NAMES])
+            whole, cut = arrivals_of(stream)
+            for number, data in enumerate(whole):
+                live.send(data)
+                live.expect_lines(line for line in lines if line.startswith(f"{number} "))
+            live.send(cut)
+            live.expect_end(line for line in lines if line.startswith(f"{len(whole)} "))
+
+
+def test_a_refused_setup_is_told_at_once():
+    with Live() as live:
+        live.send(setup(5, [0] * 8))
+        live.expect_lines([NAMES, "- - - - - - 1"])
+        live.expect_end()
+
+
+def test_a_line_comes_with_the_last_byte_of_its_arrival():
+    with Live() as live:
+        live.send(FOUR_SITES)
+        live.expect_lines([NAMES])
+        for number, data in enumerate([REFUSED, arrival(bytes(4)), arrival(FIRST, verdict=0), arrival(bytes(541))]):
+            for byte in data[:-1]:
+                live.send(bytes([byte]))
+            live.expect_silent()
+            live.send(data[-1:])
+            live.expect_lines([refused(number, 5 if number == 2 else 3)])
+        live.expect_end()
+
+
+def in_parts(stream, size):
+    """Runs the program on a pipe that gives it parts of so many bytes, each only once it has read what came before."""
+    reading, writing = os.pipe()
+    with subprocess.Popen([LISTING], stdin=reading, stdout=subprocess.PIPE) as process:
+        os.close(reading)
+        for at in range(0, len(stream), size):
+            os.write(writing, stream[at:at + size])
+            wait_until_read(writing)
+        os.close(writing)
+        wrote, _ = process.communicate(timeout=LONGEST_RUN)
+    expect(process.returncode == 0, f"exit status {process.returncode}")
+    return wrote.decode("ascii")
+
+
+def wait_until_read(pipe):
+    """Waits until nothing is left in a pipe."""
+    limit = time.monotonic() + LONGEST_RUN
+    while any(fcntl.ioctl(pipe, termios.FIONREAD, bytes(4))):
+        expect(time.monotonic() < limit, "the input is not read")
+        os.sched_yield()
+
+
+def test_parts_of_every_size_at_the_buffers_border():
+    longest = arrival(block(1, 0, [bytes([i] * 32) for i in range(16)], [(i, 1) for i in range(8)]))
+    stream = CAMPAIGNS["four_sites"] + 6 * longest + arrival(bytes(9000)) + 700 * REFUSED + 5 * longest + REFUSED + longest[:-1]
+    text = listing(stream)
+    expect(len(text) > 2 * 4096, f"a listing of {len(text)} bytes")
+    for size in [1, 2, 3, 541, 542, 543, 4095, 4096, 4097]:
+        try:
+            expect_same_lines(in_parts(stream, size), text)
+        except AssertionError as error:
+            raise AssertionError(f"parts of {size} bytes: {error}") from None
+
+
+def calls_of(stream):
+    """How many calls of the system the program makes on a file: those that read, and those that write."""
+    with tempfile.TemporaryFile() as file:
+        file.write(stream)
+        file.seek(0)
+        with subprocess.Popen([LISTING], stdin=file, stdout=subprocess.DEVNULL) as process:
+            os.waitid(os.P_PID, process.pid, os.WEXITED | os.WNOWAIT)
+            counts = Path(f"/proc/{process.pid}/io").read_text(encoding="ascii")
+    return [int(re.search(rf"^{name}: (\d+)$", counts, re.MULTILINE)[1]) for name in ("syscr", "syscw")]
+
+
+def test_a_long_file_takes_few_calls():
+    # A read asks for what the buffer has room for: all but a part that is shorter than what is wanted, of at most 542 bytes.
+    stream, _ = every_kind(1000)
+    reads, writes = (long - short for long, short in zip(calls_of(stream), calls_of(b"")))
+    most = len(stream) // (4096 - 541) + 1
+    expect(reads <= most, f"{reads} reads of {len(stream)} bytes")
+    expect(writes <= 2 * most, f"{writes} writes for {reads} reads")
 
 
 # ---- Memory
