@@ -62,10 +62,11 @@ fn advance(
     let bytes = lines.bytes;
     let size = lines.length;
     base::put(output, length, &bytes[..size]);
+    let filled = length + size;
     Gathered {
         state: next,
         used: end,
-        length: length + size,
+        length: filled,
     }
 }
 

@@ -34,7 +34,7 @@ put-requires c κs =
     let h : q .result .lines .length ≤ linesSize = handed-fits _ (q .result) (q .ensures .0) l in
     omega (arith, c .before .before .before .before .before .before .before .before .before .before .before .before .before .before .before .before .before .before .before .before .pre .1, length-take-le (q .result .lines .length) (q .result .lines .bytes) (omega arith))
 
-add-fits : tie.Need-add-t16
+add-fits : tie.Need-add-filled
 add-fits c =
     let q = c .before .before .before .before .before .before .before .before .before .before .before .before .step in
     let l : length (q .result .lines .bytes) ≡ linesSize = search needs in
