@@ -1,7 +1,8 @@
 // The listing of a campaign, one step at a time. The input is a setup and then arrivals; a state says what is expected next, and `wanted`
 // how many bytes that takes. Promises: `step` does and writes what specs/Framing.antt says, for any state, table, record buffer and bytes;
-// the steps' lines, joined, are the listing of the whole input (specs/Promises.antt); and two listings of one setup never show two numbers
-// for a slot while at most f sites forked (specs/Agreed.antt). Assumes nothing.
+// the steps' lines, joined, are the listing of the whole input, and `gather` makes the steps that are due on the bytes that came: no byte is
+// lost or used twice, and the lines stand in their order, in however many parts the input comes (specs/Promises.antt); and two listings of
+// one setup never show two numbers for a slot while at most f sites forked (specs/Agreed.antt). Assumes nothing.
 mod arrival;
 mod framing;
 mod gathering;
