@@ -41,7 +41,7 @@ fn to_front(input: &mut [u8], used: usize, count: usize)
 // One read behind the bytes at the front. Where nothing more comes, the input is at its end.
 fn read_more(input: &mut [u8], count: usize) -> Front
     requires { ⌜ count < length (now input) ⌝ }
-    ensures { λ r. ⌜ (count ≤ r .count) × (r .count ≤ length (now (input .exit))) ⌝ }
+    ensures { λ r. ⌜ (count ≤ r .count) × (r .count ≤ length (now (input .exit))) × (r .«is_ended» ≡ true → r .count ≡ count) ⌝ }
     ensures { λ _. ⌜ take count (now (input .exit)) ≡ take count (now (input .entry)) ⌝ }
 {
     let got = libc::read(STDIN_FILENO, &mut input[count..]);
@@ -60,7 +60,7 @@ fn say(message: &[u8]) {
 // Reads on where more may come, and fewer bytes are there than the state wants.
 fn read_on(state: State, input: &mut [u8], count: usize, is_ended: bool) -> Front
     requires { ⌜ (count ≤ length (now input)) × (pieceSize ≤ length (now input)) ⌝ }
-    ensures { λ r. ⌜ (count ≤ r .count) × (r .count ≤ length (now (input .exit))) × («is_ended» ≡ true → r .count ≡ count) ⌝ }
+    ensures { λ r. ⌜ (count ≤ r .count) × (r .count ≤ length (now (input .exit))) × (r .«is_ended» ≡ true → r .count ≡ count) × («is_ended» ≡ true → r .«is_ended» ≡ true) ⌝ }
     ensures { λ _. ⌜ take count (now (input .exit)) ≡ take count (now (input .entry)) ⌝ }
 {
     if is_ended {
@@ -114,7 +114,7 @@ fn write_and_read(
     length: usize,
 ) -> Progress
     requires { ⌜ (count ≤ ListN·length (now input)) × (pieceSize ≤ ListN·length (now input)) × (length ≤ ListN·length (now output)) ⌝ }
-    ensures { λ r. ⌜ (r .state ≡ state) × (count ≤ r .count) × (r .count ≤ ListN·length (now (input .exit))) × («is_ended» ≡ true → r .count ≡ count) ⌝ }
+    ensures { λ r. ⌜ (r .state ≡ state) × (count ≤ r .count) × (r .count ≤ ListN·length (now (input .exit))) × (r .«is_ended» ≡ true → r .count ≡ count) × («is_ended» ≡ true → r .«is_ended» ≡ true) ⌝ }
     ensures { λ _. ⌜ take count (now (input .exit)) ≡ take count (now (input .entry)) ⌝ }
 {
     if write_front(output, length) {
@@ -154,7 +154,7 @@ fn turn(
     ensures { λ r. ⌜ (r .state ≡ gathering sha256 (take (before .count) (now (input .entry))) (before .«is_ended») (length (now (output .entry))) (before .state) (record { table = now (table .entry); records = now (records .entry) }) .state) × (r .count ≤ length (now (input .exit))) ⌝ }
     ensures { λ _. ⌜ now (table .exit) ≡ gathering sha256 (take (before .count) (now (input .entry))) (before .«is_ended») (length (now (output .entry))) (before .state) (record { table = now (table .entry); records = now (records .entry) }) .site .table ⌝ }
     ensures { λ _. ⌜ now (records .exit) ≡ gathering sha256 (take (before .count) (now (input .entry))) (before .«is_ended») (length (now (output .entry))) (before .state) (record { table = now (table .entry); records = now (records .entry) }) .site .records ⌝ }
-    ensures { λ r. ⌜ ((came : Bytes) × (take (r .count) (now (input .exit)) ≡ drop (gathering sha256 (take (before .count) (now (input .entry))) (before .«is_ended») (length (now (output .entry))) (before .state) (record { table = now (table .entry); records = now (records .entry) }) .used) (take (before .count) (now (input .entry))) ++ came) × (before .«is_ended» ≡ true → came ≡ [])) ⌝ }
+    ensures { λ r. ⌜ ((came : Bytes) × (take (r .count) (now (input .exit)) ≡ drop (gathering sha256 (take (before .count) (now (input .entry))) (before .«is_ended») (length (now (output .entry))) (before .state) (record { table = now (table .entry); records = now (records .entry) }) .used) (take (before .count) (now (input .entry))) ++ came) × (r .«is_ended» ≡ true → came ≡ []) × (before .«is_ended» ≡ true → r .«is_ended» ≡ true)) ⌝ }
 {
     let state = before.state;
     let count = before.count;

@@ -101,6 +101,7 @@ returns c =
             drop (a .before .count - g .gather .result .used) (take (w .result .count) (w .last .1 .0)),
             n ∙ ap (λ (k : ℕ). drop k (take (a .before .count) (a .input .now)) ++ drop (a .before .count - g .gather .result .used) (take (w .result .count) (w .last .1 .0))) u,
             λ e. none (w .ensures .0 .3 e),
+            w .ensures .0 .4,
           ),
         ),
       ),
