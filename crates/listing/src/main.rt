@@ -11,13 +11,13 @@ use report::State;
 use table::TABLE_SIZE;
 ghost use mathlib.Core.Path.{_≡_};
 ghost use mathlib.Core.Bool.{true};
-ghost use mathlib.Core.List.{[], _++_};
+ghost use mathlib.Core.List.{[]};
 ghost use Prim.Native.Nat.{_≤_, _<_};
 ghost use lib.ListN.{length, length as ListN·length, take, drop};
 ghost use Rattle.base.specs.Bytes.{Bytes, splice};
 ghost use Rattle.sha256.specs.Sha256.{sha256};
 ghost use Rattle.report.specs.Framing.{pieceSize, linesSize};
-ghost use Rattle.report.specs.Gathering.{gathering};
+ghost use Rattle.report.specs.Gathering.{progress, turn as Gathering·turn};
 
 // How many bytes stand at the front of the input, whether no more will come, and whether reading or writing failed.
 struct Front {
@@ -142,7 +142,8 @@ fn write_and_read(
     }
 }
 
-// One turn: the steps that are due, with their lines, and then the bytes that come.
+// One turn: the steps that are due, with their lines, and then the bytes that come. It is the definition's turn, for the bytes that came: none
+// where the input is at its end, and there it stays.
 fn turn(
     before: Progress,
     table: &mut [u8],
@@ -151,10 +152,8 @@ fn turn(
     output: &mut [u8],
 ) -> Progress
     requires { ⌜ (before .count ≤ length (now input)) × (pieceSize ≤ length (now input)) × (linesSize ≤ length (now output)) ⌝ }
-    ensures { λ r. ⌜ (r .state ≡ gathering sha256 (take (before .count) (now (input .entry))) (before .«is_ended») (length (now (output .entry))) (before .state) (record { table = now (table .entry); records = now (records .entry) }) .state) × (r .count ≤ length (now (input .exit))) ⌝ }
-    ensures { λ _. ⌜ now (table .exit) ≡ gathering sha256 (take (before .count) (now (input .entry))) (before .«is_ended») (length (now (output .entry))) (before .state) (record { table = now (table .entry); records = now (records .entry) }) .site .table ⌝ }
-    ensures { λ _. ⌜ now (records .exit) ≡ gathering sha256 (take (before .count) (now (input .entry))) (before .«is_ended») (length (now (output .entry))) (before .state) (record { table = now (table .entry); records = now (records .entry) }) .site .records ⌝ }
-    ensures { λ r. ⌜ ((came : Bytes) × (take (r .count) (now (input .exit)) ≡ drop (gathering sha256 (take (before .count) (now (input .entry))) (before .«is_ended») (length (now (output .entry))) (before .state) (record { table = now (table .entry); records = now (records .entry) }) .used) (take (before .count) (now (input .entry))) ++ came) × (r .«is_ended» ≡ true → came ≡ []) × (before .«is_ended» ≡ true → r .«is_ended» ≡ true)) ⌝ }
+    ensures { λ r. ⌜ ((came : Bytes) × (lines : Bytes) × (progress (r .state) (now (table .exit)) (now (records .exit)) (take (r .count) (now (input .exit))) lines ≡ Gathering·turn sha256 (length (now (output .entry))) (before .«is_ended») (progress (before .state) (now (table .entry)) (now (records .entry)) (take (before .count) (now (input .entry))) []) came) × (now (output .exit) ≡ splice (now (output .entry)) 0 lines) × (r .«is_ended» ≡ true → came ≡ [])) ⌝ }
+    ensures { λ r. ⌜ (r .count ≤ length (now (input .exit))) × (before .«is_ended» ≡ true → r .«is_ended» ≡ true) ⌝ }
 {
     let state = before.state;
     let count = before.count;

@@ -39,6 +39,10 @@ pub record Progress : Type 0 where
   pub unread : Bytes
   pub lines : Bytes
 
+-- the same of a site's table and records
+abbrev pub progress : State → Bytes → List ℕ → Bytes → Bytes → Progress
+progress s table records unread lines = record { state = s; site = record { table = table; records = records }; unread = unread; lines = lines }
+
 -- before the first byte
 abbrev pub nothingRead : Site → Progress
 nothingRead x = record { state = start; site = x; unread = []; lines = [] }

@@ -26,7 +26,7 @@ loop-again c =
     let t = c .before .before .before .before .before .before .before .before .before .turn in
     let l = c .before .before .before .before .before .before .before .before .before .before .before .before .before .before .before .loop in
     let k = t .kept in
-    (k .1 .0 ∙ l .inv .0, k .1 .1 .0 ∙ l .inv .1, k .1 .1 .1 .0 ∙ l .inv .2, k .1 .1 .1 .1 .0 ∙ l .inv .3, t .ensures .0 .1)
+    (k .1 .0 ∙ l .inv .0, k .1 .1 .0 ∙ l .inv .1, k .1 .1 .1 .0 ∙ l .inv .2, k .1 .1 .1 .1 .0 ∙ l .inv .3, t .ensures .1 .0)
 
 pub list-spec : {M : Type 1} → statement M
 list-spec =

@@ -1,7 +1,6 @@
 -- `turn` meets its contract: the steps are those of gathering, and what no step used stands before what comes. Assumes nothing.
-use mathlib.Core.Path.{_≡_, sym, ap, _∙_}
-use mathlib.Core.Bool.{true}
-use mathlib.Core.List.{[], _++_}
+use mathlib.Core.Path.{_≡_, refl, sym, ap, _∙_}
+use mathlib.Core.List.{List, [], _++_}
 use Prim.Native.Nat.{ℕ, _+_, _-_, _≤_}
 use native.Mathlib.Omega.{arith}
 use borrow.Author.Needs.{needs}
@@ -10,7 +9,8 @@ use lib.Seq.{take-take, length-take-le}
 use Rattle.base.specs.Bytes.{Bytes, splice}
 use Rattle.base.proofs.Splice.{take-splice}
 use Rattle.sha256.specs.Sha256.{sha256}
-use Rattle.report.specs.Gathering.{Gathering, gathering}
+use Rattle.report.specs.Gathering.{Gathering, gathering, Progress, progress}
+use Rattle.report.specs.declared.State.{State}
 use Rattle.report.specs.declared.Gathered.{Gathered}
 use Rattle.report.proofs.Gathers.{within}
 use Rattle.listing.proofs.turn.Statement.{statement}
@@ -43,68 +43,86 @@ module _ (before moved after : Bytes) (used count n : ℕ) (low : used ≤ count
   none-came : n ≡ count - used → drop (count - used) (take n after) ≡ []
   none-came e = drop-of-length-le (take n after) {i = count - used} (omega (arith, length-take n after))
 
+-- a progress, part by part
+same-progress : (s : State) (table : Bytes) (records : List ℕ) (unread lines : Bytes) (p : Progress)
+    → s ≡ p .state → table ≡ p .site .table → records ≡ p .site .records → unread ≡ p .unread → lines ≡ p .lines → progress s table records unread lines ≡ p
+same-progress s table records unread lines p e t r u l = rw (e, t, r, u, l)
+
+-- where the code was before
+abbrev start : tie.After-gather → tie.Start
+start c = c .before .before .before .before .before .before .before .before .before .before
+
 -- what the turn gathers
 abbrev gathered-at : tie.After-gather → Gathering
 gathered-at c =
-    let a = c .before .before .before .before .before .before .before .before .before .before .args in
+    let a = start c .args in
     gathering sha256 (take (a .before .count) (a .input .now)) (a .before .«is_ended») (length (a .output .now)) (a .before .state) (record { table = a .table .now; records = a .records .now })
 
--- what is gathered uses no more bytes than are unread, and its lines fit the output
-used-there : (c : tie.After-gather) → c .gather .result .used ≤ c .before .before .before .before .before .before .before .before .before .before .args .before .count
+-- it uses no more bytes than are unread, and its lines fit the output
+used-is : (c : tie.After-gather) → c .gather .result .used ≡ gathered-at c .used
+used-is c = ap (λ (r : Gathered). r .used) (c .gather .ensures .0)
+
+used-there : (c : tie.After-gather) → c .gather .result .used ≤ start c .args .before .count
 used-there c =
-    let a = c .before .before .before .before .before .before .before .before .before .before .args in
-    let e : c .gather .result .used ≡ gathered-at c .used = ap (λ (r : Gathered). r .used) (c .gather .ensures .0) in
+    let a = start c .args in
     omega (
       arith,
-      e,
+      used-is c,
       within sha256 (take (a .before .count) (a .input .now)) (a .before .«is_ended») (length (a .output .now)) (a .before .state) (record { table = a .table .now; records = a .records .now }),
       length-take (a .before .count) (a .input .now),
     )
 
-lines-fit : (c : tie.After-gather) → c .gather .result .length ≤ length (c .before .before .before .before .before .before .before .before .before .before .args .output .now)
+lines-fit : (c : tie.After-gather) → c .gather .result .length ≤ length (start c .args .output .now)
 lines-fit c =
-    let a = c .before .before .before .before .before .before .before .before .before .before .args in
     let e : c .gather .result .length ≡ length (gathered-at c .lines) = ap (λ (r : Gathered). r .length) (c .gather .ensures .0) in
-    omega (arith, e, front-fits (a .output .now) (gathered-at c .lines) (sym (ap length (c .gather .ensures .1 .1 .1)) ∙ c .gather .kept .1 .1 .1 .1 .1 .0))
+    omega (arith, e, front-fits (start c .args .output .now) (gathered-at c .lines) (sym (ap length (c .gather .ensures .1 .1 .1)) ∙ c .gather .kept .1 .1 .1 .1 .1 .0))
 
 front : tie.Need-slice-aggregate-gather
 front c = let s = c .before .before .before .before .before .before .before .before in sym (length-take-le (s .args .before .count) (s .args .input .now) (s .pre .0))
 
+abbrev gathered-before : tie.After-to-front → tie.After-gather
+gathered-before c = c .before .before .before .before .before .before .before .before .before
+
 to-front-requires : tie.Need-to-front-requires
-to-front-requires c κs = (used-there (c .before .before .before .before .before .before .before .before), c .before .before .before .before .before .before .before .before .before .before .before .before .before .before .before .before .before .before .pre .0)
+to-front-requires c κs = let g = c .before .before .before .before .before .before .before .before in (used-there g, start g .pre .0)
 
 sub-left : tie.Need-sub-write-and-read
 sub-left c = used-there (c .before .before .before .before .before .before .before .before .before .before .before .before)
 
 write-and-read-requires : tie.Need-write-and-read-requires
 write-and-read-requires c κs =
-    let g = c .before .before .before .before .before .before .before .before .before .before .before .before .before in
-    let s = c .before .before .before .before .before .before .before .before .before .before .before .before .before .before .before .before .before .before .before .before .before .before .before in
+    let g = gathered-before (c .before .before .before .before) in
     let k = c .before .before .before .before .to-front .kept .0 in
-    (omega (arith, k, s .pre .0), omega (arith, k, s .pre .1), omega (arith, lines-fit g, g .gather .kept .1 .1 .1 .1 .1 .0))
+    (omega (arith, k, start g .pre .0), omega (arith, k, start g .pre .1), omega (arith, lines-fit g, g .gather .kept .1 .1 .1 .1 .1 .0))
+
+abbrev moved-before : tie.After-write-and-read → tie.After-to-front
+moved-before c = c .before .before .before .before .before
 
 returns : tie.Need-returns
 returns c =
-    let a = c .before .before .before .before .before .before .before .before .before .before .before .before .before .before .before .before .before .before .before .before .before .before .before .before .before .before .args in
-    let g = c .before .before .before .before .before .before .before .before .before .before .before .before .before .before .before .before in
-    let m = c .before .before .before .before .before .before .before .to-front in
-    let w = c .before .before .write-and-read in
-    let u : g .gather .result .used ≡ gathered-at g .used = ap (λ (r : Gathered). r .used) (g .gather .ensures .0) in
-    let n = unread-after (a .input .now) (m .last .0) (w .last .1 .0) (g .gather .result .used) (a .before .count) (w .result .count) (used-there g) (c .before .before .before .before .before .before .before .before .before .before .before .before .before .before .before .before .before .before .before .before .before .before .before .before .before .before .pre .0) (m .ensures) (w .ensures .1) (w .ensures .0 .1) (w .ensures .0 .2) in
-    let none = none-came (a .input .now) (m .last .0) (w .last .1 .0) (g .gather .result .used) (a .before .count) (w .result .count) (used-there g) (c .before .before .before .before .before .before .before .before .before .before .before .before .before .before .before .before .before .before .before .before .before .before .before .before .before .before .pre .0) (m .ensures) (w .ensures .1) (w .ensures .0 .1) (w .ensures .0 .2) in (
-      (w .ensures .0 .0 ∙ ap (λ (r : Gathered). r .state) (g .gather .ensures .0), w .ensures .0 .2),
+    let w = c .before .before in
+    let m = moved-before w in
+    let g = gathered-before m in
+    let s = start g in
+    let a = s .args in
+    let used = g .gather .result .used in
+    let after = w .write-and-read .last .1 .0 in
+    let n = w .write-and-read .result .count in
+    let came = drop (a .before .count - used) (take n after) in
+    let e = w .write-and-read .ensures in
+    let stays = unread-after (a .input .now) (m .to-front .last .0) after used (a .before .count) n (used-there g) (s .pre .0) (m .to-front .ensures) (e .1) (e .0 .1) (e .0 .2) in
+    let none = none-came (a .input .now) (m .to-front .last .0) after used (a .before .count) n (used-there g) (s .pre .0) (m .to-front .ensures) (e .1) (e .0 .1) (e .0 .2) in
+    (
       (
-        g .gather .ensures .1 .0,
-        (
-          g .gather .ensures .1 .1 .0,
-          (
-            drop (a .before .count - g .gather .result .used) (take (w .result .count) (w .last .1 .0)),
-            n ∙ ap (λ (k : ℕ). drop k (take (a .before .count) (a .input .now)) ++ drop (a .before .count - g .gather .result .used) (take (w .result .count) (w .last .1 .0))) u,
-            λ e. none (w .ensures .0 .3 e),
-            w .ensures .0 .4,
-          ),
-        ),
+        came,
+        gathered-at g .lines,
+        same-progress _ _ _ _ _ _
+            (e .0 .0 ∙ ap (λ (r : Gathered). r .state) (g .gather .ensures .0)) (g .gather .ensures .1 .0) (g .gather .ensures .1 .1 .0)
+            (stays ∙ ap (λ (k : ℕ). drop k (take (a .before .count) (a .input .now)) ++ came) (used-is g)) refl,
+        g .gather .ensures .1 .1 .1,
+        λ z. none (e .0 .3 z),
       ),
+      (e .0 .2, e .0 .4),
     )
 
 pub turn-spec : {M : Type 1} → statement M
