@@ -1,5 +1,5 @@
 -- One step of gathering: the piece that it gets, and what is gathered once its lines stand behind the others. Assumes nothing.
-use mathlib.Core.Path.{_≡_, refl, sym, ap, _∙_, subst}
+use mathlib.Core.Path.{_≡_, sym, ap, _∙_}
 use mathlib.Core.Bool.{Bool, true, false}
 use mathlib.Core.List.{List, [], _++_}
 use Prim.Native.Nat.{ℕ, suc, _+_, _-_, _≤_, _<_, min}
@@ -13,7 +13,7 @@ use Rattle.base.proofs.Tests.{by-test}
 use Rattle.sha256.specs.Sha256.{sha256}
 use Rattle.agreement.specs.Run.{Site}
 use Rattle.report.specs.Framing.{wanted, Outcome, stepped, linesSize, linesOf, handed}
-use Rattle.report.specs.Gathering.{Gathering, noSteps, isDue, pieceAt, outcomeAt, siteAt, due, oneMore, gatherOn, gathering, gatheredOf}
+use Rattle.report.specs.Gathering.{Gathering, noSteps, isDue, pieceAt, outcomeAt, siteAt, due, oneMore, gatherOn, gathering}
 use Rattle.report.specs.declared.State.{State}
 use Rattle.report.specs.declared.Gathered.{Gathered}
 use Rattle.report.specs.declared.Stepped.{Stepped}

@@ -1,22 +1,22 @@
 -- What is gathered are the lines of the steps in their order, and what is left is what no step got; why gathering stops; and what a turn after
 -- the last part leaves to do. Assumes nothing.
 use mathlib.Core.Path.{_≡_, refl, sym, ap, ap₂, _∙_}
-use mathlib.Core.Bool.{Bool, true, false}
+use mathlib.Core.Bool.{Bool, true}
 use mathlib.Core.Logic.{⊎-elim}
 use mathlib.Core.List.{[], _∷_, _++_, append-assoc, append-nil}
-use Prim.Native.Nat.{ℕ, zero, suc, _+_, _-_, _≤_, _<_, min}
+use Prim.Native.Nat.{ℕ, zero, suc, _+_, _-_, _≤_}
 use native.Mathlib.Nat.{zero-add}
 use native.Mathlib.Omega.{arith}
 use lib.ListN.{length, take, drop, length-drop}
 use lib.Seq.{take-append-le, drop-append-le, drop-drop}
 use Rattle.base.specs.Bytes.{Bytes}
 use Rattle.agreement.specs.Run.{Site}
-use Rattle.report.specs.Framing.{wanted, stepped, siteStepped, run, linesSize}
-use Rattle.report.specs.Gathering.{Gathering, noSteps, isDue, pieceAt, due, oneMore, gatherOn, gathering}
+use Rattle.report.specs.Framing.{wanted, stepped, siteStepped, run}
+use Rattle.report.specs.Gathering.{Gathering, pieceAt, due, oneMore, gathering}
 use Rattle.report.specs.Promises.{Stopped}
 use Rattle.report.specs.declared.State.{State}
 use Rattle.report.proofs.Due.{is-due, is-not-due}
-use Rattle.report.proofs.AllDue.{length-piece, next-within, gathered-all, kept}
+use Rattle.report.proofs.AllDue.{next-within, gathered-all, kept}
 
 -- what is behind the bytes that were taken, also where there were fewer
 drop-taken : (n : ℕ) (l : Bytes) → drop (length (take n l)) l ≡ drop n l

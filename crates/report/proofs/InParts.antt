@@ -3,7 +3,7 @@
 use mathlib.Core.Path.{_≡_, refl, sym, ap, _∙_}
 use mathlib.Core.Bool.{Bool, true, false}
 use mathlib.Core.List.{List, [], _∷_, _++_, append-assoc, append-nil}
-use Prim.Native.Nat.{ℕ, zero, suc, _+_, _-_, _≤_, _<_, min}
+use Prim.Native.Nat.{ℕ, zero, suc, _+_, _-_, _≤_, _<_}
 use native.Mathlib.Nat.{add-assoc, zero-add}
 use native.Mathlib.Omega.{arith}
 use lib.Dec.{eqb}
@@ -13,7 +13,7 @@ use Rattle.base.specs.Bytes.{Bytes, joined}
 use Rattle.base.proofs.Tests.{by-test, true-not-false}
 use Rattle.agreement.specs.Run.{Site}
 use Rattle.report.specs.Framing.{wantedBy, wanted, expecting, start, run, linesSize}
-use Rattle.report.specs.Gathering.{Gathering, noSteps, due, oneMore, gatherOn, gathering, Progress, nothingRead, turn, turns, lastTurns}
+use Rattle.report.specs.Gathering.{Gathering, noSteps, due, gathering, Progress, nothingRead, turn, turns, lastTurns}
 use Rattle.report.specs.declared.Expected.{Expected}
 use Rattle.report.specs.declared.Expected.the-variants.{End}
 use Rattle.report.specs.declared.State.{State}
@@ -21,7 +21,7 @@ use Rattle.report.proofs.Due.{nothing-wanted, none-to-come}
 use Rattle.report.proofs.Ends.{step-proper}
 use Rattle.report.proofs.AllDue.{work, kept, nothing-due, some-due}
 use Rattle.report.proofs.Written.{ended}
-use Rattle.report.proofs.Gathers.{within, written}
+use Rattle.report.proofs.Gathers.{written}
 
 module _ (digest : Bytes → Bytes) (size : ℕ) where
   abbrev after : Bool → Progress → Gathering

@@ -111,8 +111,7 @@ returns c =
     let came = drop (a .before .count - used) (take n after) in
     let e = w .write-and-read .ensures in
     let stays = unread-after (a .input .now) (m .to-front .last .0) after used (a .before .count) n (used-there g) (s .pre .0) (m .to-front .ensures) (e .1) (e .0 .1) (e .0 .2) in
-    let none = none-came (a .input .now) (m .to-front .last .0) after used (a .before .count) n (used-there g) (s .pre .0) (m .to-front .ensures) (e .1) (e .0 .1) (e .0 .2) in
-    (
+    let none = none-came (a .input .now) (m .to-front .last .0) after used (a .before .count) n (used-there g) (s .pre .0) (m .to-front .ensures) (e .1) (e .0 .1) (e .0 .2) in (
       (
         came,
         gathered-at g .lines,

@@ -9,7 +9,7 @@ use Rattle.base.specs.Bytes.{Bytes, splice}
 use Rattle.sha256.specs.Sha256.{sha256}
 use Rattle.agreement.specs.Run.{Site}
 use Rattle.report.specs.Framing.{wanted, siteStepped, linesSize}
-use Rattle.report.proofs.Handed.{handed-fits, handed-text}
+use Rattle.report.proofs.Handed.{handed-fits}
 use Rattle.report.proofs.Advanced.{piece-cut, piece-ends, step-state, step-length, step-lines}
 use Rattle.report.proofs.gathering.advance.Statement.{statement}
 use Rattle.report.proofs.gathering.advance.Tie as tie

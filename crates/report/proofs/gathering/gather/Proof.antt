@@ -2,11 +2,10 @@
 use mathlib.Core.Path.{_≡_, refl, sym, ap, _∙_}
 use mathlib.Core.Bool.{true}
 use mathlib.Core.List.{List}
-use Prim.Native.Nat.{ℕ, _+_, _-_, _≤_, min}
+use Prim.Native.Nat.{ℕ, _-_}
 use native.Mathlib.Omega.{arith}
 use lib.ListN.{length}
 use Rattle.base.specs.Bytes.{Bytes, splice}
-use Rattle.agreement.specs.Run.{Site}
 use Rattle.report.specs.Gathering.{Gathering, isDue, gatheredOf}
 use Rattle.report.specs.declared.Gathered.{Gathered}
 use Rattle.report.proofs.AllDue.{work}
