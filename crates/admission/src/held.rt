@@ -15,7 +15,7 @@ pub struct Found {
     pub missing: usize,
 }
 
-// The first missing reference of those before `next`, where that of those before i is known and reference i, the one before `next`, is held.
+// Reference i is held: the first missing one is `next`, as far as is known, if none before i was missing, and else the one that was.
 fn first_missing(missing: usize, i: usize, next: usize) -> usize
     ensures { λ r. ⌜ r ≡ cond (eqb missing i) next missing ⌝ }
 {

@@ -14,6 +14,7 @@ use Rattle.sha256.specs.Sha256.{sha256}
 use Rattle.agreement.specs.Run.{Site}
 use Rattle.report.specs.Framing.{wanted, Outcome, stepped, linesSize, linesOf, handed}
 use Rattle.report.specs.Gathering.{Gathering, noSteps, isDue, pieceAt, outcomeAt, siteAt, due, oneMore, gatherOn, gathering}
+use Rattle.report.specs.Steps.{siteWith, advanced}
 use Rattle.report.specs.declared.State.{State}
 use Rattle.report.specs.declared.Gathered.{Gathered}
 use Rattle.report.specs.declared.Stepped.{Stepped}
@@ -48,12 +49,10 @@ module _ (s : State) (x : Site) (used end : ℕ) (unread : Bytes) (q : Stepped) 
   is-outcome : q ≡ handed o
   is-outcome = h ∙ ap (λ (piece : Bytes). handed (stepped sha256 s x piece)) (piece-cut s used end unread e)
 
-  pub step-state : q .state ≡ outcomeAt sha256 s x used unread .state
-  step-state = ap (λ (r : Stepped). r .state) is-outcome
-
-  pub step-length : q .lines .length ≡ length (outcomeAt sha256 s x used unread .lines)
+  pub step-advances : (n : ℕ) → _≡_ {A = Gathered} (record { state = q .state; used = end; length = n + q .lines .length })
+      (advanced sha256 (record { state = s; used = used; length = n }) x unread)
   unfolding linesOf
-  step-length = ap (λ (r : Stepped). r .lines .length) is-outcome
+  step-advances n = rw is-outcome (ap (λ (m : ℕ). record { state = o .state; used = m; length = n + length (o .lines) }) (piece-ends s used end unread e))
 
   pub step-lines : take (q .lines .length) (q .lines .bytes) ≡ outcomeAt sha256 s x used unread .lines
   step-lines = handed-text o q is-outcome
@@ -61,7 +60,7 @@ module _ (s : State) (x : Site) (used end : ℕ) (unread : Bytes) (q : Stepped) 
 -- what the steps so far came to, with their lines and their number
 abbrev pub soFar : Bytes → List ℕ → Gathered → Bytes → ℕ → Gathering
 soFar table records done lines steps =
-    record { state = done .state; site = record { table = table; records = records }; used = done .used; lines = lines; steps = steps }
+    record { state = done .state; site = siteWith table records; used = done .used; lines = lines; steps = steps }
 
 -- ---- the loop: the bytes that came, whether more may come, the output before, and the state and the site before
 module _ (unread : Bytes) (isEnded : Bool) (output : Bytes) (s : State) (x : Site) where
@@ -95,9 +94,6 @@ module _ (unread : Bytes) (isEnded : Bool) (output : Bytes) (s : State) (x : Sit
     abbrev g : Gathering
     g = soFar table records done (l .lines) (l .steps)
 
-    abbrev site : Site
-    site = record { table = table; records = records }
-
     length-lines : done .length ≡ length (l .lines)
     length-lines = l .put .ends ∙ omega arith
 
@@ -120,25 +116,23 @@ module _ (unread : Bytes) (isEnded : Bool) (output : Bytes) (s : State) (x : Sit
       has-room = omega (arith, is-due isEnded (done .state) (length unread - done .used) (length out - done .length) d .fits)
 
       module _ (table₁ : Bytes) (records₁ : List ℕ) (out₁ : Bytes) (done₁ : Gathered)
-          (e : (done₁ .state ≡ outcomeAt sha256 (done .state) (record { table = table; records = records }) (done .used) unread .state)
-          × (done₁ .used ≡ done .used + length (pieceAt (done .state) (done .used) unread))
-          × (done₁ .length ≡ done .length + length (outcomeAt sha256 (done .state) (record { table = table; records = records }) (done .used) unread .lines)))
-          (t : table₁ ≡ siteAt sha256 (done .state) (record { table = table; records = records }) (done .used) unread .table)
-          (r : records₁ ≡ siteAt sha256 (done .state) (record { table = table; records = records }) (done .used) unread .records) where
+          (e : done₁ ≡ advanced sha256 done (siteWith table records) unread)
+          (t : table₁ ≡ siteAt sha256 (done .state) (siteWith table records) (done .used) unread .table)
+          (r : records₁ ≡ siteAt sha256 (done .state) (siteWith table records) (done .used) unread .records) where
         abbrev next : Gathering
         next = oneMore sha256 unread isEnded size g
 
         abbrev lines₁ : Bytes
-        lines₁ = l .lines ++ outcomeAt sha256 (done .state) site (done .used) unread .lines
+        lines₁ = l .lines ++ outcomeAt sha256 (done .state) (siteWith table records) (done .used) unread .lines
 
         g₁-next : soFar table₁ records₁ done₁ lines₁ (suc (l .steps)) ≡ next
-        g₁-next = rw (e .0, e .1, t, r)
+        g₁-next = rw (e, t, r)
 
         less : work (length unread) (next .state) (next .used) < work (length unread) (done .state) (done .used)
         less = less-work sha256 unread isEnded size g (l .within) (due-same ∙ d)
 
         pub leads-less : work (length unread) (done₁ .state) (done₁ .used) < work (length unread) (done .state) (done .used)
-        leads-less = rw (e .0, e .1) less
+        leads-less = rw e less
 
         on-next : gatherOn sha256 unread isEnded size (work (length unread) (next .state) (next .used)) next ≡ gathering sha256 unread isEnded size s x
         on-next =
@@ -149,15 +143,15 @@ module _ (unread : Bytes) (isEnded : Bool) (output : Bytes) (s : State) (x : Sit
             ∙ ap (λ (n : ℕ). gatherOn sha256 unread isEnded size n g) k
             ∙ l .leads
 
-        pub leads-next : (out₁ ≡ splice out (done .length) (outcomeAt sha256 (done .state) (record { table = table; records = records }) (done .used) unread .lines)) × (done₁ .length ≤ length out)
-            → Leads table₁ records₁ out₁ done₁
-        leads-next o =
+        pub leads-next : out₁ ≡ splice out (done .length) (outcomeAt sha256 (done .state) (siteWith table records) (done .used) unread .lines)
+            → done₁ .length ≤ length out → Leads table₁ records₁ out₁ done₁
+        leads-next o f =
             record {
               lines = lines₁;
               steps = suc (l .steps);
-              within = rw (e .1) (next-within sha256 unread isEnded size g (l .within));
-              fits = omega (arith, o .1, same-size);
-              put = put-behind output 0 (l .lines) (outcomeAt sha256 (done .state) site (done .used) unread .lines) out out₁ (done .length) (done₁ .length) (omega arith) (l .put)
-                  (record { ends = e .2; holds = o .0 });
+              within = rw e (next-within sha256 unread isEnded size g (l .within));
+              fits = omega (arith, f, same-size);
+              put = put-behind output 0 (l .lines) (outcomeAt sha256 (done .state) (siteWith table records) (done .used) unread .lines) out out₁ (done .length) (done₁ .length) (omega arith) (l .put)
+                  (record { ends = ap (λ (d : Gathered). d .length) e; holds = o });
               leads = ap (λ (q : Gathering). gatherOn sha256 unread isEnded size (work (length unread) (q .state) (q .used)) q) g₁-next ∙ on-next;
             }

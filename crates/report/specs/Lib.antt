@@ -1,4 +1,4 @@
--- The listing. All that stands here is what a reader must believe.
+-- The listing. All but Steps is what a reader must believe.
 pub mod Text
 pub mod Arrivals
 pub mod Listing
@@ -6,3 +6,4 @@ pub mod Framing
 pub mod Gathering
 pub mod Promises
 pub mod Agreed
+pub mod Steps

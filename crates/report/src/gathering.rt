@@ -8,7 +8,8 @@ ghost use lib.ListN.{length};
 ghost use Rattle.base.specs.Bytes.{splice};
 ghost use Rattle.sha256.specs.Sha256.{sha256};
 ghost use Rattle.report.specs.Framing.{linesSize};
-ghost use Rattle.report.specs.Gathering.{isDue, pieceAt, outcomeAt, siteAt, gathering as Gathering·gathering, gatheredOf};
+ghost use Rattle.report.specs.Gathering.{isDue, outcomeAt, siteAt, gathering as Gathering·gathering, gatheredOf};
+ghost use Rattle.report.specs.Steps.{siteWith, advanced};
 
 // Whether the next step is due, with so many bytes that came, and an output of this size.
 fn is_due(done: Gathered, count: usize, is_ended: bool, size: usize) -> bool
@@ -47,10 +48,11 @@ fn advance(
     output: &mut [u8],
 ) -> Gathered
     requires { ⌜ (done .used ≤ length (now unread)) × (done .length + linesSize ≤ length (now output)) ⌝ }
-    ensures { λ r. ⌜ (r .state ≡ outcomeAt sha256 (done .state) (record { table = now (table .entry); records = now (records .entry) }) (done .used) (now (unread .entry)) .state) × (r .used ≡ done .used + length (pieceAt (done .state) (done .used) (now (unread .entry)))) × (r .length ≡ done .length + length (outcomeAt sha256 (done .state) (record { table = now (table .entry); records = now (records .entry) }) (done .used) (now (unread .entry)) .lines)) ⌝ }
-    ensures { λ _. ⌜ now (table .exit) ≡ siteAt sha256 (done .state) (record { table = now (table .entry); records = now (records .entry) }) (done .used) (now (unread .entry)) .table ⌝ }
-    ensures { λ _. ⌜ now (records .exit) ≡ siteAt sha256 (done .state) (record { table = now (table .entry); records = now (records .entry) }) (done .used) (now (unread .entry)) .records ⌝ }
-    ensures { λ r. ⌜ (now (output .exit) ≡ splice (now (output .entry)) (done .length) (outcomeAt sha256 (done .state) (record { table = now (table .entry); records = now (records .entry) }) (done .used) (now (unread .entry)) .lines)) × (r .length ≤ length (now (output .entry))) ⌝ }
+    ensures { λ r. ⌜ r ≡ advanced sha256 done (siteWith (now (table .entry)) (now (records .entry))) (now (unread .entry)) ⌝ }
+    ensures { λ _. ⌜ now (table .exit) ≡ siteAt sha256 (done .state) (siteWith (now (table .entry)) (now (records .entry))) (done .used) (now (unread .entry)) .table ⌝ }
+    ensures { λ _. ⌜ now (records .exit) ≡ siteAt sha256 (done .state) (siteWith (now (table .entry)) (now (records .entry))) (done .used) (now (unread .entry)) .records ⌝ }
+    ensures { λ _. ⌜ now (output .exit) ≡ splice (now (output .entry)) (done .length) (outcomeAt sha256 (done .state) (siteWith (now (table .entry)) (now (records .entry))) (done .used) (now (unread .entry)) .lines) ⌝ }
+    ensures { λ r. ⌜ r .length ≤ length (now (output .entry)) ⌝ }
 {
     let state = done.state;
     let used = done.used;
@@ -80,10 +82,10 @@ pub fn gather(
     is_ended: bool,
     output: &mut [u8],
 ) -> Gathered
-    ensures { λ r. ⌜ r ≡ gatheredOf (Gathering·gathering sha256 (now (unread .entry)) «is_ended» (length (now (output .entry))) state (record { table = now (table .entry); records = now (records .entry) })) ⌝ }
-    ensures { λ _. ⌜ now (table .exit) ≡ Gathering·gathering sha256 (now (unread .entry)) «is_ended» (length (now (output .entry))) state (record { table = now (table .entry); records = now (records .entry) }) .site .table ⌝ }
-    ensures { λ _. ⌜ now (records .exit) ≡ Gathering·gathering sha256 (now (unread .entry)) «is_ended» (length (now (output .entry))) state (record { table = now (table .entry); records = now (records .entry) }) .site .records ⌝ }
-    ensures { λ _. ⌜ now (output .exit) ≡ splice (now (output .entry)) 0 (Gathering·gathering sha256 (now (unread .entry)) «is_ended» (length (now (output .entry))) state (record { table = now (table .entry); records = now (records .entry) }) .lines) ⌝ }
+    ensures { λ r. ⌜ r ≡ gatheredOf (Gathering·gathering sha256 (now (unread .entry)) «is_ended» (length (now (output .entry))) state (siteWith (now (table .entry)) (now (records .entry)))) ⌝ }
+    ensures { λ _. ⌜ now (table .exit) ≡ Gathering·gathering sha256 (now (unread .entry)) «is_ended» (length (now (output .entry))) state (siteWith (now (table .entry)) (now (records .entry))) .site .table ⌝ }
+    ensures { λ _. ⌜ now (records .exit) ≡ Gathering·gathering sha256 (now (unread .entry)) «is_ended» (length (now (output .entry))) state (siteWith (now (table .entry)) (now (records .entry))) .site .records ⌝ }
+    ensures { λ _. ⌜ now (output .exit) ≡ splice (now (output .entry)) 0 (Gathering·gathering sha256 (now (unread .entry)) «is_ended» (length (now (output .entry))) state (siteWith (now (table .entry)) (now (records .entry))) .lines) ⌝ }
 {
     let mut done = Gathered {
         state,

@@ -7,58 +7,79 @@ use lib.ListN.{length}
 use lib.Seq.{length-take-le}
 use Rattle.base.specs.Bytes.{Bytes, splice}
 use Rattle.sha256.specs.Sha256.{sha256}
-use Rattle.agreement.specs.Run.{Site}
 use Rattle.report.specs.Framing.{wanted, siteStepped, linesSize}
+use Rattle.report.specs.Steps.{siteWith}
 use Rattle.report.proofs.Handed.{handed-fits}
-use Rattle.report.proofs.Advanced.{piece-cut, piece-ends, step-state, step-length, step-lines}
+use Rattle.report.proofs.Advanced.{piece-cut, step-advances, step-lines}
 use Rattle.report.proofs.gathering.advance.Statement.{statement}
 use Rattle.report.proofs.gathering.advance.Tie as tie
 
+-- where the code was before
+abbrev cut : tie.After-step → tie.After-piece-end
+cut c = c .before .before .before .before
+
+abbrev start : tie.After-step → tie.Start
+start c = cut c .before .before .before .before .before .before .before
+
 -- the lines are no longer than their array
+short : (c : tie.After-step) → c .step .result .lines .length ≤ linesSize
+short c =
+    let q = c .step in
+    let l : length (q .result .lines .bytes) ≡ linesSize = search needs in
+    handed-fits _ (q .result) (q .ensures .0) l
+
 within : tie.Need-array-share-prefix-bytes
 within c =
-    let q = c .before .before .before .before .before .before .before .before .step in
-    let l : length (q .result .lines .bytes) ≡ linesSize = search needs in
-    omega (arith, handed-fits _ (q .result) (q .ensures .0) l)
+    let s = c .before .before .before .before .before .before .before .before in
+    let l : length (s .step .result .lines .bytes) ≡ linesSize = search needs in
+    omega (arith, short s)
+
+abbrev stepped-at : tie.After-bytes2 → tie.After-step
+stepped-at c = c .before .before .before .before .before .before .before .before .before
+
+front-length : (c : tie.After-step) → c .step .result .lines .length ≤ length (c .step .result .lines .bytes)
+front-length c = let l : length (c .step .result .lines .bytes) ≡ linesSize = search needs in omega (arith, short c)
 
 front : tie.Need-slice-aggregate-put
-front c =
-    let q = c .before .before .before .before .before .before .before .before .before .step in
-    let l : length (q .result .lines .bytes) ≡ linesSize = search needs in
-    sym (length-take-le (q .result .lines .length) (q .result .lines .bytes) (omega (arith, handed-fits _ (q .result) (q .ensures .0) l)))
+front c = let q = stepped-at c .step .result .lines in sym (length-take-le (q .length) (q .bytes) (front-length (stepped-at c)))
 
 put-requires : tie.Need-put-requires
 put-requires c κs =
-    let q = c .before .before .before .before .before .before .before .before .before .step in
-    let l : length (q .result .lines .bytes) ≡ linesSize = search needs in
-    let h : q .result .lines .length ≤ linesSize = handed-fits _ (q .result) (q .ensures .0) l in
-    omega (arith, c .before .before .before .before .before .before .before .before .before .before .before .before .before .before .before .before .before .before .before .before .pre .1, length-take-le (q .result .lines .length) (q .result .lines .bytes) (omega arith))
+    let s = stepped-at c in
+    let q = s .step .result .lines in
+    omega (arith, start s .pre .1, short s, length-take-le (q .length) (q .bytes) (front-length s))
+
+abbrev stepped-before : tie.After-slice-known6 → tie.After-step
+stepped-before c = stepped-at (c .before .before .before)
 
 add-fits : tie.Need-add-filled
 add-fits c =
-    let q = c .before .before .before .before .before .before .before .before .before .before .before .before .step in
-    let l : length (q .result .lines .bytes) ≡ linesSize = search needs in
-    let short : length (c .before .before .before .before .before .before .before .before .before .before .before .before .before .before .before .before .before .before .before .before .before .before .before .args .output .now) < 2 ^ 64 = omega (arith, c .before .before .before .before .before .before .before .before .before .before .before .before .before .before .before .before .before .before .before .before .before .before .before .good) in
-    omega (arith, handed-fits _ (q .result) (q .ensures .0) l, c .before .before .before .before .before .before .before .before .before .before .before .before .before .before .before .before .before .before .before .before .before .before .before .pre .1)
+    let s = stepped-before c in
+    let few : length (start s .args .output .now) < 2 ^ 64 = omega (arith, start s .good) in
+    omega (arith, short s, start s .pre .1)
 
 returns : tie.Need-returns
 returns c =
-    let a = c .before .before .before .before .before .before .before .before .before .before .before .before .before .before .before .before .before .before .before .before .before .before .before .args in
-    let q = c .before .before .before .before .before .before .before .before .before .before .before .before .step in
-    let p = c .before .before .before .before .before .before .before .before .before .before .before .before .before .before .before .before .piece-end in
-    let w = c .before .before .before .before .before .before .before .before .before .before .before .before .before .before .before .before .before .wanted in
-    let x : Site = record { table = a .table .now; records = a .records .now } in
-    let s = a .done .state in
+    let s = stepped-before c in
+    let a = start s .args in
+    let q = s .step in
+    let p = cut s .piece-end in
+    let unread = a .unread .now in
+    let x = siteWith (a .table .now) (a .records .now) in
     let used = a .done .used in
-    let end : p .result ≡ used + min (wanted s) (length (a .unread .now) - used) = p .ensures ∙ ap (λ (n : ℕ). used + min n (length (a .unread .now) - used)) (w .ensures .0) in
-    let cut = piece-cut s used (p .result) (a .unread .now) end in
-    let l : length (q .result .lines .bytes) ≡ linesSize = search needs in (
-      (step-state s x used (p .result) (a .unread .now) (q .result) end (q .ensures .0), piece-ends s used (p .result) (a .unread .now) end, ap (λ (n : ℕ). a .done .length + n) (step-length s x used (p .result) (a .unread .now) (q .result) end (q .ensures .0))),
+    let end : p .result ≡ used + min (wanted (a .done .state)) (length unread - used) =
+    p .ensures ∙ ap (λ (n : ℕ). used + min n (length unread - used)) (cut s .before .wanted .ensures .0) in
+    let piece = piece-cut (a .done .state) used (p .result) unread end in (
+      step-advances (a .done .state) x used (p .result) unread (q .result) end (q .ensures .0) (a .done .length),
       (
-        q .ensures .1 .0 ∙ ap (λ (piece : Bytes). siteStepped sha256 s x piece .table) cut,
+        q .ensures .1 .0 ∙ ap (λ (piece : Bytes). siteStepped sha256 (a .done .state) x piece .table) piece,
         (
-          q .ensures .1 .1 ∙ ap (λ (piece : Bytes). siteStepped sha256 s x piece .records) cut,
-          (c .before .before .put .ensures ∙ ap (splice (a .output .now) (a .done .length)) (step-lines s x used (p .result) (a .unread .now) (q .result) end (q .ensures .0)), omega (arith, handed-fits _ (q .result) (q .ensures .0) l, c .before .before .before .before .before .before .before .before .before .before .before .before .before .before .before .before .before .before .before .before .before .before .before .pre .1)),
+          q .ensures .1 .1 ∙ ap (λ (piece : Bytes). siteStepped sha256 (a .done .state) x piece .records) piece,
+          (
+            c .before .before .put .ensures
+                ∙ ap (splice (a .output .now) (a .done .length)) (step-lines (a .done .state) x used (p .result) unread (q .result) end (q .ensures .0)),
+            omega (arith, short s, start s .pre .1),
+          ),
         ),
       ),
     )

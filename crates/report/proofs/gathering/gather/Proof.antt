@@ -6,7 +6,9 @@ use Prim.Native.Nat.{ℕ, _-_}
 use native.Mathlib.Omega.{arith}
 use lib.ListN.{length}
 use Rattle.base.specs.Bytes.{Bytes, splice}
+use Rattle.agreement.specs.Run.{Site}
 use Rattle.report.specs.Gathering.{Gathering, isDue, gatheredOf}
+use Rattle.report.specs.Steps.{siteWith}
 use Rattle.report.specs.declared.Gathered.{Gathered}
 use Rattle.report.proofs.AllDue.{work}
 use Rattle.report.proofs.Advanced.{soFar, Leads, leads-start, leads-end, leads-less, leads-next, same-size, has-room}
@@ -26,7 +28,7 @@ module _ (output table : Bytes) (records : List ℕ) (out : Bytes) (done : Gathe
 
 abbrev Inv-loop : tie.InvT-loop
 Inv-loop table₀ records₀ unread is-ended output₀ done₀ table records output done =
-    Leads unread is-ended output₀ (done₀ .state) (record { table = table₀; records = records₀ }) table records output done
+    Leads unread is-ended output₀ (done₀ .state) (siteWith table₀ records₀) table records output done
     × (length table ≡ length table₀) × (length records ≡ length records₀)
 
 abbrev μ-loop : tie.MeasureT-loop
@@ -35,55 +37,72 @@ abbrev μ-loop : tie.MeasureT-loop
 loop-holds : tie.Need-loop-holds Inv-loop μ-loop
 loop-holds c =
     let a = c .before .before .before .before .args in
-    (leads-start (a .unread .now) (a .is-ended) (a .output .now) (a .state) (record { table = a .table .now; records = a .records .now }), refl, refl)
+    (leads-start (a .unread .now) (a .is-ended) (a .output .now) (a .state) (siteWith (a .table .now) (a .records .now)), refl, refl)
 
-size-at : (c : tie.At-loop Inv-loop μ-loop) → length (c .loop .output) ≡ length (c .before .before .before .before .before .args .output .now)
+-- where the code was before
+abbrev start : tie.At-loop Inv-loop μ-loop → tie.Start Inv-loop μ-loop
+start c = c .before .before .before .before .before
+
+abbrev site : tie.At-loop Inv-loop μ-loop → Site
+site c = siteWith (start c .args .table .now) (start c .args .records .now)
+
+abbrev asked : tie.After-advance Inv-loop μ-loop → tie.Then1 Inv-loop μ-loop
+asked c = c .before .before .before .before
+
+abbrev turn : tie.Then1 Inv-loop μ-loop → tie.At-loop Inv-loop μ-loop
+turn c = c .before .before
+
+size-at : (c : tie.At-loop Inv-loop μ-loop) → length (c .loop .output) ≡ length (start c .args .output .now)
 size-at c =
-    let a = c .before .before .before .before .before .args in
-    same-size (a .unread .now) (a .is-ended) (a .output .now) (a .state) (record { table = a .table .now; records = a .records .now }) (c .loop .table) (c .loop .records) (c .loop .output) (c .loop .done) (c .loop .inv .0)
+    let a = start c .args in
+    let l = c .loop in
+    same-size (a .unread .now) (a .is-ended) (a .output .now) (a .state) (site c) (l .table) (l .records) (l .output) (l .done) (l .inv .0)
 
 is-due-requires : tie.Need-is-due-requires Inv-loop μ-loop
 is-due-requires c κs = (c .loop .inv .0 .within, rw (size-at c) (c .loop .inv .0 .fits))
 
 -- a step that is made is due
-due-at : (c : tie.Then1 Inv-loop μ-loop)
-    → isDue (c .before .before .before .before .before .before .before .args .is-ended) (c .before .before .loop .done .state) (length (c .before .before .before .before .before .before .before .args .unread .now) - c .before .before .loop .done .used) (length (c .before .before .loop .output) - c .before .before .loop .done .length) ≡ true
+due-at : (c : tie.Then1 Inv-loop μ-loop) → let a = start (turn c) .args in let l = turn c .loop in
+    isDue (a .is-ended) (l .done .state) (length (a .unread .now) - l .done .used) (length (l .output) - l .done .length) ≡ true
 due-at c = sym (c .before .is-due .ensures) ∙ c .if1 .taken
 
 advance-requires : tie.Need-advance-requires Inv-loop μ-loop
 advance-requires c κs =
-    let a = c .before .before .before .before .before .before .before .before .before .before .args in
-    let l = c .before .before .before .before .before .loop in
-    (l .inv .0 .within, has-room (a .unread .now) (a .is-ended) (a .output .now) (a .state) (record { table = a .table .now; records = a .records .now }) (l .table) (l .records) (l .output) (l .done) (l .inv .0) (due-at (c .before .before .before)))
+    let t = c .before .before .before in
+    let a = start (turn t) .args in
+    let l = turn t .loop in
+    (l .inv .0 .within, has-room (a .unread .now) (a .is-ended) (a .output .now) (a .state) (site (turn t)) (l .table) (l .records) (l .output) (l .done) (l .inv .0) (due-at t))
 
 loop-less : tie.Need-loop-less Inv-loop μ-loop
 loop-less c =
-    let a = c .before .before .before .before .before .before .before .before .before .before .before .before .before .before .before .before .before .args in
-    let l = c .before .before .before .before .before .before .before .before .before .before .before .before .loop in
-    let v = c .before .before .before .before .before .before .advance in
-    leads-less (a .unread .now) (a .is-ended) (a .output .now) (a .state) (record { table = a .table .now; records = a .records .now }) (l .table) (l .records) (l .output) (l .done) (l .inv .0) (due-at (c .before .before .before .before .before .before .before .before .before .before)) _ _ (v .last .1 .1 .1 .1 .0) (v .result) (v .ensures .0) (v .ensures .1 .0) (v .ensures .1 .1 .0)
+    let v = c .before .before .before .before .before .before in
+    let t = asked v in
+    let a = start (turn t) .args in
+    let l = turn t .loop in
+    let e = v .advance .ensures in
+    leads-less (a .unread .now) (a .is-ended) (a .output .now) (a .state) (site (turn t)) (l .table) (l .records) (l .output) (l .done) (l .inv .0) (due-at t)
+    _ _ (v .advance .last .1 .1 .1 .1 .0) (v .advance .result) (e .0) (e .1 .0) (e .1 .1 .0)
 
 loop-again : tie.Need-loop-again Inv-loop μ-loop
 loop-again c =
-    let a = c .before .before .before .before .before .before .before .before .before .before .before .before .before .before .before .before .before .args in
-    let l = c .before .before .before .before .before .before .before .before .before .before .before .before .loop in
-    let v = c .before .before .before .before .before .before .advance in
-    (leads-next (a .unread .now) (a .is-ended) (a .output .now) (a .state) (record { table = a .table .now; records = a .records .now }) (l .table) (l .records) (l .output) (l .done) (l .inv .0) (due-at (c .before .before .before .before .before .before .before .before .before .before)) _ _ _ (v .result) (v .ensures .0) (v .ensures .1 .0) (v .ensures .1 .1 .0) (v .ensures .1 .1 .1), v .kept .1 .0 ∙ l .inv .1, v .kept .1 .1 .0 ∙ l .inv .2)
-
-same-length : tie.Need-same-length Inv-loop μ-loop
-same-length c = c .before .before .loop .inv .1
-
-same-length-2 : tie.Need-same-length-2 Inv-loop μ-loop
-same-length-2 c = c .before .before .loop .inv .2
-
-same-length-3 : tie.Need-same-length-3 Inv-loop μ-loop
-same-length-3 c = size-at (c .before .before)
+    let v = c .before .before .before .before .before .before in
+    let t = asked v in
+    let a = start (turn t) .args in
+    let l = turn t .loop in
+    let e = v .advance .ensures in (
+      leads-next (a .unread .now) (a .is-ended) (a .output .now) (a .state) (site (turn t)) (l .table) (l .records) (l .output) (l .done) (l .inv .0) (due-at t)
+          _ _ _ (v .advance .result) (e .0) (e .1 .0) (e .1 .1 .0) (e .1 .1 .1 .0) (e .1 .1 .1 .1),
+      v .advance .kept .1 .0 ∙ l .inv .1,
+      v .advance .kept .1 .1 .0 ∙ l .inv .2,
+    )
 
 returns : tie.Need-returns Inv-loop μ-loop
 returns c =
-    let a = c .before .before .before .before .before .before .before .args in
-    let l = c .before .before .loop in
-    let e = leads-end (a .unread .now) (a .is-ended) (a .output .now) (a .state) (record { table = a .table .now; records = a .records .now }) (l .table) (l .records) (l .output) (l .done) (l .inv .0) (sym (c .before .is-due .ensures) ∙ c .if1 .left) in
+    let t = c .before .before in
+    let a = start t .args in
+    let l = t .loop in
+    let e = leads-end (a .unread .now) (a .is-ended) (a .output .now) (a .state) (site t) (l .table) (l .records) (l .output) (l .done) (l .inv .0)
+    (sym (c .before .is-due .ensures) ∙ c .if1 .left) in
     all-gathered (a .output .now) (l .table) (l .records) (l .output) (l .done) (l .inv .0 .lines) (l .inv .0 .steps) _ (l .inv .0 .put) e
 
 pub gather-spec : {M : Type 1} → statement M
@@ -97,7 +116,7 @@ gather-spec =
     advance-requires
     loop-less
     loop-again
-    same-length
-    same-length-2
-    same-length-3
+    (λ c. c .before .before .loop .inv .1)
+    (λ c. c .before .before .loop .inv .2)
+    (λ c. size-at (c .before .before))
     returns)

@@ -1,0 +1,21 @@
+-- What the contracts of inner functions cite. Nothing here need be believed.
+use mathlib.Core.List.{List}
+use Prim.Native.Nat.{ℕ, _+_}
+use lib.ListN.{length}
+use Rattle.base.specs.Bytes.{Bytes}
+use Rattle.agreement.specs.Run.{Site}
+use Rattle.report.specs.Gathering.{pieceAt, outcomeAt}
+use Rattle.report.specs.declared.Gathered.{Gathered}
+
+-- a site by what is lent
+abbrev pub siteWith : Bytes → List ℕ → Site
+siteWith table records = record { table = table; records = records }
+
+-- one step more of what is gathered, of whose lines only the length is kept
+abbrev pub advanced : (Bytes → Bytes) → Gathered → Site → Bytes → Gathered
+advanced digest done x unread =
+    record {
+      state = outcomeAt digest (done .state) x (done .used) unread .state;
+      used = done .used + length (pieceAt (done .state) (done .used) unread);
+      length = done .length + length (outcomeAt digest (done .state) x (done .used) unread .lines);
+    }
