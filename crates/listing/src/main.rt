@@ -57,9 +57,9 @@ fn say(message: &[u8]) {
     io::write_all(STDERR_FILENO, message);
 }
 
-// Reads on where more may come, and fewer bytes are there than the state wants.
-fn read_on(state: State, input: &mut [u8], count: usize, is_ended: bool) -> Front
-    requires { ⌜ (count ≤ length (now input)) × (pieceSize ≤ length (now input)) ⌝ }
+// Reads on where more may come, and fewer bytes are there than are wanted.
+fn read_on(input: &mut [u8], count: usize, is_ended: bool, wanted: usize) -> Front
+    requires { ⌜ (count ≤ length (now input)) × (wanted ≤ length (now input)) ⌝ }
     ensures { λ r. ⌜ (count ≤ r .count) × (r .count ≤ length (now (input .exit))) × (r .«is_ended» ≡ true → r .count ≡ count) × («is_ended» ≡ true → r .«is_ended» ≡ true) ⌝ }
     ensures { λ _. ⌜ take count (now (input .exit)) ≡ take count (now (input .entry)) ⌝ }
 {
@@ -70,7 +70,7 @@ fn read_on(state: State, input: &mut [u8], count: usize, is_ended: bool) -> Fron
             is_failed: false,
         };
     }
-    if report::wanted(state) <= count {
+    if wanted <= count {
         return Front {
             count,
             is_ended: false,
@@ -125,7 +125,8 @@ fn write_and_read(
             is_done: true,
         };
     }
-    if report::wanted(state) == 0 {
+    let wanted = report::wanted(state);
+    if wanted == 0 {
         return Progress {
             state,
             count,
@@ -133,7 +134,7 @@ fn write_and_read(
             is_done: true,
         };
     }
-    let read = read_on(state, input, count, is_ended);
+    let read = read_on(input, count, is_ended, wanted);
     Progress {
         state,
         count: read.count,
