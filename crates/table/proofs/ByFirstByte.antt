@@ -1,6 +1,7 @@
--- Laws of the index of digests by their first bytes: one place more, what a byte has in it, and the one place of a digest. Assumes nothing.
+-- Laws of the index of digests by their first bytes: one place more, where no digest begins with a byte, and the one place of a digest. Assumes
+-- nothing.
 use mathlib.Core.Path.{_≡_, sym, ap, _∙_}
-use mathlib.Core.Bool.{true}
+use mathlib.Core.Bool.{true, false}
 use mathlib.Core.Logic.{_≢_, inl, inr}
 use mathlib.Core.List.{List}
 use Prim.Native.Nat.{ℕ, zero, suc, _+_, _≤_, _<_}
@@ -37,21 +38,20 @@ module _ (t : Bytes) (byte : ℕ) where
   last-le zero = omega arith
   last-le (suc k) = by-test (eqb (getD (digestAt t k) 0 0) byte) (λ y. rw y (omega arith)) (λ n. rw n (omega (arith, last-le k)))
 
-  -- a byte without a place begins no digest
-  pub last-none : (k : ℕ) → lastOf t byte k ≡ 0 → (j : ℕ) → j < k → getD (digestAt t j) 0 0 ≢ byte
+  -- from there on no digest begins with the byte
+  pub none-past : (k : ℕ) (j : ℕ) → lastOf t byte k ≤ j → j < k → getD (digestAt t j) 0 0 ≢ byte
   unfolding lastOf
-  last-none zero e j h = absurd (omega arith)
-  last-none (suc k) e j h = by-test (eqb (getD (digestAt t k) 0 0) byte)
-      (λ y. let z : suc k ≡ 0 = rw y at e in absurd (omega arith))
-      (λ n. let z : lastOf t byte k ≡ 0 = rw n at e in elim (eq-or-lt-of-le (le-of-suc-le-suc h)) [
+  none-past zero j l h = absurd (omega arith)
+  none-past (suc k) j l h = by-test (eqb (getD (digestAt t k) 0 0) byte)
+      (λ y. let z : suc k ≤ j = rw y at l in absurd (omega arith))
+      (λ n. let z : lastOf t byte k ≤ j = rw n at l in elim (eq-or-lt-of-le (le-of-suc-le-suc h)) [
         | inl q ↦ rw q (eqb-false (getD (digestAt t k) 0 0) byte n)
-        | inr l ↦ last-none k z j l
+        | inr i ↦ none-past k j z i
       ])
 
--- a digest that no row begins as is held nowhere
-pub nowhere : (t d : Bytes) (k : ℕ) → lastOf t (getD d 0 0) k ≡ 0 → placeOf (viewOf t) k d ≡ k
-nowhere t d k e = first-nowhere (hasDigest (viewOf t) d) k
-    (λ j h. other-same (digestAt t j) d (λ q. last-none t (getD d 0 0) k e j h (ap (λ (b : Bytes). getD b 0 0) q)))
+-- so none is the digest that begins with it
+pub not-past : (t d : Bytes) (k j : ℕ) → lastOf t (getD d 0 0) k ≤ j → j < k → hasDigest (viewOf t) d j ≡ false
+not-past t d k j l h = other-same (digestAt t j) d (λ q. none-past t (getD d 0 0) k j l h (ap (λ (b : Bytes). getD b 0 0) q))
 
 -- in a table in form, a place that holds the digest is its place
 pub only-place : (t d : Bytes) (j : ℕ) → inForm t ≡ true → j < countOf t → hasDigest (viewOf t) d j ≡ true → placeOf (viewOf t) (countOf t) d ≡ j

@@ -1,6 +1,5 @@
 // Where a digest is held, found by its first byte.
 use crate::rows;
-use crate::rules;
 ghost use mathlib.Core.Path.{_≡_};
 ghost use mathlib.Core.Bool.{true};
 ghost use lib.ListN.{getD};
@@ -37,19 +36,18 @@ pub fn index_of(table: &[u8]) -> [u8; INDEX_SIZE]
     index
 }
 
-// The place that holds the block of this digest, or the count. The digests of a table in form are all different, so one comparison is enough
-// but where another digest begins as this one does; then all places are looked through.
+// The place that holds the block of this digest, or the count. No place above the one in the index begins with the digest's first byte, so the
+// search goes down from there; mostly it ends there, since digests are all different.
 pub fn find(table: &[u8], index: &[u8], digest: &[u8]) -> usize
     requires { ⌜ Indexed (now table) (now index) ⌝ }
     ensures { λ r. ⌜ r ≡ placeOf (viewOf (now (table .entry))) (countOf (now (table .entry))) (now (digest .entry)) ⌝ }
 {
-    let k = rows::count_of(table);
-    let last = base::wide(index[base::wide(first_of(digest))]);
-    if last == 0 {
-        return k;
+    let mut j = base::wide(index[base::wide(first_of(digest))]);
+    while 0 < j {
+        j -= 1;
+        if base::same(rows::digest_at(table, j), digest) {
+            return j;
+        }
     }
-    if base::same(rows::digest_at(table, last - 1), digest) {
-        return last - 1;
-    }
-    rules::place_of(table, k, digest)
+    rows::count_of(table)
 }

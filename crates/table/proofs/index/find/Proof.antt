@@ -1,20 +1,32 @@
--- `find` meets its contract: a byte that begins no digest, the last digest that it begins, and all of them. Assumes nothing.
+-- `find` meets its contract. The loop's invariant: no place from j on holds the digest. Assumes nothing.
 use mathlib.Core.Path.{_≡_, sym, ap, _∙_}
-use mathlib.Core.Bool.{true}
+use mathlib.Core.Bool.{false}
+use mathlib.Core.Logic.{inl, inr}
 use mathlib.Core.List.{List}
 use Prim.Native.Nat.{ℕ, _-_, _≤_, _<_}
+use native.Mathlib.Nat.{eq-or-lt-of-le}
 use native.Mathlib.Omega.{arith}
 use lib.ListN.{length, getD}
 use borrow.Author.Needs.{needs}
 use Rattle.base.specs.Bytes.{Bytes, sameBytes}
+use Rattle.base.proofs.Search.{first-nowhere}
 use Rattle.base.proofs.List.{length-list, list-at}
 use Rattle.table.specs.Layout.{countOf, digestAt, viewOf}
-use Rattle.table.specs.Rules.{placeOf}
+use Rattle.table.specs.Rules.{hasDigest}
 use Rattle.table.specs.Steps.{Indexed, lastOf, byteCount}
 use Rattle.table.proofs.Formed.{formed-places}
-use Rattle.table.proofs.ByFirstByte.{last-le, nowhere, only-place}
+use Rattle.table.proofs.ByFirstByte.{last-le, not-past, only-place}
 use Rattle.table.proofs.index.find.Statement.{statement}
 use Rattle.table.proofs.index.find.Tie as tie
+
+abbrev NotFrom : Bytes → Bytes → ℕ → Type 0
+NotFrom t d j = (i : ℕ) → j ≤ i → i < countOf t → hasDigest (viewOf t) d i ≡ false
+
+abbrev Inv-loop : tie.InvT-loop
+Inv-loop table index digest j₀ j = (j ≤ countOf table) × Indexed table index × NotFrom table digest j
+
+abbrev μ-loop : tie.MeasureT-loop
+μ-loop table index digest j₀ j = j
 
 -- what the index has of the digest's first byte
 module _ (t d : Bytes) (index : List ℕ) (byte last : ℕ) (i : Indexed t index) (low : byte < byteCount) (eb : byte ≡ getD d 0 0) (el : last ≡ getD index byte 0) where
@@ -23,73 +35,76 @@ module _ (t d : Bytes) (index : List ℕ) (byte last : ℕ) (i : Indexed t index
       el ∙ ap (λ (l : List ℕ). getD l byte 0) (i .indexed) ∙ list-at (λ b. lastOf t b (countOf t)) byteCount byte 0 low
       ∙ ap (λ (b : ℕ). lastOf t b (countOf t)) eb
 
-  within : last ≤ countOf t
-  within = rw last-is (last-le t (getD d 0 0) (countOf t))
+  begins : (last ≤ countOf t) × Indexed t index × NotFrom t d last
+  begins = (omega (arith, last-is, last-le t (getD d 0 0) (countOf t)), i, λ j l h. not-past t d (countOf t) j (omega (arith, last-is)) h)
 
-  none : (k : ℕ) → k ≡ countOf t → last ≡ 0 → k ≡ placeOf (viewOf t) (countOf t) d
-  none k h e = h ∙ sym (nowhere t d (countOf t) (sym last-is ∙ e))
+-- one place lower
+not-here : (t d b : Bytes) (j n : ℕ) → 0 < j → n ≡ j - 1 → b ≡ digestAt t n → sameBytes b d ≡ false → NotFrom t d j → NotFrom t d n
+not-here t d b j n s e q z f i l h = elim (eq-or-lt-of-le l) [
+  | inl k ↦ rw (← k, ← q) z
+  | inr m ↦ f i (omega arith) h
+]
 
-  here : 0 < last → (b : Bytes) → b ≡ digestAt t (last - 1) → sameBytes b d ≡ true → last - 1 ≡ placeOf (viewOf t) (countOf t) d
-  here h b e y = sym (only-place t d (last - 1) (i .formed) (omega (arith, within)) (ap (λ (x : Bytes). sameBytes x d) (sym e) ∙ y))
+-- where the code was before
+abbrev start : tie.After-wide2 Inv-loop μ-loop → tie.Start Inv-loop μ-loop
+start c = c .before .before .before .before .before .before .before
 
--- the same of where the code stands
-abbrev byte : tie.After-wide2 → tie.After-wide
-byte c = c .before .before
-
-abbrev start : tie.After-wide2 → tie.Start
-start c = byte c .before .before .before .before .before .before
-
-low-byte : (c : tie.After-wide) → c .wide .result < byteCount
+low-byte : (c : tie.After-wide Inv-loop μ-loop) → c .wide .result < byteCount
 low-byte c = rw (c .wide .ensures) (c .before .first-of .ok)
 
-all-bytes : (c : tie.Start) → length (c .args .index .now) ≡ byteCount
+all-bytes : (c : tie.Start Inv-loop μ-loop) → length (c .args .index .now) ≡ byteCount
 all-bytes c = ap length (c .pre .indexed) ∙ length-list (λ b. lastOf (c .args .table .now) b (countOf (c .args .table .now))) byteCount
 
-returns : tie.Need-returns
-returns c =
-    let w = c .before in
-    none _ _ _ _ _ (start w .pre) (low-byte (byte w)) (byte w .wide .ensures ∙ byte w .before .first-of .ensures) (w .wide2 .ensures)
-    _ (byte w .before .before .count-of .ensures) (c .if1 .taken)
+loop-holds : tie.Need-loop-holds Inv-loop μ-loop
+loop-holds c =
+    let w = c .before .before in
+    begins _ _ _ _ _ (start c .pre) (low-byte w) (w .wide .ensures ∙ w .before .first-of .ensures) (c .wide2 .ensures)
 
-digest-at-requires : tie.Need-digest-at-requires
+digest-at-requires : tie.Need-digest-at-requires Inv-loop μ-loop
 digest-at-requires c κs =
-    let w = c .before in
-    let s = start w in
-    let p = formed-places _ (s .pre .formed) in
-    let h = within _ (s .args .digest .now) _ _ _ (s .pre) (low-byte (byte w)) (byte w .wide .ensures ∙ byte w .before .first-of .ensures) (w .wide2 .ensures) in
-    record { size = p .size; place = omega (arith, h, c .if1 .left, p .bound) }
+    let l = c .before .loop in
+    let p = formed-places _ (l .inv .1 .formed) in
+    record { size = p .size; place = omega (arith, l .inv .0, p .bound) }
 
-returns-2 : tie.Need-returns-2
-returns-2 c =
+returns : tie.Need-returns Inv-loop μ-loop
+returns c =
     let d = c .before .before in
-    let w = d .before .before in
-    here _ _ _ _ _ (start w .pre) (low-byte (byte w)) (byte w .wide .ensures ∙ byte w .before .first-of .ensures) (w .wide2 .ensures)
-    (omega (arith, d .before .if1 .left)) _ (d .digest-at .ensures) (sym (c .before .same .ensures) ∙ c .if2 .taken)
+    let l = d .before .before .loop in
+    let a = start (d .before .before .before) .args in
+    sym (only-place (a .table .now) (a .digest .now) _ (l .inv .1 .formed) (omega (arith, l .inv .0))
+    (ap (λ (b : Bytes). sameBytes b (a .digest .now)) (sym (d .digest-at .ensures)) ∙ sym (c .before .same .ensures) ∙ c .if1 .taken))
 
-place-of-requires : tie.Need-place-of-requires
-place-of-requires c κs =
-    let w = c .before .before .before .before in
-    rw (byte w .before .before .count-of .ensures) (formed-places _ (start w .pre .formed))
+loop-again : tie.Need-loop-again Inv-loop μ-loop
+loop-again c =
+    let d = c .before .before in
+    let l = d .before .before .loop in (
+      omega (arith, l .inv .0),
+      l .inv .1,
+      not-here _ _ _ (l .j) _ (omega arith) (omega arith) (d .digest-at .ensures) (sym (c .before .same .ensures) ∙ c .if1 .left) (l .inv .2),
+    )
 
-returns-3 : tie.Need-returns-3
-returns-3 c =
-    let w = c .before .before .before .before .before in
-    c .place-of .ensures ∙ ap (λ (k : ℕ). placeOf (viewOf (start w .args .table .now)) k (start w .args .digest .now)) (byte w .before .before .count-of .ensures)
+returns-2 : tie.Need-returns-2 Inv-loop μ-loop
+returns-2 c =
+    let l = c .before .before .loop in
+    let a = start (c .before .before .before) .args in
+    c .count-of .ensures ∙ sym (first-nowhere (hasDigest (viewOf (a .table .now)) (a .digest .now)) (countOf (a .table .now)) (λ i h. l .inv .2 i (omega arith) h))
 
 pub find-spec : {M : Type 1} → statement M
 find-spec =
     tie.close
     (tie.spec
-    (λ c κs. formed-places _ (c .before .before .before .pre .formed) .size)
+    Inv-loop
+    μ-loop
     (λ c κs. search needs)
     (λ c κs. search needs)
-    (λ c. let h = low-byte (c .before) in let n = all-bytes (c .before .before .before .before .before .before .before) in search needs)
+    (λ c. let h = low-byte (c .before) in let n = all-bytes (c .before .before .before .before .before .before) in search needs)
     (λ c κs. search needs)
-    returns
+    loop-holds
     (λ c. search needs)
     digest-at-requires
     (λ c κs. search needs)
+    returns
     (λ c. search needs)
-    returns-2
-    place-of-requires
-    returns-3)
+    loop-again
+    (λ c κs. formed-places _ (c .before .loop .inv .1 .formed) .size)
+    returns-2)
