@@ -37,7 +37,7 @@ pub fn index_of(table: &[u8]) -> [u8; INDEX_SIZE]
 }
 
 // The place that holds the block of this digest, or the count. No place above the one in the index begins with the digest's first byte, so the
-// search goes down from there; mostly it ends there, since digests are all different.
+// search goes down from there, and mostly ends at once: few digests begin alike.
 pub fn find(table: &[u8], index: &[u8], digest: &[u8]) -> usize
     requires { ⌜ Indexed (now table) (now index) ⌝ }
     ensures { λ r. ⌜ r ≡ placeOf (viewOf (now (table .entry))) (countOf (now (table .entry))) (now (digest .entry)) ⌝ }
