@@ -1,38 +1,29 @@
 -- Laws of prints: what one number more adds to the masks, and that a print that was not met in its group is that of a new key. Assumes nothing.
-use mathlib.Core.Path.{_≡_, refl, sym, ap, ap₂, _∙_}
-use mathlib.Core.Bool.{Bool, false, _&&_, _||_}
+use mathlib.Core.Path.{_≡_, refl, sym, ap₂, _∙_}
+use mathlib.Core.Bool.{false, _&&_}
 use mathlib.Core.Logic.{_≢_}
 use mathlib.Core.List.{List}
 use Prim.Native.Nat.{ℕ, _+_, _*_, _%_, _^_, _<_}
 use native.Mathlib.Omega.{arith}
 use lib.Bits.{bitOr}
-use lib.Dec.{eqb}
 use lib.ListN.{getD, set}
 use borrow.Author.Tests.{eq-eqb, ne-eqb}
 use Rattle.base.specs.Search.{anyBelow}
 use Rattle.base.specs.Mask.{inMask}
 use Rattle.base.specs.Steps.{printCount, hasPrint, printsBelow, groupsBelow}
-use Rattle.base.proofs.Tests.{true-not-false, or-false}
-use Rattle.base.proofs.Search.{any-false-at, any-more}
-use Rattle.base.proofs.Sets.{mask-has, mask-same, mask-add}
+use Rattle.base.proofs.Tests.{true-not-false}
+use Rattle.base.proofs.Search.{any-false-at}
+use Rattle.base.proofs.Sets.{mask-has, some-put, some-skip}
 use Rattle.base.proofs.List.{list-at, set-list}
 
 module _ (group print : ℕ → ℕ) where
   -- number k more, in its own group and in another
   module _ (k : ℕ) where
     print-put : print k < printCount → bitOr (printsBelow group print k (group k)) (1 * 2 ^ print k % 2 ^ 64) ≡ printsBelow group print (k + 1) (group k)
-    print-put l =
-        mask-add 64 (λ p. anyBelow (hasPrint group print (group k) p) k) printCount (print k) (omega arith) l
-        ∙ mask-same _ _ printCount
-        (λ p h. ap (λ (b : Bool). anyBelow (hasPrint group print (group k) p) k || b) (here p) ∙ sym (any-more (hasPrint group print (group k) p) k))
-      where
-        here : (p : ℕ) → eqb (print k) p ≡ hasPrint group print (group k) p k
-        here p = rw (eq-eqb (group k) (group k) refl)
+    print-put l = some-put (hasPrint group print (group k)) 64 printCount k (print k) (omega arith) l (λ p m. rw (eq-eqb (group k) (group k) refl))
 
     print-skip : (g : ℕ) → g ≢ group k → printsBelow group print k g ≡ printsBelow group print (k + 1) g
-    print-skip g n = mask-same (λ p. anyBelow (hasPrint group print g p) k) (λ p. anyBelow (hasPrint group print g p) (k + 1)) printCount
-        (λ p h. sym (any-more (hasPrint group print g p) k
-        ∙ rw (ne-eqb (group k) g (λ e. n (sym e))) (or-false (anyBelow (hasPrint group print g p) k))))
+    print-skip g n = some-skip (hasPrint group print g) printCount k (λ p m. rw (ne-eqb (group k) g (λ e. n (sym e))))
 
     -- the mask of its group, and one print more in it
     module _ (groups : ℕ) (masks : List ℕ) (l : group k < groups) (e : masks ≡ groupsBelow group print groups k) where

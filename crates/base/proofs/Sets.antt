@@ -1,5 +1,5 @@
 -- Laws of a mask read as a set of places: what is in it, how many, and that none stands from a place on; the full mask,
--- what is in one of two masks and in both, and whether one has all of the other. They hold at every width. Assumes nothing.
+-- what is in one of two masks and in both, one place more, and whether one has all of the other. They hold at every width. Assumes nothing.
 use mathlib.Core.Path.{_≡_, refl, sym, ap, _∙_}
 use mathlib.Core.Bool.{Bool, true, false, not, cond, _&&_, _||_}
 use Prim.Native.Nat.{ℕ, zero, suc, _+_, _-_, _*_, _/_, _%_, _^_, _≤_, _<_, min, max}
@@ -11,11 +11,11 @@ use lib.Pow.{pow-pos, pow-mono, shl-exact, split}
 use lib.Bits.{bitOr, bitAnd, or-lt}
 use lib.Count.{ones}
 use borrow.Author.Tests.{eq-eqb, ne-eqb, eqb-true, le-leb, leb-true, ltb-true, ltb-false, not-true}
-use Rattle.base.specs.Search.{anyBelow}
+use Rattle.base.specs.Search.{firstBelow, anyBelow}
 use Rattle.base.specs.Count.{countBelow}
 use Rattle.base.specs.Mask.{maskBelow, bitAt, inMask}
-use Rattle.base.proofs.Tests.{by-test, true-not-false, not-true-false, and-left, and-right, same-tests}
-use Rattle.base.proofs.Search.{any-false, any-false-at}
+use Rattle.base.proofs.Tests.{by-test, true-not-false, not-true-false, and-left, and-right, or-false, same-tests}
+use Rattle.base.proofs.Search.{any-false, any-false-at, any-more}
 use Rattle.base.proofs.Mask.{mask-below, mask-bit, mask-bit-past, ones-mask, bit-lt, bit-and, bit-or, bit-not, bits-ext}
 use Rattle.base.proofs.TopPlace.{highest-in, lower-in}
 
@@ -163,6 +163,25 @@ mask-add w f k p l h =
   where
     one-mul : (x : ℕ) → 1 * x ≡ x
     one-mul x = omega arith
+
+-- ---- the mask of the places below n that pass with some number below i, where a test takes both
+module _ (f : ℕ → ℕ → Bool) where
+  pub some-none : (n : ℕ) → 0 ≡ maskBelow (λ p. anyBelow (f p) 0) n
+  unfolding maskBelow anyBelow firstBelow
+  some-none zero = refl
+  some-none (suc n) = omega (arith, some-none n)
+
+  -- number i more, with which place p passes and no other
+  pub some-put : (w n i p : ℕ) → n ≤ w → p < n → ((q : ℕ) → q < n → eqb p q ≡ f q i)
+      → bitOr (maskBelow (λ q. anyBelow (f q) i) n) (1 * 2 ^ p % 2 ^ w) ≡ maskBelow (λ q. anyBelow (f q) (i + 1)) n
+  some-put w n i p l h e =
+      mask-add w (λ q. anyBelow (f q) i) n p l h
+      ∙ mask-same _ _ n (λ q m. ap (λ (t : Bool). anyBelow (f q) i || t) (e q m) ∙ sym (any-more (f q) i))
+
+  -- with which none passes
+  pub some-skip : (n i : ℕ) → ((q : ℕ) → q < n → f q i ≡ false) → maskBelow (λ q. anyBelow (f q) i) n ≡ maskBelow (λ q. anyBelow (f q) (i + 1)) n
+  some-skip n i e = mask-same _ _ n
+      (λ q m. sym (any-more (f q) i ∙ ap (λ (t : Bool). anyBelow (f q) i || t) (e q m) ∙ or-false (anyBelow (f q) i)))
 
 -- the code's test `marked | m == marked`: no place of m fails the test that the mask was made by
 pub none-outside : (w : ℕ) (f : ℕ → Bool) (m : ℕ) → m < 2 ^ w → eqb (bitOr (maskBelow f w) m) (maskBelow f w) ≡ not (anyBelow (λ p. inMask m p && not (f p)) w)

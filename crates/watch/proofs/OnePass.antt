@@ -1,20 +1,19 @@
 -- The turns of the pass that finds the forked sites: a block whose print is new at its site repeats no sequence number, and one place more adds
 -- at most its own site to the mask. Assumes nothing.
-use mathlib.Core.Path.{_≡_, refl, sym, ap, _∙_}
-use mathlib.Core.Bool.{Bool, true, false, _||_, and-false}
-use Prim.Native.Nat.{ℕ, zero, suc, _+_, _*_, _%_, _^_, _≤_, _<_}
+use mathlib.Core.Path.{_≡_, sym, ap, _∙_}
+use mathlib.Core.Bool.{true, false, and-false}
+use Prim.Native.Nat.{ℕ, _+_, _*_, _%_, _^_, _≤_, _<_}
 use native.Mathlib.Nat.{mod-lt}
-use native.Mathlib.Omega.{arith}
 use lib.Bits.{bitOr}
 use lib.Dec.{eqb, lit<}
 use borrow.Author.Tests.{ne-eqb, eqb-true, eqb-false}
-use Rattle.base.specs.Search.{firstBelow, anyBelow}
+use Rattle.base.specs.Search.{anyBelow}
 use Rattle.base.specs.Mask.{maskBelow, inMask}
 use Rattle.base.specs.Steps.{printCount}
 use Rattle.base.specs.Bytes.{Bytes}
-use Rattle.base.proofs.Tests.{by-test, not-true-false, and-left, and-right, or-false}
-use Rattle.base.proofs.Search.{any-false, any-more}
-use Rattle.base.proofs.Sets.{mask-same, mask-add}
+use Rattle.base.proofs.Tests.{by-test, not-true-false, and-left, and-right}
+use Rattle.base.proofs.Search.{any-false}
+use Rattle.base.proofs.Sets.{some-put, some-skip}
 use Rattle.base.proofs.Prints.{new-print}
 use Rattle.table.specs.Layout.{siteAt, sequenceAt, viewOf}
 use Rattle.watch.specs.Forks.{everywhere, ofSite, ofSequence, repeatedAt}
@@ -39,30 +38,19 @@ module _ (t : Bytes) (i : ℕ) where
 abbrev pub forkedBelow : Bytes → ℕ → ℕ → ℕ
 forkedBelow t n i = maskBelow (λ p. anyBelow (repeatedAt (viewOf t) everywhere p) i) n
 
--- no place, no site
-pub forked-none : (t : Bytes) (n : ℕ) → 0 ≡ forkedBelow t n 0
-unfolding maskBelow anyBelow firstBelow
-forked-none t zero = refl
-forked-none t (suc n) = omega (arith, forked-none t n)
-
 module _ (t : Bytes) (n i : ℕ) where
   -- at place i, a block of another site repeats nothing of this one
   other-site : (p : ℕ) → (siteAt t i ≡ p → ⊥) → repeatedAt (viewOf t) everywhere p i ≡ false
   other-site p d = rw (ne-eqb (siteAt t i) p d, and-false (everywhere i))
 
-  -- one place more, where a test says which sites its block shows to be forked
-  turn : (m : ℕ) (g : ℕ → Bool) → m ≡ maskBelow (λ p. anyBelow (repeatedAt (viewOf t) everywhere p) i || g p) n
-      → ((p : ℕ) → g p ≡ repeatedAt (viewOf t) everywhere p i) → m ≡ forkedBelow t n (i + 1)
-  turn m g q h = q ∙ mask-same _ _ n
-      (λ p l. ap (λ (b : Bool). anyBelow (repeatedAt (viewOf t) everywhere p) i || b) (h p) ∙ sym (any-more (repeatedAt (viewOf t) everywhere p) i))
-
+  -- one place more: its site is put in, or no site is
   pub forked-put : n ≤ 16 → (site : ℕ) → site ≡ siteAt t i → site < n → repeatedAt (viewOf t) everywhere (siteAt t i) i ≡ true
       → bitOr (forkedBelow t n i) (1 * 2 ^ site % 2 ^ 16) ≡ forkedBelow t n (i + 1)
-  forked-put few site e l y = turn _ (λ p. eqb site p) (mask-add 16 _ n site few l) (λ p. by-test (eqb site p)
+  forked-put few site e l y = some-put (repeatedAt (viewOf t) everywhere) 16 n i site few l (λ p m. by-test (eqb site p)
       (λ z. let q = sym (eqb-true site p z) ∙ e in z ∙ sym (ap (λ (x : ℕ). repeatedAt (viewOf t) everywhere x i) q ∙ y))
       (λ z. z ∙ sym (other-site p (λ q. eqb-false site p z (e ∙ q)))))
 
   pub forked-skip : repeatedAt (viewOf t) everywhere (siteAt t i) i ≡ false → forkedBelow t n i ≡ forkedBelow t n (i + 1)
-  forked-skip z = turn _ (λ p. false) (mask-same _ _ n (λ p l. sym (or-false _))) (λ p. by-test (eqb (siteAt t i) p)
-      (λ y. sym (ap (λ (x : ℕ). repeatedAt (viewOf t) everywhere x i) (sym (eqb-true (siteAt t i) p y)) ∙ z))
-      (λ d. sym (other-site p (eqb-false (siteAt t i) p d))))
+  forked-skip z = some-skip (repeatedAt (viewOf t) everywhere) n i (λ p m. by-test (eqb (siteAt t i) p)
+      (λ y. ap (λ (x : ℕ). repeatedAt (viewOf t) everywhere x i) (sym (eqb-true (siteAt t i) p y)) ∙ z)
+      (λ d. other-site p (eqb-false (siteAt t i) p d)))

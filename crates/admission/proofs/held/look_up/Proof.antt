@@ -10,13 +10,14 @@ use lib.ListN.{length}
 use borrow.Author.Needs.{needs}
 use Rattle.base.specs.Search.{firstBelow}
 use Rattle.base.proofs.Search.{first-none, first-more-failing, first-more-passing}
+use Rattle.base.proofs.Sets.{some-none}
 use Rattle.block.specs.Limits.{referenceSize}
 use Rattle.block.specs.Layout.{referenceAt}
 use Rattle.table.specs.Layout.{countOf, viewOf}
 use Rattle.table.specs.Rules.{placeOf}
 use Rattle.table.specs.Steps.{Indexed}
 use Rattle.table.proofs.Formed.{formed-places}
-use Rattle.admission.proofs.LookUp.{namedBy, named-none, named-put, named-skip, absent, is-absent, is-there}
+use Rattle.admission.proofs.LookUp.{names, namedBy, named-put, named-skip, absent, is-absent, is-there}
 use Rattle.admission.proofs.held.look_up.Statement.{statement}
 use Rattle.admission.proofs.held.look_up.Tie as tie
 
@@ -29,7 +30,7 @@ abbrev μ-loop : tie.MeasureT-loop
 μ-loop table index list k p places₀ missing₀ i₀ places missing i = p - i
 
 loop-holds : tie.Need-loop-holds Inv-loop μ-loop
-loop-holds c = (omega arith, c .count-of .ensures, refl, search needs, named-none _ _ _, sym (first-none _))
+loop-holds c = (omega arith, c .count-of .ensures, refl, search needs, some-none (names (c .before .before .before .before .args .table .now) (c .before .before .before .before .args .list .now)) _, sym (first-none _))
 
 -- the place found for the reference
 place : (c : tie.After-find Inv-loop μ-loop) → let l = c .before .before .before in let a = l .before .before .before .before .before .args in

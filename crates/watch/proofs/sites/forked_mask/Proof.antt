@@ -11,12 +11,13 @@ use Rattle.base.specs.Search.{anyBelow, firstBelow}
 use Rattle.base.specs.List.{listBelow}
 use Rattle.base.specs.Mask.{maskBelow}
 use Rattle.base.specs.Steps.{printCount, groupsBelow}
+use Rattle.base.proofs.Sets.{some-none}
 use Rattle.base.proofs.Prints.{group-mask, group-more}
 use Rattle.setup.specs.Setup.{maxSites}
-use Rattle.table.specs.Layout.{setupOf, countOf, siteAt}
-use Rattle.watch.specs.Forks.{forkedIn}
+use Rattle.table.specs.Layout.{setupOf, countOf, siteAt, viewOf}
+use Rattle.watch.specs.Forks.{everywhere, repeatedAt, forkedIn}
 use Rattle.watch.specs.Steps.{Ready, printAt, printsMet}
-use Rattle.watch.proofs.OnePass.{print-lt, forkedBelow, forked-none, forked-put, forked-skip}
+use Rattle.watch.proofs.OnePass.{print-lt, forkedBelow, forked-put, forked-skip}
 use Rattle.watch.proofs.sites.forked_mask.Statement.{statement}
 use Rattle.watch.proofs.sites.forked_mask.Tie as tie
 
@@ -30,7 +31,7 @@ abbrev μ-loop : tie.MeasureT-loop
 
 loop-holds : tie.Need-loop-holds Inv-loop μ-loop
 unfolding maskBelow listBelow anyBelow firstBelow
-loop-holds c = let t = c .before .before .args .table .now in (omega arith, c .count-of .ensures, search needs, forked-none t (setupOf t .sites), refl)
+loop-holds c = let t = c .before .before .args .table .now in (omega arith, c .count-of .ensures, search needs, some-none (repeatedAt (viewOf t) everywhere) (setupOf t .sites), refl)
 
 abbrev loop : tie.After-wide Inv-loop μ-loop → tie.At-loop Inv-loop μ-loop
 loop c = c .before .before .before
