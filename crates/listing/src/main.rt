@@ -12,11 +12,11 @@ use table::TABLE_SIZE;
 ghost use mathlib.Core.Path.{_≡_};
 ghost use mathlib.Core.Bool.{true};
 ghost use mathlib.Core.List.{[]};
-ghost use Prim.Native.Nat.{_≤_, _<_};
+ghost use Prim.Native.Nat.{_+_, _≤_, _<_};
 ghost use lib.ListN.{length, length as ListN·length, take, drop};
 ghost use Rattle.base.specs.Bytes.{Bytes, splice};
 ghost use Rattle.sha256.specs.Sha256.{sha256};
-ghost use Rattle.report.specs.Framing.{pieceSize, linesSize};
+ghost use Rattle.report.specs.Framing.{pieceSize, wanted as Framing·wanted, linesSize};
 ghost use Rattle.report.specs.Gathering.{progress, turn as Gathering·turn};
 
 // How many bytes stand at the front of the input, whether no more will come, and whether reading or writing failed.
@@ -60,7 +60,7 @@ fn say(message: &[u8]) {
 // Reads on where more may come, and fewer bytes are there than are wanted.
 fn read_on(input: &mut [u8], count: usize, is_ended: bool, wanted: usize) -> Front
     requires { ⌜ (count ≤ length (now input)) × (wanted ≤ length (now input)) ⌝ }
-    ensures { λ r. ⌜ (count ≤ r .count) × (r .count ≤ length (now (input .exit))) × (r .«is_ended» ≡ true → r .count ≡ count) × («is_ended» ≡ true → r .«is_ended» ≡ true) ⌝ }
+    ensures { λ r. ⌜ (count ≤ r .count) × (r .count ≤ length (now (input .exit))) × (r .«is_ended» ≡ true → r .count ≡ count) × («is_ended» ≡ true → r .«is_ended» ≡ true) × (wanted ≤ count → r .count ≡ count) ⌝ }
     ensures { λ _. ⌜ take count (now (input .exit)) ≡ take count (now (input .entry)) ⌝ }
 {
     if is_ended {
@@ -114,7 +114,7 @@ fn write_and_read(
     length: usize,
 ) -> Progress
     requires { ⌜ (count ≤ ListN·length (now input)) × (pieceSize ≤ ListN·length (now input)) × (length ≤ ListN·length (now output)) ⌝ }
-    ensures { λ r. ⌜ (r .state ≡ state) × (count ≤ r .count) × (r .count ≤ ListN·length (now (input .exit))) × (r .«is_ended» ≡ true → r .count ≡ count) × («is_ended» ≡ true → r .«is_ended» ≡ true) ⌝ }
+    ensures { λ r. ⌜ (r .state ≡ state) × (count ≤ r .count) × (r .count ≤ ListN·length (now (input .exit))) × (r .«is_ended» ≡ true → r .count ≡ count) × («is_ended» ≡ true → r .«is_ended» ≡ true) × (Framing·wanted state ≤ count → r .count ≡ count) ⌝ }
     ensures { λ _. ⌜ take count (now (input .exit)) ≡ take count (now (input .entry)) ⌝ }
 {
     if write_front(output, length) {
@@ -144,7 +144,7 @@ fn write_and_read(
 }
 
 // One turn: the steps that are due, with their lines, and then the bytes that come. It is the definition's turn, for the bytes that came: none
-// where the input is at its end, and there it stays.
+// where the input is at its end, and there it stays; and none where the bytes that the next step wants are there without them.
 fn turn(
     before: Progress,
     table: &mut [u8],
@@ -153,7 +153,7 @@ fn turn(
     output: &mut [u8],
 ) -> Progress
     requires { ⌜ (before .count ≤ length (now input)) × (pieceSize ≤ length (now input)) × (linesSize ≤ length (now output)) ⌝ }
-    ensures { λ r. ⌜ ((came : Bytes) × (lines : Bytes) × (progress (r .state) (now (table .exit)) (now (records .exit)) (take (r .count) (now (input .exit))) lines ≡ Gathering·turn sha256 (length (now (output .entry))) (before .«is_ended») (progress (before .state) (now (table .entry)) (now (records .entry)) (take (before .count) (now (input .entry))) []) came) × (now (output .exit) ≡ splice (now (output .entry)) 0 lines) × (r .«is_ended» ≡ true → came ≡ [])) ⌝ }
+    ensures { λ r. ⌜ ((came : Bytes) × (lines : Bytes) × (progress (r .state) (now (table .exit)) (now (records .exit)) (take (r .count) (now (input .exit))) lines ≡ Gathering·turn sha256 (length (now (output .entry))) (before .«is_ended») (progress (before .state) (now (table .entry)) (now (records .entry)) (take (before .count) (now (input .entry))) []) came) × (now (output .exit) ≡ splice (now (output .entry)) 0 lines) × (r .«is_ended» ≡ true → came ≡ []) × (Framing·wanted (r .state) + length came ≤ r .count → came ≡ [])) ⌝ }
     ensures { λ r. ⌜ (r .count ≤ length (now (input .exit))) × (before .«is_ended» ≡ true → r .«is_ended» ≡ true) ⌝ }
 {
     let state = before.state;

@@ -13,8 +13,8 @@ use Rattle.base.proofs.Tests.{by-test}
 use Rattle.sha256.specs.Sha256.{sha256}
 use Rattle.agreement.specs.Run.{Site}
 use Rattle.report.specs.Framing.{wanted, Outcome, stepped, linesSize, linesOf, handed}
-use Rattle.report.specs.Gathering.{Gathering, noSteps, isDue, pieceAt, outcomeAt, siteAt, due, oneMore, gatherOn, gathering}
-use Rattle.report.specs.Steps.{siteWith, advanced}
+use Rattle.report.specs.Gathering.{siteWith, Gathering, noSteps, isDue, pieceAt, outcomeAt, siteSteppedAt, due, oneMore, gatherOn, gathering}
+use Rattle.report.specs.Steps.{advanced}
 use Rattle.report.specs.declared.State.{State}
 use Rattle.report.specs.declared.Gathered.{Gathered}
 use Rattle.report.specs.declared.Stepped.{Stepped}
@@ -117,8 +117,8 @@ module _ (unread : Bytes) (isEnded : Bool) (output : Bytes) (s : State) (x : Sit
 
       module _ (table₁ : Bytes) (records₁ : List ℕ) (out₁ : Bytes) (done₁ : Gathered)
           (e : done₁ ≡ advanced sha256 done (siteWith table records) unread)
-          (t : table₁ ≡ siteAt sha256 (done .state) (siteWith table records) (done .used) unread .table)
-          (r : records₁ ≡ siteAt sha256 (done .state) (siteWith table records) (done .used) unread .records) where
+          (t : table₁ ≡ siteSteppedAt sha256 (done .state) (siteWith table records) (done .used) unread .table)
+          (r : records₁ ≡ siteSteppedAt sha256 (done .state) (siteWith table records) (done .used) unread .records) where
         abbrev next : Gathering
         next = oneMore sha256 unread isEnded size g
 

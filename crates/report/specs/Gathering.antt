@@ -11,6 +11,10 @@ use Rattle.report.specs.Framing.{wanted, Outcome, start, stepped, siteSt
 use Rattle.report.specs.declared.State.{State}
 use Rattle.report.specs.declared.Gathered.{Gathered}
 
+-- a site by what is lent
+abbrev pub siteWith : Bytes → List ℕ → Site
+siteWith table records = record { table = table; records = records }
+
 -- what the steps so far came to: the next state, the site, how many of the unread bytes they used, their lines, and how many they were
 pub record Gathering : Type 0 where
   pub state : State
@@ -41,7 +45,7 @@ pub record Progress : Type 0 where
 
 -- the same of a site's table and records
 abbrev pub progress : State → Bytes → List ℕ → Bytes → Bytes → Progress
-progress s table records unread lines = record { state = s; site = record { table = table; records = records }; unread = unread; lines = lines }
+progress s table records unread lines = record { state = s; site = siteWith table records; unread = unread; lines = lines }
 
 -- before the first byte
 abbrev pub nothingRead : Site → Progress
@@ -52,8 +56,8 @@ module _ (digest : Bytes → Bytes) where
   abbrev pub outcomeAt : State → Site → ℕ → Bytes → Outcome
   outcomeAt s x used unread = stepped digest s x (pieceAt s used unread)
 
-  abbrev pub siteAt : State → Site → ℕ → Bytes → Site
-  siteAt s x used unread = siteStepped digest s x (pieceAt s used unread)
+  abbrev pub siteSteppedAt : State → Site → ℕ → Bytes → Site
+  siteSteppedAt s x used unread = siteStepped digest s x (pieceAt s used unread)
 
   -- the unread bytes, whether no more will come, and the output's size
   module _ (unread : Bytes) (isEnded : Bool) (size : ℕ) where
@@ -65,7 +69,7 @@ module _ (digest : Bytes → Bytes) where
     oneMore g =
         record {
           state = outcomeAt (g .state) (g .site) (g .used) unread .state;
-          site = siteAt (g .state) (g .site) (g .used) unread;
+          site = siteSteppedAt (g .state) (g .site) (g .used) unread;
           used = g .used + length (pieceAt (g .state) (g .used) unread);
           lines = g .lines ++ outcomeAt (g .state) (g .site) (g .used) unread .lines;
           steps = suc (g .steps);

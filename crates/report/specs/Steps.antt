@@ -1,15 +1,10 @@
 -- What the contracts of inner functions cite. Nothing here need be believed.
-use mathlib.Core.List.{List}
-use Prim.Native.Nat.{ℕ, _+_}
+use Prim.Native.Nat.{_+_}
 use lib.ListN.{length}
 use Rattle.base.specs.Bytes.{Bytes}
 use Rattle.agreement.specs.Run.{Site}
 use Rattle.report.specs.Gathering.{pieceAt, outcomeAt}
 use Rattle.report.specs.declared.Gathered.{Gathered}
-
--- a site by what is lent
-abbrev pub siteWith : Bytes → List ℕ → Site
-siteWith table records = record { table = table; records = records }
 
 -- one step more of what is gathered, of whose lines only the length is kept
 abbrev pub advanced : (Bytes → Bytes) → Gathered → Site → Bytes → Gathered

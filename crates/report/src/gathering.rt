@@ -8,8 +8,8 @@ ghost use lib.ListN.{length};
 ghost use Rattle.base.specs.Bytes.{splice};
 ghost use Rattle.sha256.specs.Sha256.{sha256};
 ghost use Rattle.report.specs.Framing.{linesSize};
-ghost use Rattle.report.specs.Gathering.{isDue, outcomeAt, siteAt, gathering as Gathering·gathering, gatheredOf};
-ghost use Rattle.report.specs.Steps.{siteWith, advanced};
+ghost use Rattle.report.specs.Gathering.{siteWith, isDue, outcomeAt, siteSteppedAt, gathering as Gathering·gathering, gatheredOf};
+ghost use Rattle.report.specs.Steps.{advanced};
 
 // Whether the next step is due, with so many bytes that came, and an output of this size.
 fn is_due(done: Gathered, count: usize, is_ended: bool, size: usize) -> bool
@@ -49,8 +49,8 @@ fn advance(
 ) -> Gathered
     requires { ⌜ (done .used ≤ length (now unread)) × (done .length + linesSize ≤ length (now output)) ⌝ }
     ensures { λ r. ⌜ r ≡ advanced sha256 done (siteWith (now (table .entry)) (now (records .entry))) (now (unread .entry)) ⌝ }
-    ensures { λ _. ⌜ now (table .exit) ≡ siteAt sha256 (done .state) (siteWith (now (table .entry)) (now (records .entry))) (done .used) (now (unread .entry)) .table ⌝ }
-    ensures { λ _. ⌜ now (records .exit) ≡ siteAt sha256 (done .state) (siteWith (now (table .entry)) (now (records .entry))) (done .used) (now (unread .entry)) .records ⌝ }
+    ensures { λ _. ⌜ now (table .exit) ≡ siteSteppedAt sha256 (done .state) (siteWith (now (table .entry)) (now (records .entry))) (done .used) (now (unread .entry)) .table ⌝ }
+    ensures { λ _. ⌜ now (records .exit) ≡ siteSteppedAt sha256 (done .state) (siteWith (now (table .entry)) (now (records .entry))) (done .used) (now (unread .entry)) .records ⌝ }
     ensures { λ _. ⌜ now (output .exit) ≡ splice (now (output .entry)) (done .length) (outcomeAt sha256 (done .state) (siteWith (now (table .entry)) (now (records .entry))) (done .used) (now (unread .entry)) .lines) ⌝ }
     ensures { λ r. ⌜ r .length ≤ length (now (output .entry)) ⌝ }
 {

@@ -17,17 +17,17 @@ use Rattle.base.proofs.Sets.{some-put, some-skip}
 use Rattle.base.proofs.Prints.{new-print}
 use Rattle.table.specs.Layout.{siteAt, sequenceAt, viewOf}
 use Rattle.watch.specs.Forks.{everywhere, ofSite, ofSequence, repeatedAt}
-use Rattle.watch.specs.Steps.{printAt, printsMet}
+use Rattle.watch.specs.Steps.{sequencePrint, sequencePrintsMet}
 
 module _ (t : Bytes) (i : ℕ) where
-  pub print-lt : printAt t i < printCount
+  pub print-lt : sequencePrint t i < printCount
   print-lt = mod-lt (sequenceAt t i) (lit< tt)
 
-  pub new-sequence : inMask (printsMet t i) (printAt t i) ≡ false → repeatedAt (viewOf t) everywhere (siteAt t i) i ≡ false
+  pub new-sequence : inMask (sequencePrintsMet t i) (sequencePrint t i) ≡ false → repeatedAt (viewOf t) everywhere (siteAt t i) i ≡ false
   new-sequence n = rw none (and-false (ofSite (viewOf t) everywhere (siteAt t i) i))
     where
       another : (j : ℕ) → j < i → ofSequence (viewOf t) everywhere (siteAt t i) (sequenceAt t i) j ≡ true → ⊥
-      another j h y = new-print (siteAt t) (printAt t) i print-lt n j h
+      another j h y = new-print (siteAt t) (sequencePrint t) i print-lt n j h
           (eqb-true (siteAt t j) (siteAt t i) (and-right (everywhere j) _ (and-left (ofSite (viewOf t) everywhere (siteAt t i) j) _ y)))
           (ap (λ (x : ℕ). x % printCount) (eqb-true (sequenceAt t j) (sequenceAt t i) (and-right (ofSite (viewOf t) everywhere (siteAt t i) j) _ y)))
 

@@ -16,12 +16,12 @@ pub record Ready (t : Bytes) : Type 0 where
   pub sites : (i : ℕ) → i < countOf t → siteAt t i < setupOf t .sites
 
 -- a block's print among those of its site, by its sequence number
-abbrev pub printAt : Bytes → ℕ → ℕ
-printAt t i = sequenceAt t i % printCount
+abbrev pub sequencePrint : Bytes → ℕ → ℕ
+sequencePrint t i = sequenceAt t i % printCount
 
 -- the mask of the prints of its site that the lower places have
-abbrev pub printsMet : Bytes → ℕ → ℕ
-printsMet t i = printsBelow (siteAt t) (printAt t) i (siteAt t i)
+abbrev pub sequencePrintsMet : Bytes → ℕ → ℕ
+sequencePrintsMet t i = printsBelow (siteAt t) (sequencePrint t) i (siteAt t i)
 
 -- a mask of places after each place below k that is in it, from the highest on, has added the places that it refers to
 unfoldable pub gathered : Bytes → ℕ → ℕ → ℕ

@@ -7,7 +7,7 @@ ghost use Rattle.base.specs.Mask.{inMask};
 ghost use Rattle.table.specs.Layout.{setupOf, countOf, siteAt, viewOf};
 ghost use Rattle.table.specs.Steps.{Place, Places};
 ghost use Rattle.watch.specs.Forks.{everywhere, ofSite, ofSequence, repeatedAt, forkedIn, forkedMask};
-ghost use Rattle.watch.specs.Steps.{Ready, printAt, printsMet};
+ghost use Rattle.watch.specs.Steps.{Ready, sequencePrint, sequencePrintsMet};
 
 // Every place is looked at.
 pub const EVERYWHERE: u64 = 0xffff_ffff_ffff_ffff;
@@ -77,9 +77,9 @@ pub fn forked(table: &[u8], seen: u64, site: u8) -> bool
 }
 
 // A block's print among those of its site: blocks with one sequence number have it in common.
-fn print_at(table: &[u8], i: usize) -> usize
+fn sequence_print(table: &[u8], i: usize) -> usize
     requires { ⌜ Place (now table) i ⌝ }
-    ensures { λ r. ⌜ r ≡ printAt (now (table .entry)) i ⌝ }
+    ensures { λ r. ⌜ r ≡ sequencePrint (now (table .entry)) i ⌝ }
 {
     (rows::sequence_at(table, i) as usize) % base::PRINTS
 }
@@ -87,10 +87,10 @@ fn print_at(table: &[u8], i: usize) -> usize
 // Whether a lower place holds a block of the same site and sequence number, where `prints` is the mask of the prints of its site that the lower
 // places have. No place is looked at where its own print is not among them.
 fn is_fork(table: &[u8], i: usize, prints: u64) -> bool
-    requires { ⌜ Place (now table) i × (prints ≡ printsMet (now table) i) ⌝ }
+    requires { ⌜ Place (now table) i × (prints ≡ sequencePrintsMet (now table) i) ⌝ }
     ensures { λ r. ⌜ r ≡ repeatedAt (viewOf (now (table .entry))) everywhere (siteAt (now (table .entry)) i) i ⌝ }
 {
-    if !base::in_mask(prints, print_at(table, i)) {
+    if !base::in_mask(prints, sequence_print(table, i)) {
         return false;
     }
     repeats(table, EVERYWHERE, i, rows::site_at(table, i))
@@ -111,7 +111,7 @@ pub fn forked_mask(table: &[u8]) -> u16
         if is_fork(table, i, prints) {
             mask = mask | (1u16 << site);
         }
-        of_site[site] = prints | (1u64 << print_at(table, i));
+        of_site[site] = prints | (1u64 << sequence_print(table, i));
         i += 1;
     }
     mask

@@ -9,6 +9,7 @@ use lib.Seq.{take-take, length-take-le}
 use Rattle.base.specs.Bytes.{Bytes, splice}
 use Rattle.base.proofs.Splice.{take-splice}
 use Rattle.sha256.specs.Sha256.{sha256}
+use Rattle.report.specs.Framing.{wanted}
 use Rattle.report.specs.Gathering.{Gathering, gathering, Progress, progress}
 use Rattle.report.specs.declared.State.{State}
 use Rattle.report.specs.declared.Gathered.{Gathered}
@@ -39,6 +40,10 @@ module _ (before moved after : Bytes) (used count n : ℕ) (low : used ≤ count
 
   unread-after : take n after ≡ drop used (take count before) ++ drop (count - used) (take n after)
   unread-after = sym (take-append-drop (count - used) (take n after)) ∙ ap (λ (b : Bytes). b ++ came) (take-take (count - used) n after more ∙ k ∙ left-first)
+
+  -- what came is what is there less what stayed
+  came-length : length (drop (count - used) (take n after)) ≡ n - (count - used)
+  came-length = length-drop (count - used) (take n after) ∙ ap (λ (m : ℕ). m - (count - used)) (length-take-le n after there)
 
   none-came : n ≡ count - used → drop (count - used) (take n after) ≡ []
   none-came e = drop-of-length-le (take n after) {i = count - used} (omega (arith, length-take n after))
@@ -111,6 +116,7 @@ returns c =
     let came = drop (a .before .count - used) (take n after) in
     let e = w .write-and-read .ensures in
     let stays = unread-after (a .input .now) (m .to-front .last .0) after used (a .before .count) n (used-there g) (s .pre .0) (m .to-front .ensures) (e .1) (e .0 .1) (e .0 .2) in
+    let size = came-length (a .input .now) (m .to-front .last .0) after used (a .before .count) n (used-there g) (s .pre .0) (m .to-front .ensures) (e .1) (e .0 .1) (e .0 .2) in
     let none = none-came (a .input .now) (m .to-front .last .0) after used (a .before .count) n (used-there g) (s .pre .0) (m .to-front .ensures) (e .1) (e .0 .1) (e .0 .2) in (
       (
         came,
@@ -120,6 +126,7 @@ returns c =
             (stays ∙ ap (λ (k : ℕ). drop k (take (a .before .count) (a .input .now)) ++ came) (used-is g)) refl,
         g .gather .ensures .1 .1 .1,
         λ z. none (e .0 .3 z),
+        λ h. none (e .0 .5 (omega (arith, h, size, ap wanted (e .0 .0), e .0 .1))),
       ),
       (e .0 .2, e .0 .4),
     )

@@ -7,8 +7,7 @@ use native.Mathlib.Omega.{arith}
 use lib.ListN.{length}
 use Rattle.base.specs.Bytes.{Bytes, splice}
 use Rattle.agreement.specs.Run.{Site}
-use Rattle.report.specs.Gathering.{Gathering, isDue, gatheredOf}
-use Rattle.report.specs.Steps.{siteWith}
+use Rattle.report.specs.Gathering.{siteWith, Gathering, isDue, gatheredOf}
 use Rattle.report.specs.declared.Gathered.{Gathered}
 use Rattle.report.proofs.AllDue.{work}
 use Rattle.report.proofs.Advanced.{soFar, Leads, leads-start, leads-end, leads-less, leads-next, same-size, has-room}

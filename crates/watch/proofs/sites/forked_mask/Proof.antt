@@ -16,7 +16,7 @@ use Rattle.base.proofs.Prints.{group-mask, group-more}
 use Rattle.setup.specs.Setup.{maxSites}
 use Rattle.table.specs.Layout.{setupOf, countOf, siteAt, viewOf}
 use Rattle.watch.specs.Forks.{everywhere, repeatedAt, forkedIn}
-use Rattle.watch.specs.Steps.{Ready, printAt, printsMet}
+use Rattle.watch.specs.Steps.{Ready, sequencePrint, sequencePrintsMet}
 use Rattle.watch.proofs.OnePass.{print-lt, forkedBelow, forked-put, forked-skip}
 use Rattle.watch.proofs.sites.forked_mask.Statement.{statement}
 use Rattle.watch.proofs.sites.forked_mask.Tie as tie
@@ -24,7 +24,7 @@ use Rattle.watch.proofs.sites.forked_mask.Tie as tie
 abbrev Inv-loop : tie.InvT-loop
 Inv-loop table k mask₀ ofSite₀ i₀ mask ofSite i =
     (i ≤ k) × (k ≡ countOf table) × Ready table × (mask ≡ forkedBelow table (setupOf table .sites) i)
-    × (ofSite ≡ groupsBelow (siteAt table) (printAt table) maxSites i)
+    × (ofSite ≡ groupsBelow (siteAt table) (sequencePrint table) maxSites i)
 
 abbrev μ-loop : tie.MeasureT-loop
 μ-loop table k mask₀ ofSite₀ i₀ mask ofSite i = k - i
@@ -53,14 +53,14 @@ site-within : (c : tie.After-wide Inv-loop μ-loop) → siteAt (start c .args .t
 site-within c = omega (arith, site c, within c)
 
 -- the prints of its site
-prints : (c : tie.After-wide Inv-loop μ-loop) → getD (loop c .loop .of-site) (c .wide .result) 0 ≡ printsMet (start c .args .table .now) (loop c .loop .i)
+prints : (c : tie.After-wide Inv-loop μ-loop) → getD (loop c .loop .of-site) (c .wide .result) 0 ≡ sequencePrintsMet (start c .args .table .now) (loop c .loop .i)
 prints c =
     let l = loop c .loop in
     let t = start c .args .table .now in
-    ap (λ (x : ℕ). getD (l .of-site) x 0) (site c) ∙ group-mask (siteAt t) (printAt t) (l .i) maxSites _ (site-within c) (l .inv .4)
+    ap (λ (x : ℕ). getD (l .of-site) x 0) (site c) ∙ group-mask (siteAt t) (sequencePrint t) (l .i) maxSites _ (site-within c) (l .inv .4)
 
-print : (c : tie.After-print-at Inv-loop μ-loop) → c .print-at .result < printCount
-print c = let w = c .before .before .before in omega (arith, c .print-at .ensures, print-lt (start w .args .table .now) (loop w .loop .i))
+print : (c : tie.After-sequence-print Inv-loop μ-loop) → c .sequence-print .result < printCount
+print c = let w = c .before .before .before in omega (arith, c .sequence-print .ensures, print-lt (start w .args .table .now) (loop w .loop .i))
 
 loop-again : tie.Need-loop-again Inv-loop μ-loop
 loop-again c =
@@ -77,7 +77,7 @@ loop-again c =
           ∙ forked-put t n (l .i) (l .inv .2 .few) _ (site w) (entered w) (sym (j .before .is-fork .ensures) ∙ y .0 .taken))
           (λ z. z .1 ∙ l .inv .3 ∙ forked-skip t n (l .i) (sym (j .before .is-fork .ensures) ∙ z .0 .left))
           (j .if1 .came),
-      group-more (siteAt t) (printAt t) (l .i) maxSites _ (site-within w) (l .inv .4) _ _ (site w) (c .print-at .ensures) (print-lt t (l .i)),
+      group-more (siteAt t) (sequencePrint t) (l .i) maxSites _ (site-within w) (l .inv .4) _ _ (site w) (c .sequence-print .ensures) (print-lt t (l .i)),
     )
 
 returns : tie.Need-returns Inv-loop μ-loop

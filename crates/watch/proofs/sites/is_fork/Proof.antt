@@ -17,7 +17,7 @@ returns : tie.Need-returns
 returns c =
     let s = c .before .before .before .before in
     sym (new-sequence (s .args .table .now) (s .args .i)
-    (sym (c .before .in-mask .ensures ∙ ap₂ inMask (s .pre .1) (c .before .before .print-at .ensures)) ∙ not-true _ (c .if1 .taken)))
+    (sym (c .before .in-mask .ensures ∙ ap₂ inMask (s .pre .1) (c .before .before .sequence-print .ensures)) ∙ not-true _ (c .if1 .taken)))
 
 returns-2 : tie.Need-returns-2
 returns-2 c =
