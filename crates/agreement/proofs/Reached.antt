@@ -11,11 +11,13 @@ use lib.Dec.{eqb}
 use lib.ListN.{length}
 use borrow.Author.Tests.{eqb-true, eqb-false, lt-ltb}
 use Rattle.base.specs.Bytes.{Bytes, splice}
-use Rattle.base.proofs.Tests.{by-test}
+use Rattle.base.proofs.Tests.{by-test, same-tests}
 use Rattle.block.specs.Limits.{referenceSize, slotCount}
 use Rattle.block.specs.Layout.{siteOf, sequenceOf, referencesOf, requestFor}
 use Rattle.block.specs.Reading.{reading, fieldsOf}
 use Rattle.block.specs.declared.Reading.the-variants.{Block}
+use Rattle.block.specs.Steps.{Shaped}
+use Rattle.block.proofs.Accepted.{reading-accepted}
 use Rattle.block.specs.declared.Answer.{Answer}
 use Rattle.setup.specs.Setup.{Setup, lawful}
 use Rattle.table.specs.View.{maxPlaces}
@@ -27,6 +29,7 @@ use Rattle.table.proofs.Formed.{formed-of, formed-row}
 use Rattle.table.proofs.Canonical.{Canonical, row-canonical, mark-canonical}
 use Rattle.admission.specs.Admission.{lists, rowFor, admission, admitted}
 use Rattle.admission.proofs.Promises.{promises}
+use Rattle.admission.proofs.Listed.{lists-member, member-lists}
 use Rattle.interpret.specs.Buffer.{partStart, partSize, partOf}
 use Rattle.interpret.specs.Interpretation.{written, interpretation, marked, recorded}
 use Rattle.interpret.proofs.Causes.{causes}
@@ -37,8 +40,8 @@ use Rattle.agreement.specs.Ledger.{Call, admit, interpret, Ledger, empty
 use Rattle.agreement.specs.Run.{Site, started, siteAnswer, siteStep, siteAfter}
 use Rattle.agreement.specs.Promises.{ledgerOf, siteWith}
 use Rattle.agreement.proofs.Tied.{Tied, answers-same}
-use Rattle.agreement.proofs.Standing.{Standing, standing}
-use Rattle.agreement.proofs.Ancestry.{admitted-in}
+use Rattle.agreement.proofs.Standing.{Standing, standing, one-history-each, unretired-clear}
+use Rattle.agreement.proofs.Ancestry.{refers-back, referred-held}
 use Rattle.agreement.proofs.Runs.{Together, step-together}
 use Rattle.agreement.proofs.Theorem.{run}
 
@@ -220,19 +223,29 @@ pub record Rows (digest : Bytes → Bytes) (t : Bytes) (block : ℕ → Bytes) :
   pub accepted : (p : ℕ) → p < countOf t → reading (block p) ≡ Block (fieldsOf (block p))
 
 module _ (digest : Bytes → Bytes) (sized : (b : Bytes) → length (digest b) ≡ referenceSize) (s : Setup) (size : ℕ) (l : Ledger) (x : Site)
-    (r : Reached digest sized s size l x) where
+    (r : Reached digest sized s size l x) (none : l .retired ≡ []) where
   abbrev tied : Tied digest s size l x
   tied = r .together .tied
 
   stand : Standing digest l (x .table)
-  stand = standing digest s size l x tied
+  stand = standing digest sized s size l x (r .together)
 
   linked-at : (p : ℕ) → p < countOf (x .table) → (d : Bytes) → List·Memᴰ d (referencesOf (l .block p)) → (q : ℕ) × (q < countOf (x .table)) × (digestAt (x .table) q ≡ d)
   linked-at p h d m =
-      let a = admitted-in digest (l .blocks) (tied .grown) (l .block p) (stand .among p (stand .held p h)) in
-      let c = a .1 .linked d m in
-      let q = stand .placed (c .0) (a .2 (c .0) (c .1)) in
+      let one = one-history-each digest sized s size l x (r .together) (unretired-clear digest sized s size l x (r .together) none) in
+      let c = referred-held digest (l .blocks) (refers-back digest (l .blocks) one) (l .block p) (stand .among p (stand .held p h)) d m in
+      let q = stand .allPlaced none (c .0) (c .1) in
       (q .0, stand .counted (q .0) (q .1), tied .rows (q .0) (stand .counted (q .0) (q .1)) .digest ∙ ap digest (sym (q .2)) ∙ c .2)
+
+  -- what a place refers to is what its block lists
+  refers-is : (p q : ℕ) → p < countOf (x .table) → q < countOf (x .table) → rowAt (x .table) p .refersTo q ≡ lists (l .block p) (digestAt (x .table) q)
+  refers-is p q h k =
+      same-tests _ _
+      (λ y. ap (lists (l .block p)) (tied .rows q k .digest) ∙ member-lists (l .block p) shape _ (stand .lists p q (stand .held p h) (stand .held q k) y))
+      (λ y. stand .refers none p q (stand .held p h) (stand .held q k) (lists-member (l .block p) shape _ (ap (lists (l .block p)) (sym (tied .rows q k .digest)) ∙ y)))
+    where
+      shape : Shaped (l .block p)
+      shape = reading-accepted (l .block p) (fieldsOf (l .block p)) (r .accepted p (stand .held p h)) .accepted .shape
 
   pub reached-rows : Rows digest (x .table) (l .block)
   reached-rows =
@@ -241,8 +254,7 @@ module _ (digest : Bytes → Bytes) (sized : (b : Bytes) → length (digest b) �
         sites = λ p h. tied .rows p h .site;
         sequences = λ p h. tied .rows p h .sequence;
         requests = λ p h. tied .rows p h .request;
-        refers = λ p q h k. tied .rows p h .refersTo q (omega (arith, k, formed-of (x .table) (tied .formed) .held .fits))
-            ∙ rw (lt-ltb q (l .held) (stand .held q k), ← (tied .rows q k .digest));
+        refers = refers-is;
         linked = linked-at;
         accepted = λ p h. r .accepted p (stand .held p h);
       }

@@ -31,22 +31,16 @@ use Rattle.agreement.specs.History.{History, slotRecord, meaning}
 use Rattle.agreement.specs.Ancestry.{historyOf}
 use Rattle.agreement.specs.Ledger.{Call, admit, interpret, Ledger, taken, viewIn, ledgerAnswer, ledgerStep, ledgerAfter, ledgerAnswers}
 use Rattle.agreement.specs.Run.{Site, siteAnswer, siteStep, siteAfter, siteAnswers}
-use Rattle.agreement.proofs.Meanings.{record-sized}
-use Rattle.agreement.proofs.Ancestry.{Grown, history-stays}
-use Rattle.agreement.proofs.Standing.{standing}
-use Rattle.agreement.proofs.Tied.{Tied, ledger-formed, answers-same, block-admitted, admitted-tied}
-use Rattle.agreement.proofs.Passed.{interpreted-tied}
-use Rattle.agreement.proofs.Shown.{Shown, written-is}
+use Rattle.agreement.proofs.Tied.{Tied, ledger-formed, answers-same, admitted-tied, interpreted-tied}
+use Rattle.agreement.proofs.PlaceHistories.{PlaceHistories}
+use Rattle.agreement.proofs.AdmissionStep.{admits}
+use Rattle.agreement.proofs.InterpretationStep.{records-sized, interprets}
 
 -- a list of calls, then another
 pub after-append : (digest : Bytes → Bytes) (x : Site) (cs ds : List Call) → siteAfter digest x (cs ++ ds) ≡ siteAfter digest (siteAfter digest x cs) ds
 unfolding siteAfter
 after-append digest x [] ds = refl
 after-append digest x (k ∷ cs) ds = after-append digest (siteStep digest x k) cs ds
-
-pub meaning-length : (s : Setup) (h : History) → length (meaning s h) ≡ partSize
-unfolding meaning
-meaning-length s h = numbers-length (λ slot. slotRecord s slot h) (λ slot l. record-sized s slot h)
 
 -- ---- 2 is answered by check 2 alone
 
@@ -77,68 +71,36 @@ interpretation-not-two v size i f y e = never-answered 2 _ 0 refl (past-check _ 
 -- ---- one call
 
 module _ (digest : Bytes → Bytes) (sized : (b : Bytes) → length (digest b) ≡ referenceSize) (s : Setup) (size : ℕ) where
-  -- site and ledger show the same, and the parts of the marked places their blocks' meanings
+  -- site and ledger show the same, and the part of each marked place is the meaning of its block's history
   pub record Together (l : Ledger) (x : Site) : Type 0 where
     pub tied : Tied digest s size l x
-    pub shown : Shown digest s l x
+    pub known : PlaceHistories digest s l x
 
   module _ (l : Ledger) (x : Site) (t : Together l x) where
     same : (c : Call) → siteAnswer digest x c ≡ ledgerAnswer digest s size l c
     same = answers-same digest s size l x (t .tied)
 
-    -- an admission that passes
-    admits : (b : Bytes) (verdict : ℕ) → admission digest (x .table) b verdict .refusal ≡ 0
+    -- a call that passes
+
+    admission-together : (b : Bytes) (verdict : ℕ) → admission digest (x .table) b verdict .refusal ≡ 0
         → Together (taken l (admit b verdict)) (record { table = admitted digest (x .table) b verdict; records = x .records })
-    unfolding taken
-    admits b verdict e =
+    admission-together b verdict e =
         let p = promises digest sized .causes (x .table) b verdict .none .0 e .0 in
-        let a = block-admitted digest s size l x (t .tied) b verdict p in
         record {
-          tied = admitted-tied digest s size l x (t .tied) b verdict p (admitted digest (x .table) b verdict)
+          tied = admitted-tied digest s size l x (t .tied) b verdict (admitted digest (x .table) b verdict)
               (promises digest sized .shown (x .table) b verdict e) (promises digest sized .kept (x .table) b verdict (t .tied .formed));
-          shown = shown (a, t .tied .grown);
+          known = admits digest s size l x (t .tied) (t .known) b verdict p (admitted digest (x .table) b verdict);
         }
-      where
-        shown : Grown digest (b ∷ l .blocks)
-            → (i : ℕ) → i < suc (l .held) → cond (eqb i (l .held)) 0 (l .mark i) ≡ 1
-            → partOf (x .records) i ≡ meaning s (historyOf digest (b ∷ l .blocks) (cond (eqb i (l .held)) b (l .block i)))
-        shown g i h m = by-test (eqb i (l .held))
-            (λ y. let z : cond (eqb i (l .held)) 0 (l .mark i) ≡ 0 = rw y in absurd (omega arith))
-            (λ n. let low : i < l .held = omega (arith, eqb-false i (l .held) n) in
-            t .shown i low (sym (ap (λ (z : Bool). cond z 0 (l .mark i)) n) ∙ m)
-            ∙ ap (meaning s) (sym (history-stays digest (l .blocks) b g (l .block i) (standing digest s size l x (t .tied) .among i low))
-            ∙ ap (historyOf digest (b ∷ l .blocks)) (sym (ap (λ (z : Bool). cond z b (l .block i)) n))))
 
-    -- an interpretation that passes
-    interprets : (i : ℕ) → interpretation (x .table) (x .records) i .refusal ≡ 0
-        → Together (taken l (interpret i))
-        (record { table = withMark (x .table) i; records = splice (x .records) (partStart i) (written (setupOf (x .table)) (viewOf (x .table)) (x .records) i) })
-    unfolding taken
-    interprets i e =
-        record {
-          tied = interpreted-tied digest s size l x (t .tied) i e _ (length-splice (x .records) (partStart i) new (omega (arith, new-length, fits)) ∙ t .tied .sized);
-          shown = shown;
-        }
-      where
-        new : List ℕ
-        new = written (setupOf (x .table)) (viewOf (x .table)) (x .records) i
-
-        new-is : new ≡ meaning s (historyOf digest (l .blocks) (l .block i))
-        new-is = ap (λ (z : Setup). written z (viewOf (x .table)) (x .records) i) (t .tied .setup) ∙ written-is digest s size l x (t .tied) (t .shown) i e
-
-        new-length : length new ≡ partSize
-        new-length = ap length new-is ∙ meaning-length s (historyOf digest (l .blocks) (l .block i))
-
-        fits : partStart i + partSize ≤ length (x .records)
-        fits = omega (arith, whole (x .table) (x .records) i e, low (x .table) (x .records) i e)
-
-        shown : (j : ℕ) → j < l .held → cond (eqb j i) 1 (l .mark j) ≡ 1
-            → partOf (splice (x .records) (partStart i) new) j ≡ meaning s (historyOf digest (l .blocks) (l .block j))
-        shown j h m = by-test (eqb j i)
-            (λ y. let q : j ≡ i = eqb-true j i y in
-            ap (partOf (splice (x .records) (partStart i) new)) q ∙ part-written (x .records) new i new-length fits ∙ new-is
-            ∙ ap (λ (k : ℕ). meaning s (historyOf digest (l .blocks) (l .block k))) (sym q))
-            (λ n. part-other (x .records) new i new-length fits j (eqb-false j i n) ∙ t .shown j h (sym (ap (λ (z : Bool). cond z 1 (l .mark j)) n) ∙ m))
+    interpretation-together : (i : ℕ) → interpretation (x .table) (x .records) i .refusal ≡ 0
+        → Together (taken l (interpret i)) (record { table = marked (x .table) (x .records) i; records = recorded (x .table) (x .records) i })
+    interpretation-together i e =
+        subst (λ (y : Site). Together (taken l (interpret i)) y)
+        (λ k. record { table = sym (marked-passed (x .table) (x .records) i e) k; records = sym (recorded-passed (x .table) (x .records) i e) k })
+        (record {
+          tied = interpreted-tied digest s size l x (t .tied) i e _ (records-sized digest s size l x (t .tied) (t .known) i e);
+          known = interprets digest s size l x (t .tied) (t .known) i e _;
+        })
 
     -- what the call does to the ledger, and what a refused call does to the site
     pub passed : (c : Call) → siteAnswer digest x c .refusal ≡ 0 → ledgerStep digest s size l c ≡ taken l c
@@ -154,18 +116,10 @@ module _ (digest : Bytes → Bytes) (sized : (b : Bytes) → length (digest b) �
     left (admit b verdict) n = rw (ne-eqb (admission digest (x .table) b verdict .refusal) 0 n)
     left (interpret i) n = rw (ne-eqb (interpretation (x .table) (x .records) i .refusal) 0 n)
 
-    -- what a call that passes does to the site
     pass : (c : Call) → siteAnswer digest x c .refusal ≡ 0 → Together (taken l c) (siteStep digest x c)
     unfolding siteAnswer siteStep
-    pass (admit b verdict) e = admits b verdict e
-    pass (interpret i) e =
-        subst (λ (y : Site). Together (taken l (interpret i)) y) (sym (λ k. record { table = table-is k; records = records-is k })) (interprets i e)
-      where
-        table-is : marked (x .table) (x .records) i ≡ withMark (x .table) i
-        table-is = marked-passed (x .table) (x .records) i e
-
-        records-is : recorded (x .table) (x .records) i ≡ splice (x .records) (partStart i) (written (setupOf (x .table)) (viewOf (x .table)) (x .records) i)
-        records-is = recorded-passed (x .table) (x .records) i e
+    pass (admit b verdict) e = admission-together b verdict e
+    pass (interpret i) e = interpretation-together i e
 
     pub step-together : (c : Call) → Together (ledgerStep digest s size l c) (siteStep digest x c)
     step-together c = by-test (eqb (siteAnswer digest x c .refusal) 0)

@@ -3,7 +3,7 @@
 use mathlib.Core.Path.{_≡_, refl, sym, ap, _∙_, subst}
 use mathlib.Core.Bool.{true}
 use mathlib.Core.Logic.{_⊎_, _≢_, inl, inr}
-use mathlib.Core.List.{List, _++_, List·Memᴰ}
+use mathlib.Core.List.{List, [], _++_, List·Memᴰ, Memᴰ·append-left, Memᴰ·append-right, Memᴰ·cast}
 use Prim.Native.Nat.{ℕ, _+_, _*_, _≤_, _<_}
 use native.Mathlib.Omega.{arith}
 use lib.ListN.{length, getD, drop}
@@ -21,18 +21,22 @@ use Rattle.table.specs.Fresh.{emptyTable, freshTable}
 use Rattle.table.specs.Promises.{Empty}
 use Rattle.table.proofs.Formed.{formed-of}
 use Rattle.table.proofs.Promises.{promises as table-promises}
+use Rattle.interpret.specs.Buffer.{partOf}
 use Rattle.interpret.proofs.Parts.{entry-in}
-use Rattle.agreement.specs.History.{History, slotRecord, meaning}
+use Rattle.agreement.specs.History.{History, node, end, slotRecord, meaning}
 use Rattle.agreement.specs.Ancestry.{historyOf}
 use Rattle.agreement.specs.Ledger.{Call, Ledger, empty}
 use Rattle.agreement.specs.Run.{Site, started}
-use Rattle.agreement.specs.Promises.{forked, Interpreted, deliveredEntry, NoCollision, historyAt, Delivered, OwnerRequested, SiteKeeps, ledgerOf, siteWith, Promised}
+use Rattle.agreement.specs.Promises.{forked, Interpreted, deliveredEntry, NoCollision, RetiredClear, historyAt, Delivered, OwnerRequested, LedgerHistory, SiteKeeps, ledgerOf, siteWith, Promised}
 use Rattle.agreement.proofs.Meanings.{record-sized}
 use Rattle.agreement.proofs.Validity.{owner-requested}
-use Rattle.agreement.proofs.Ancestry.{child-of, children-listed, ancestor-in}
-use Rattle.agreement.proofs.Standing.{standing}
+use Rattle.agreement.proofs.Histories.{AncestorOrSelf}
+use Rattle.agreement.proofs.Admissions.{admitted-in, above-in as above-among}
+use Rattle.agreement.proofs.Ancestry.{OneHistory, history-agree, child-of, children-listed, above-ancestor}
+use Rattle.agreement.proofs.PlaceHistories.{histories, history-in}
 use Rattle.agreement.proofs.Runs.{Together, run-together, answers-together, answers-formed}
-use Rattle.agreement.proofs.Worlds.{history-in, history-agree, across, Either, one-delivery}
+use Rattle.agreement.proofs.Standing.{Standing, standing, block-in, interpreted-among, one-history-each, place-history, unretired-clear, safe-clear}
+use Rattle.agreement.proofs.Worlds.{history-in as block-history, across, Either, one-delivery}
 
 -- entry 3 of a slot in a block's meaning
 pub delivered-is : (s : Setup) (h : History) (slot : ℕ) → slot < slotCount
@@ -59,27 +63,57 @@ module _ (digest : Bytes → Bytes) (sized : (b : Bytes) → length (digest b) �
           rows = λ i h. absurd (omega (arith, e .count));
           sized = refl;
           stand = refl;
-          grown = tt;
         };
-        shown = λ i h. absurd (omega arith);
+        known = record {
+          history = λ i. node [] end;
+          retired = [];
+          blocks = λ i h. absurd (omega arith);
+          retiredBlocks = refl;
+          inTurn = tt;
+          refers = λ i j h. absurd (omega arith);
+          waits = λ i h. absurd (omega arith);
+          shown = λ i h. absurd (omega arith);
+        };
       }
 
   pub run : (buffer : List ℕ) (calls : List Call) → Together digest sized s (length buffer) (ledgerOf digest s buffer calls) (siteWith digest s buffer calls)
   run buffer calls = run-together digest sized s (length buffer) empty (started s buffer) (start buffer) calls
 
   module _ (size : ℕ) (l : Ledger) (x : Site) (t : Together digest sized s size l x) where
-    among : (i : ℕ) → i < l .held → List·Memᴰ (l .block i) (l .blocks)
-    among = standing digest s size l x (t .tied) .among
+    abbrev keeps : Standing digest l (x .table)
+    keeps = standing digest sized s size l x t
 
-    requested : (slot v : ℕ) → slot < slotCount → (d : Delivered digest s l slot v) → OwnerRequested digest s l (l .block (d .place)) slot v
-    requested slot v h d =
-        let r = owner-requested s slot (historyAt digest l (d .place)) v (d .notZero) (sym (delivered-is s (historyAt digest l (d .place)) slot h) ∙ d .entry) in
-        record {
-          requester = _;
-          ancestor = ancestor-in digest (l .blocks) (t .tied .grown) (r .above) (l .block (d .place)) (among (d .place) (d .isInterpreted .below)) refl;
-          byOwner = r .byOwner;
-          requests = r .requests;
-        }
+    -- the history that a place's block was admitted with is one of the ledger's blocks
+    ledger-history : (i : ℕ) → i < l .held → LedgerHistory digest l (t .known .history i)
+    ledger-history i h = record {
+      among = λ a k. block-in digest sized s size l x t a (orSelf-among a k);
+      listed = λ a k. admitted-in digest hs (t .known .inTurn) a (orSelf-among a k) .listed;
+    }
+      where
+        hs : List History
+        hs = histories digest s l x (t .known)
+
+        orSelf-among : (a : History) → AncestorOrSelf a (t .known .history i) → List·Memᴰ a hs
+        orSelf-among a (inl e) = Memᴰ·cast e (history-in digest s l x (t .known) i h)
+        orSelf-among a (inr k) = above-among digest hs (t .known .inTurn) k (history-in digest s l x (t .known) i h)
+
+    module _ (clear : RetiredClear digest l) where
+      one : OneHistory digest (l .blocks)
+      one = one-history-each digest sized s size l x t clear
+
+      shown : (i : ℕ) → Interpreted l i → partOf (x .records) i ≡ meaning s (historyAt digest l i)
+      shown i m = t .known .shown i (m .below) (m .mark) ∙ ap (meaning s) (sym (place-history digest sized s size l x t clear i (m .below)))
+
+      requested : (slot v : ℕ) → slot < slotCount → (d : Delivered digest s l slot v) → OwnerRequested digest s l (d .block) slot v
+      requested slot v h d =
+          let history : History = historyOf digest (l .blocks) (d .block) in
+          let r = owner-requested s slot history v (d .notZero) (sym (delivered-is s history slot h) ∙ d .entry) in
+          record {
+            requester = _;
+            ancestor = above-ancestor digest (l .blocks) one (d .block) (interpreted-among digest sized s size l x t (d .block) (d .isInterpreted)) (r .above);
+            byOwner = r .byOwner;
+            requests = r .requests;
+          }
 
     pub site-keeps : SiteKeeps digest s l x
     site-keeps =
@@ -88,10 +122,13 @@ module _ (digest : Bytes → Bytes) (sized : (b : Bytes) → length (digest b) �
           count = t .tied .count;
           rows = λ i h. t .tied .rows i (omega (arith, t .tied .count));
           rest = ap (λ (k : ℕ). allZero (drop (rowStart k) (x .table))) (sym (t .tied .count)) ∙ formed-of (x .table) (t .tied .formed) .zeros;
-          shown = λ i m. t .shown i (m .below) (m .mark);
-          listed = λ i h. children-listed digest (l .blocks) (t .tied .grown) (l .block i) (among i h);
-          held = λ i h c m. let w = child-of digest (l .blocks) (t .tied .grown) (l .block i) (among i h) c m in (w .among, w .isHistory);
+          placed = keeps .placed;
+          shown = shown;
+          admittedWith = λ i m. (t .known .history i, ledger-history i (m .below), t .known .blocks i (m .below), t .known .shown i (m .below) (m .mark));
+          listed = λ clear b m. children-listed digest (l .blocks) (one clear) b m;
+          held = λ clear b m c k. let w = child-of digest (l .blocks) (one clear) b m c k in (w .among, w .isHistory);
           requested = requested;
+          unretired = unretired-clear digest sized s size l x t;
         }
 
   -- ---- two sites
@@ -109,32 +146,38 @@ module _ (digest : Bytes → Bytes) (sized : (b : Bytes) → length (digest b) �
     run₂ : Together digest sized s (length buffer₂) l₂ (siteWith digest s buffer₂ calls₂)
     run₂ = run buffer₂ calls₂
 
-    among₁ : (i : ℕ) → i < l₁ .held → List·Memᴰ (l₁ .block i) (l₁ .blocks)
-    among₁ = among (length buffer₁) l₁ _ run₁
-
-    among₂ : (i : ℕ) → i < l₂ .held → List·Memᴰ (l₂ .block i) (l₂ .blocks)
-    among₂ = among (length buffer₂) l₂ _ run₂
-
     module _ (safe : NoCollision digest (l₁ .blocks ++ l₂ .blocks)) where
+      clear₁ : RetiredClear digest l₁
+      clear₁ = safe-clear digest sized s (length buffer₁) l₁ _ run₁ (λ a b m n. safe a b (Memᴰ·append-left (l₂ .blocks) m) (Memᴰ·append-left (l₂ .blocks) n))
+
+      clear₂ : RetiredClear digest l₂
+      clear₂ = safe-clear digest sized s (length buffer₂) l₂ _ run₂ (λ a b m n. safe a b (Memᴰ·append-right (l₁ .blocks) m) (Memᴰ·append-right (l₁ .blocks) n))
+
+      one₁ : OneHistory digest (l₁ .blocks)
+      one₁ = one-history-each digest sized s (length buffer₁) l₁ _ run₁ clear₁
+
+      one₂ : OneHistory digest (l₂ .blocks)
+      one₂ = one-history-each digest sized s (length buffer₂) l₂ _ run₂ clear₂
+
       -- a delivery at either site, in a history of either
       record Reached (slot v : ℕ) : Type 0 where
         by : History
-        inEither : Either digest (l₁ .blocks) (l₂ .blocks) (run₁ .tied .grown) (run₂ .tied .grown) safe by
+        inEither : Either digest (l₁ .blocks) (l₂ .blocks) one₁ one₂ safe by
         notZero : v ≢ 0
         entry : slotRecord s slot by .sent .delivered ≡ v
 
       reached : (slot v : ℕ) → slot < slotCount → Delivered digest s l₁ slot v ⊎ Delivered digest s l₂ slot v → Reached slot v
       reached slot v h (inl d) = record {
-        by = historyAt digest l₁ (d .place);
-        inEither = inl (history-in digest (l₁ .blocks) (l₁ .block (d .place)) (among₁ (d .place) (d .isInterpreted .below)));
+        by = historyOf digest (l₁ .blocks) (d .block);
+        inEither = inl (block-history digest (l₁ .blocks) (d .block) (interpreted-among digest sized s (length buffer₁) l₁ _ run₁ (d .block) (d .isInterpreted)));
         notZero = d .notZero;
-        entry = sym (delivered-is s (historyAt digest l₁ (d .place)) slot h) ∙ d .entry;
+        entry = sym (delivered-is s (historyOf digest (l₁ .blocks) (d .block)) slot h) ∙ d .entry;
       }
       reached slot v h (inr d) = record {
-        by = historyAt digest l₂ (d .place);
-        inEither = inr (history-in digest (l₂ .blocks) (l₂ .block (d .place)) (among₂ (d .place) (d .isInterpreted .below)));
+        by = historyOf digest (l₂ .blocks) (d .block);
+        inEither = inr (block-history digest (l₂ .blocks) (d .block) (interpreted-among digest sized s (length buffer₂) l₂ _ run₂ (d .block) (d .isInterpreted)));
         notZero = d .notZero;
-        entry = sym (delivered-is s (historyAt digest l₂ (d .place)) slot h) ∙ d .entry;
+        entry = sym (delivered-is s (historyOf digest (l₂ .blocks) (d .block)) slot h) ∙ d .entry;
       }
 
       one-number : countBelow (forked (l₁ .blocks ++ l₂ .blocks)) (s .sites) ≤ faults (s .sites) → (slot v w : ℕ) → slot < slotCount
@@ -142,15 +185,19 @@ module _ (digest : Bytes → Bytes) (sized : (b : Bytes) → length (digest b) �
       one-number few slot v w h d e =
           let x = reached slot v h d in
           let y = reached slot w h e in
-          one-delivery digest (l₁ .blocks) (l₂ .blocks) (run₁ .tied .grown) (run₂ .tied .grown) safe s (sites-lawful s law) few slot
+          one-delivery digest (l₁ .blocks) (l₂ .blocks) one₁ one₂ safe s (sites-lawful s law) few slot
           (x .by) (y .by) (x .inEither) (y .inEither) v w (x .notZero) (y .notZero) (x .entry) (y .entry)
 
-      same-part : (i j : ℕ) → Interpreted l₁ i → Interpreted l₂ j → l₁ .block i ≡ l₂ .block j → meaning s (historyAt digest l₁ i) ≡ meaning s (historyAt digest l₂ j)
+      -- each part is that of the block's history by digest, which is the same at both
+      same-part : (i j : ℕ) → Interpreted l₁ i → Interpreted l₂ j → l₁ .block i ≡ l₂ .block j
+          → partOf (siteWith digest s buffer₁ calls₁ .records) i ≡ partOf (siteWith digest s buffer₂ calls₂ .records) j
       same-part i j m n e =
-          ap (λ (b : Bytes). meaning s (historyOf digest (l₁ .blocks) b)) e
-          ∙ ap (meaning s) (history-agree digest (l₁ .blocks) (l₂ .blocks) (run₁ .tied .grown) (run₂ .tied .grown)
-          (across digest (l₁ .blocks) (l₂ .blocks) (run₁ .tied .grown) (run₂ .tied .grown) safe)
-          (l₂ .block j) (subst (λ (b : Bytes). List·Memᴰ b (l₁ .blocks)) e (among₁ i (m .below))) (among₂ j (n .below)))
+          let here : List·Memᴰ (l₁ .block i) (l₁ .blocks) = keeps (length buffer₁) l₁ _ run₁ .among i (m .below) in
+          shown (length buffer₁) l₁ _ run₁ clear₁ i m
+          ∙ ap (λ (b : Bytes). meaning s (historyOf digest (l₁ .blocks) b)) e
+          ∙ ap (meaning s) (history-agree digest (l₁ .blocks) (l₂ .blocks) one₁ one₂ (across digest (l₁ .blocks) (l₂ .blocks) one₁ one₂ safe)
+          (l₂ .block j) (subst (λ (b : Bytes). List·Memᴰ b (l₁ .blocks)) e here) (keeps (length buffer₂) l₂ _ run₂ .among j (n .below)))
+          ∙ sym (shown (length buffer₂) l₂ _ run₂ clear₂ j n)
 
     pub promised : Promised digest s buffer₁ buffer₂ calls₁ calls₂
     promised =
@@ -165,7 +212,7 @@ module _ (digest : Bytes → Bytes) (sized : (b : Bytes) → length (digest b) �
             same = answers-together digest sized s (length buffer₂) empty (started s buffer₂) (start buffer₂) calls₂;
             formed = answers-formed digest sized s (length buffer₂) empty (started s buffer₂) (start buffer₂) calls₂;
           };
-          same = λ safe i j m n e. run₁ .shown i (m .below) (m .mark) ∙ same-part safe i j m n e ∙ sym (run₂ .shown j (n .below) (n .mark));
+          same = same-part;
           agreement = one-number;
         }
 

@@ -1,8 +1,8 @@
 -- What the watch says of a table that calls reached: its forked sites and its ancestors are the ledger's. Assumes nothing.
 use mathlib.Core.Path.{_≡_, refl, sym, ap, _∙_, subst}
 use mathlib.Core.Bool.{true}
-use mathlib.Core.Logic.{_↔_, inl, inr}
-use mathlib.Core.List.{List, List·Memᴰ}
+use mathlib.Core.Logic.{inl, inr}
+use mathlib.Core.List.{List, [], List·Memᴰ}
 use Prim.Native.Nat.{ℕ, _≤_, _<_}
 use native.Mathlib.Nat.{eq-or-lt-of-le}
 use native.Mathlib.Omega.{arith}
@@ -12,6 +12,7 @@ use lib.ListN.{length}
 use borrow.Author.Tests.{eq-eqb, eqb-true, lt-ltb}
 use Rattle.base.specs.Bytes.{Bytes}
 use Rattle.base.proofs.Tests.{and-right, same-tests}
+use Rattle.block.specs.Limits.{referenceSize}
 use Rattle.block.specs.Layout.{siteOf, sequenceOf, referencesOf}
 use Rattle.setup.specs.Setup.{Setup, lawful}
 use Rattle.sha256.specs.Sha256.{sha256}
@@ -29,15 +30,20 @@ use Rattle.agreement.specs.Promises.{forked, ledgerOf, siteWith}
 use Rattle.agreement.specs.Watched.{NamedAncestor, WatchKeeps}
 use Rattle.agreement.proofs.Forks.{Fork, fork-forked, forked-fork}
 use Rattle.agreement.proofs.Tied.{Tied}
+use Rattle.agreement.proofs.Runs.{Together}
 use Rattle.agreement.proofs.Standing.{Standing, standing}
 use Rattle.agreement.proofs.Theorem.{run}
 
-module _ (digest : Bytes → Bytes) (s : Setup) (size : ℕ) (l : Ledger) (x : Site) (t : Tied digest s size l x) where
+module _ (digest : Bytes → Bytes) (sized : (b : Bytes) → length (digest b) ≡ referenceSize) (s : Setup) (size : ℕ) (l : Ledger) (x : Site)
+    (together : Together digest sized s size l x) where
+  abbrev t : Tied digest s size l x
+  t = together .tied
+
   abbrev table : Bytes
   table = x .table
 
   stand : Standing digest l table
-  stand = standing digest s size l x t
+  stand = standing digest sized s size l x together
 
   -- ---- forks
 
@@ -94,10 +100,10 @@ module _ (digest : Bytes → Bytes) (s : Setup) (size : ℕ) (l : Ledger) (x : S
         ]
       ]
 
-  forked-shared : (p : ℕ) → forked (l .blocks) p ≡ true → Shares (viewOf table) everywhere p
-  forked-shared p e =
+  forked-shared : l .retired ≡ [] → (p : ℕ) → forked (l .blocks) p ≡ true → Shares (viewOf table) everywhere p
+  forked-shared none p e =
       let f = forked-fork (l .blocks) p e in
-      two-places p f (stand .placed (f .one) (f .oneAmong)) (stand .placed (f .other) (f .otherAmong))
+      two-places p f (stand .allPlaced none (f .one) (f .oneAmong)) (stand .allPlaced none (f .other) (f .otherAmong))
 
   -- ---- ancestors
 
@@ -114,16 +120,16 @@ module _ (digest : Bytes → Bytes) (s : Setup) (size : ℕ) (l : Ledger) (x : S
     above : Ancestor (viewOf table) place i
     holds : l .block place ≡ b
 
-  block-of-ancestor : {b e : Bytes} → AncestorIn digest (l .blocks) b e → (i : ℕ) → i < l .held → e ≡ l .block i → AncestorPlace i b
-  block-of-ancestor (refers {a = b} m r) i h q =
-      let w = stand .placed b m in
+  block-of-ancestor : l .retired ≡ [] → {b e : Bytes} → AncestorIn digest (l .blocks) b e → (i : ℕ) → i < l .held → e ≡ l .block i → AncestorPlace i b
+  block-of-ancestor none (refers {a = b} m r) i h q =
+      let w = stand .allPlaced none b m in
       let e : List·Memᴰ (digest (l .block (w .0))) (referencesOf (l .block i)) = rw (← q, ← (w .2)) r in
-      record { place = w .0; above = direct (stand .counted (w .0) (w .1)) (stand .refers i (w .0) h (w .1) e); holds = sym (w .2) }
-  block-of-ancestor (through {c = c} u m r) i h q =
-      let w = stand .placed c m in
+      record { place = w .0; above = direct (stand .counted (w .0) (w .1)) (stand .refers none i (w .0) h (w .1) e); holds = sym (w .2) }
+  block-of-ancestor none (through {c = c} u m r) i h q =
+      let w = stand .allPlaced none c m in
       let e : List·Memᴰ (digest (l .block (w .0))) (referencesOf (l .block i)) = rw (← q, ← (w .2)) r in
-      let v = block-of-ancestor u (w .0) (w .1) (w .2) in
-      record { place = v .place; above = further (v .above) (stand .counted (w .0) (w .1)) (stand .refers i (w .0) h (w .1) e); holds = v .holds }
+      let v = block-of-ancestor none u (w .0) (w .1) (w .2) in
+      record { place = v .place; above = further (v .above) (stand .counted (w .0) (w .1)) (stand .refers none i (w .0) h (w .1) e); holds = v .holds }
 
   -- ---- what the watch answers
 
@@ -131,30 +137,34 @@ module _ (digest : Bytes → Bytes) (s : Setup) (size : ℕ) (l : Ledger) (x : S
   unfolding forks
   forks-answered = rw (t .formed)
 
-  ancestors-named : (i : ℕ) → i < l .held → (b : Bytes) → NamedAncestor l x i b ↔ AncestorIn digest (l .blocks) b (l .block i)
-  ancestors-named i h b = (
-    λ w. subst (λ (c : Bytes). AncestorIn digest (l .blocks) c (l .block i)) (w .holds)
-        (ancestor-of-block h (promises .ancestor table i (t .formed) (stand .counted i h) (w .place) .0 (w .named)) .1),
-    λ u. let w = block-of-ancestor u i h refl in
-        record {
-          place = w .place;
-          held = ancestor-of-block h (w .above) .0;
-          named = promises .ancestor table i (t .formed) (stand .counted i h) (w .place) .1 (w .above);
-          holds = w .holds;
-        },
-  )
+  named-ancestor : (i : ℕ) → i < l .held → (b : Bytes) → NamedAncestor l x i b → AncestorIn digest (l .blocks) b (l .block i)
+  named-ancestor i h b w =
+      subst (λ (c : Bytes). AncestorIn digest (l .blocks) c (l .block i)) (w .holds)
+      (ancestor-of-block h (promises .ancestor table i (t .formed) (stand .counted i h) (w .place) .0 (w .named)) .1)
+
+  ancestor-named : l .retired ≡ [] → (i : ℕ) → i < l .held → (b : Bytes) → AncestorIn digest (l .blocks) b (l .block i) → NamedAncestor l x i b
+  ancestor-named none i h b u =
+      let w = block-of-ancestor none u i h refl in
+      record {
+        place = w .place;
+        held = ancestor-of-block h (w .above) .0;
+        named = promises .ancestor table i (t .formed) (stand .counted i h) (w .place) .1 (w .above);
+        holds = w .holds;
+      }
 
   pub watch-keeps : WatchKeeps digest l x
   watch-keeps =
       record {
         formed = forks-answered;
         answered = λ i h. promises .none table i .1 (t .formed, stand .counted i h);
-        forkedSites = λ p.
+        namedForked = λ p e. shared-forked p (promises .forked table (t .formed) p .0 e);
+        forkedSites = λ none p.
             let named = promises .forked table (t .formed) p in
-            same-tests _ _ (λ e. shared-forked p (named .0 e)) (λ e. named .1 (forked-shared p e));
-        ancestorPlaces = ancestors-named;
+            same-tests _ _ (λ e. shared-forked p (named .0 e)) (λ e. named .1 (forked-shared none p e));
+        namedAncestor = named-ancestor;
+        ancestorPlaces = λ none i h b. (named-ancestor i h b, ancestor-named none i h b);
       }
 
 -- the digest that runs
 pub watched : (s : Setup) → lawful s ≡ true → (buffer : List ℕ) (calls : List Call) → WatchKeeps sha256 (ledgerOf sha256 s buffer calls) (siteWith sha256 s buffer calls)
-watched s law buffer calls = watch-keeps sha256 s (length buffer) _ _ (run sha256 sha256-length s law buffer calls .tied)
+watched s law buffer calls = watch-keeps sha256 sha256-length s (length buffer) _ _ (run sha256 sha256-length s law buffer calls)

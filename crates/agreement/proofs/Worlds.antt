@@ -12,7 +12,7 @@ use Rattle.setup.specs.Setup.{Setup, lawfulSites, faults}
 use Rattle.agreement.specs.History.{History, blockOf, children, isParentOf, slotRecord}
 use Rattle.agreement.specs.Ancestry.{historyOf}
 use Rattle.agreement.specs.Promises.{forked, NoCollision}
-use Rattle.agreement.proofs.Ancestry.{Grown, find-agree, history-found, child-of, child-parent}
+use Rattle.agreement.proofs.Ancestry.{OneHistory, history-agree, child-of, child-parent}
 use Rattle.agreement.proofs.Forks.{unforked-single}
 use Rattle.agreement.proofs.Agreement.{World, agreement}
 
@@ -26,12 +26,12 @@ module _ (digest : Bytes → Bytes) where
   unfolding historyOf
   history-in bs b m = record { among = m; is = refl }
 
-  child-in : (bs : List Bytes) → Grown digest bs → (h c : History) → HistoryIn bs h → List·Memᴰ c (children h) → HistoryIn bs c
+  child-in : (bs : List Bytes) → OneHistory digest bs → (h c : History) → HistoryIn bs h → List·Memᴰ c (children h) → HistoryIn bs c
   child-in bs g h c w m =
       let k = child-of digest bs g (blockOf h) (w .among) c (rw (w .is) at m) in
       record { among = k .among; is = k .isHistory }
 
-  parent-in : (bs : List Bytes) → Grown digest bs → (h : History) → HistoryIn bs h
+  parent-in : (bs : List Bytes) → OneHistory digest bs → (h : History) → HistoryIn bs h
       → (sequenceOf (blockOf h) ≡ 0) ⊎ ((c : History) × List·Memᴰ c (children h) × (isParentOf (blockOf h) (blockOf c) ≡ true))
   parent-in bs g h w = elim (child-parent digest bs g (blockOf h) (w .among)) [
     | inl z ↦ inl z
@@ -39,7 +39,7 @@ module _ (digest : Bytes → Bytes) where
   ]
 
   -- the histories of one list of blocks
-  pub one-world : (bs : List Bytes) → Grown digest bs → World (HistoryIn bs) (forked bs)
+  pub one-world : (bs : List Bytes) → OneHistory digest bs → World (HistoryIn bs) (forked bs)
   one-world bs g = record {
     closed = child-in bs g;
     parented = parent-in bs g;
@@ -47,12 +47,7 @@ module _ (digest : Bytes → Bytes) where
         x .is ∙ ap (historyOf digest bs) (unforked-single bs (siteOf (blockOf h)) u (blockOf h) (blockOf k) (x .among) (y .among) refl (sym s) q) ∙ sym (y .is);
   }
 
-  -- the histories of one block by two lists are the same
-  pub history-agree : (bs cs : List Bytes) → Grown digest bs → Grown digest cs → ((a b : Bytes) → List·Memᴰ a bs → List·Memᴰ b cs → digest a ≡ digest b → a ≡ b)
-      → (b : Bytes) → List·Memᴰ b bs → List·Memᴰ b cs → historyOf digest bs b ≡ historyOf digest cs b
-  history-agree bs cs gb gc across b m k = find-agree digest bs cs gb gc across (digest b) _ _ (history-found digest bs gb b m) (history-found digest cs gc b k)
-
-  module _ (bs cs : List Bytes) (gb : Grown digest bs) (gc : Grown digest cs) (safe : NoCollision digest (bs ++ cs)) where
+  module _ (bs cs : List Bytes) (gb : OneHistory digest bs) (gc : OneHistory digest cs) (safe : NoCollision digest (bs ++ cs)) where
     pub across : (a b : Bytes) → List·Memᴰ a bs → List·Memᴰ b cs → digest a ≡ digest b → a ≡ b
     across a b ma mb = safe a b (Memᴰ·append-left cs ma) (Memᴰ·append-right bs mb)
 
@@ -63,9 +58,9 @@ module _ (digest : Bytes → Bytes) where
     one-history : (h k : History) → Either h → Either k → blockOf h ≡ blockOf k → h ≡ k
     one-history h k (inl x) (inl y) e = x .is ∙ ap (historyOf digest bs) e ∙ sym (y .is)
     one-history h k (inl x) (inr y) e =
-        x .is ∙ ap (historyOf digest bs) e ∙ history-agree bs cs gb gc across (blockOf k) (Memᴰ·cast (sym e) (x .among)) (y .among) ∙ sym (y .is)
+        x .is ∙ ap (historyOf digest bs) e ∙ history-agree digest bs cs gb gc across (blockOf k) (Memᴰ·cast (sym e) (x .among)) (y .among) ∙ sym (y .is)
     one-history h k (inr x) (inl y) e =
-        sym (y .is ∙ ap (historyOf digest bs) (sym e) ∙ history-agree bs cs gb gc across (blockOf h) (Memᴰ·cast e (y .among)) (x .among) ∙ sym (x .is))
+        sym (y .is ∙ ap (historyOf digest bs) (sym e) ∙ history-agree digest bs cs gb gc across (blockOf h) (Memᴰ·cast e (y .among)) (x .among) ∙ sym (x .is))
     one-history h k (inr x) (inr y) e = x .is ∙ ap (historyOf digest cs) e ∙ sym (y .is)
 
     among-both : (h : History) → Either h → List·Memᴰ (blockOf h) (bs ++ cs)

@@ -20,8 +20,10 @@ pub data Call : Type 0 where
   interpret : ℕ → Call
 
 pub record Ledger : Type 0 where
-  -- the blocks admitted, the newest first
+  -- the blocks ever admitted, the newest first
   pub blocks : List Bytes
+  -- those without a place, the last that was retired first: each was marked when it was retired, and keeps its mark
+  pub retired : List Bytes
   -- how many places there are, and of each the block's bytes and the mark: 1 if it is interpreted, 0 if not
   pub held : ℕ
   pub block : ℕ → Bytes
@@ -29,22 +31,23 @@ pub record Ledger : Type 0 where
 
 -- "It starts empty"
 abbrev pub empty : Ledger
-empty = record { blocks = []; held = 0; block = λ i. []; mark = λ i. 0 }
+empty = record { blocks = []; retired = []; held = 0; block = λ i. []; mark = λ i. 0 }
 
 -- what a call that passes its checks does: "puts the block's bytes at the next place", "marks the block at the place named"
 unfoldable pub taken : Ledger → Call → Ledger
 taken l (admit b verdict) =
     record {
       blocks = b ∷ l .blocks;
+      retired = l .retired;
       held = suc (l .held);
       block = λ i. cond (eqb i (l .held)) b (l .block i);
       mark = λ i. cond (eqb i (l .held)) 0 (l .mark i);
     }
 taken l (interpret place) =
-    record { blocks = l .blocks; held = l .held; block = l .block; mark = λ i. cond (eqb i place) 1 (l .mark i) }
+    record { blocks = l .blocks; retired = l .retired; held = l .held; block = l .block; mark = λ i. cond (eqb i place) 1 (l .mark i) }
 
 module _ (digest : Bytes → Bytes) where
-  -- what the ledger shows of each place, from the bytes of its blocks: it refers to the places whose digests its block lists
+  -- what the ledger shows of each place, from the bytes of its blocks: it refers to the lower places whose digests its block lists
   abbrev pub viewIn : Ledger → View
   viewIn l =
       record {
@@ -53,7 +56,7 @@ module _ (digest : Bytes → Bytes) where
           digest = digest (l .block i);
           site = siteOf (l .block i);
           sequence = sequenceOf (l .block i);
-          refersTo = λ j. ltb j (l .held) && lists (l .block i) (digest (l .block j));
+          refersTo = λ j. ltb j i && lists (l .block i) (digest (l .block j));
           request = requestFor (l .block i);
           mark = l .mark i;
         };

@@ -1,8 +1,8 @@
 -- Demand 3, in document 01's words ("Interpreting a place"): what two lists of calls leave behind at two sites of one setup.
 use mathlib.Core.Path.{_≡_}
 use mathlib.Core.Bool.{Bool, true, not, _&&_}
-use mathlib.Core.Logic.{_⊎_, _≢_}
-use mathlib.Core.List.{List, _++_, map, List·Memᴰ}
+use mathlib.Core.Logic.{_⊎_, _≢_, _↔_}
+use mathlib.Core.List.{List, [], _++_, map, List·Memᴰ}
 use Prim.Native.Nat.{ℕ, _+_, _*_, _≤_, _<_}
 use lib.Dec.{eqb}
 use lib.ListN.{length, getD, drop}
@@ -17,7 +17,7 @@ use Rattle.broadcast.specs.Record.{recordSize}
 use Rattle.table.specs.View.{SameBelow}
 use Rattle.table.specs.Layout.{rowStart, setupOf, countOf, viewOf}
 use Rattle.interpret.specs.Buffer.{partOf}
-use Rattle.agreement.specs.History.{History, blockOf, children, meaning}
+use Rattle.agreement.specs.History.{History, blockOf, children, Ancestor, meaning}
 use Rattle.agreement.specs.Ancestry.{historyOf, AncestorIn}
 use Rattle.agreement.specs.Ledger.{Call, Ledger, empty, viewIn, ledgerAfter, ledgerAnswers}
 use Rattle.agreement.specs.Run.{Site, started, siteAfter, siteAnswers}
@@ -32,6 +32,14 @@ pub record Interpreted (l : Ledger) (place : ℕ) : Type 0 where
   pub below : place < l .held
   pub mark : l .mark place ≡ 1
 
+-- a block stands at a place
+abbrev pub Placed : Ledger → Bytes → Type 0
+Placed l b = (place : ℕ) × (place < l .held) × (b ≡ l .block place)
+
+-- a block is interpreted if it stands at a marked place or was retired: "the ledger then keeps the block and its mark, without a place"
+abbrev pub InterpretedBlock : Ledger → Bytes → Type 0
+InterpretedBlock l b = ((place : ℕ) × Interpreted l place × (b ≡ l .block place)) ⊎ List·Memᴰ b (l .retired)
+
 -- entry 3 of a record
 abbrev pub deliveredEntry : ℕ
 deliveredEntry = 3
@@ -41,16 +49,21 @@ module _ (digest : Bytes → Bytes) where
   abbrev pub NoCollision : List Bytes → Type 0
   NoCollision blocks = (a b : Bytes) → List·Memᴰ a blocks → List·Memᴰ b blocks → digest a ≡ digest b → a ≡ b
 
+  -- no retired block shares its digest with a different block of the ledger: where nothing was retired this asks nothing, and where no two
+  -- different blocks ever admitted share a digest it holds
+  abbrev pub RetiredClear : Ledger → Type 0
+  RetiredClear l = (a b : Bytes) → List·Memᴰ a (l .retired) → List·Memᴰ b (l .blocks) → digest a ≡ digest b → a ≡ b
+
   -- the block at a place, with its ancestors in the ledger
   abbrev pub historyAt : Ledger → ℕ → History
   historyAt l place = historyOf digest (l .blocks) (l .block place)
 
   -- "A number, not 0, is delivered in a slot if it is entry 3 there in the meaning of an interpreted block"
   pub record Delivered (s : Setup) (l : Ledger) (slot v : ℕ) : Type 0 where
-    pub place : ℕ
-    pub isInterpreted : Interpreted l place
+    pub block : Bytes
+    pub isInterpreted : InterpretedBlock l block
     pub notZero : v ≢ 0
-    pub entry : getD (meaning s (historyAt l place)) (recordSize * slot + deliveredEntry) 0 ≡ v
+    pub entry : getD (meaning s (historyOf digest (l .blocks) block)) (recordSize * slot + deliveredEntry) 0 ≡ v
 
   -- "the owner requested it if an ancestor of that block, built by the owner, has it as the slot's counted request"
   pub record OwnerRequested (s : Setup) (l : Ledger) (b : Bytes) (slot v : ℕ) : Type 0 where
@@ -58,6 +71,11 @@ module _ (digest : Bytes → Bytes) where
     pub ancestor : AncestorIn digest (l .blocks) requester b
     pub byOwner : siteOf requester ≡ ownerOf s slot
     pub requests : requestFor requester slot ≡ v
+
+  -- a history of blocks of the ledger: each refers, in order and none missing, to blocks with the digests that it lists
+  pub record LedgerHistory (l : Ledger) (h : History) : Type 0 where
+    pub among : (a : History) → (a ≡ h) ⊎ Ancestor a h → List·Memᴰ (blockOf a) (l .blocks)
+    pub listed : (a : History) → (a ≡ h) ⊎ Ancestor a h → map (λ c. digest (blockOf c)) (children a) ≡ referencesOf (blockOf a)
 
   -- what a list of calls leaves in a ledger and at a site that starts with this record buffer
   abbrev pub ledgerOf : Setup → List ℕ → List Call → Ledger
@@ -73,14 +91,21 @@ module _ (digest : Bytes → Bytes) where
     pub count : countOf (x .table) ≡ l .held
     pub rows : SameBelow (viewOf (x .table)) (viewIn digest l) (l .held)
     pub rest : allZero (drop (rowStart (l .held)) (x .table)) ≡ true
+    -- the blocks ever admitted are those at the places and the retired ones
+    pub placed : (b : Bytes) → List·Memᴰ b (l .blocks) ↔ (Placed l b ⊎ List·Memᴰ b (l .retired))
     -- "At every marked place the place's part of the buffer equals its block's meaning"
-    pub shown : (place : ℕ) → Interpreted l place → partOf (x .records) place ≡ meaning s (historyAt l place)
+    pub shown : RetiredClear l → (place : ℕ) → Interpreted l place → partOf (x .records) place ≡ meaning s (historyAt l place)
+    -- whatever the digests, it equals the meaning of a history of that block: the one that it was admitted with
+    pub admittedWith : (place : ℕ) → Interpreted l place
+        → (h : History) × LedgerHistory l h × (blockOf h ≡ l .block place) × (partOf (x .records) place ≡ meaning s h)
     -- a history's children are, in order and none missing, the blocks of the ledger with the digests that the block lists
-    pub listed : (place : ℕ) → place < l .held → map (λ c. digest (blockOf c)) (children (historyAt l place)) ≡ referencesOf (l .block place)
-    pub held : (place : ℕ) → place < l .held → (c : History) → List·Memᴰ c (children (historyAt l place))
+    pub listed : RetiredClear l → (b : Bytes) → List·Memᴰ b (l .blocks) → map (λ c. digest (blockOf c)) (children (historyOf digest (l .blocks) b)) ≡ referencesOf b
+    pub held : RetiredClear l → (b : Bytes) → List·Memᴰ b (l .blocks) → (c : History) → List·Memᴰ c (children (historyOf digest (l .blocks) b))
         → List·Memᴰ (blockOf c) (l .blocks) × (c ≡ historyOf digest (l .blocks) (blockOf c))
     -- a delivered number was requested by the owner in an ancestor
-    pub requested : (slot v : ℕ) → slot < slotCount → (d : Delivered s l slot v) → OwnerRequested s l (l .block (d .place)) slot v
+    pub requested : RetiredClear l → (slot v : ℕ) → slot < slotCount → (d : Delivered s l slot v) → OwnerRequested s l (d .block) slot v
+    -- where nothing was retired, none of this asks anything of digests
+    pub unretired : l .retired ≡ [] → RetiredClear l
 
   -- the answers of its calls
   pub record AnswersKeep (s : Setup) (buffer : List ℕ) (calls : List Call) : Type 0 where

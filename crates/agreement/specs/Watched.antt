@@ -2,6 +2,7 @@
 use mathlib.Core.Path.{_≡_}
 use mathlib.Core.Bool.{true}
 use mathlib.Core.Logic.{_↔_}
+use mathlib.Core.List.{[]}
 use Prim.Native.Nat.{ℕ, _<_}
 use Rattle.base.specs.Mask.{inMask}
 use Rattle.base.specs.Bytes.{Bytes}
@@ -24,7 +25,9 @@ module _ (digest : Bytes → Bytes) where
     -- it refuses no place that is held
     pub formed : forks (x .table) .refusal ≡ 0
     pub answered : (i : ℕ) → i < l .held → ancestors (x .table) i .refusal ≡ 0
-    -- the sites that it names are those with two different blocks of one sequence number in the ledger
-    pub forkedSites : (p : ℕ) → inMask (forks (x .table) .sites) p ≡ forked (l .blocks) p
-    -- a place's ancestors are the ledger's ancestors of its block
-    pub ancestorPlaces : (i : ℕ) → i < l .held → (b : Bytes) → NamedAncestor l x i b ↔ AncestorIn digest (l .blocks) b (l .block i)
+    -- the sites that it names have two different blocks of one sequence number in the ledger; where nothing was retired, they are all that have
+    pub namedForked : (p : ℕ) → inMask (forks (x .table) .sites) p ≡ true → forked (l .blocks) p ≡ true
+    pub forkedSites : l .retired ≡ [] → (p : ℕ) → inMask (forks (x .table) .sites) p ≡ forked (l .blocks) p
+    -- the places that it names hold ancestors of the place's block in the ledger; where nothing was retired, they hold all of them
+    pub namedAncestor : (i : ℕ) → i < l .held → (b : Bytes) → NamedAncestor l x i b → AncestorIn digest (l .blocks) b (l .block i)
+    pub ancestorPlaces : l .retired ≡ [] → (i : ℕ) → i < l .held → (b : Bytes) → NamedAncestor l x i b ↔ AncestorIn digest (l .blocks) b (l .block i)

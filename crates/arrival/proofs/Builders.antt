@@ -9,11 +9,11 @@ use lib.Dec.{eqb}
 use borrow.Author.Tests.{eqb-true, eqb-false}
 use Rattle.base.specs.Bytes.{Bytes}
 use Rattle.base.proofs.Tests.{by-test}
-use Rattle.block.specs.Layout.{siteOf, sequenceOf}
+use Rattle.block.specs.Layout.{siteOf, sequenceOf, referencesOf}
+use Rattle.agreement.specs.History.{blockOf}
 use Rattle.agreement.specs.Ancestry.{AncestorIn, refers, through}
 use Rattle.agreement.proofs.Histories.{parent-site, parent-sequence}
-use Rattle.agreement.proofs.Found.{Holds}
-use Rattle.agreement.proofs.Ancestry.{Admitted, Grown, grown-distinct, admitted-in, referred-held}
+use Rattle.agreement.proofs.Ancestry.{OneHistory, Holds, RefersBack, refers-back, referred-held, child-of, child-parent}
 use Rattle.agreement.proofs.Forks.{Single, single-unforked}
 use Rattle.arrival.specs.Full.{BlockBy, RefersTo, InChain, itself, earlier, Above, ReferredInChain, Full}
 use Rattle.arrival.proofs.Chains.{chain-held, chain-site, chain-sequence, chain-refers}
@@ -40,17 +40,17 @@ module _ (digest : Bytes → Bytes) (p : ℕ) where
   -- a block of the list, and the blocks held when it was admitted
   record Since (bs : List Bytes) (b : Bytes) : Type 0 where
     older : List Bytes
-    grown : Grown digest older
-    admitted : Admitted digest older b
+    back : RefersBack digest older
+    linked : (r : Bytes) → List·Memᴰ r (referencesOf b) → Holds digest older r
     picks : siteOf b ≡ p → Picks older b
     inside : (c : Bytes) → List·Memᴰ c older → List·Memᴰ c bs
 
-  since : (bs : List Bytes) → Grown digest bs → Built bs → (b : Bytes) → List·Memᴰ b bs → Since bs b
+  since : (bs : List Bytes) → RefersBack digest bs → Built bs → (b : Bytes) → List·Memᴰ b bs → Since bs b
   since [] g k b m = absurd (List·Memᴰ·not-nil m)
   since (x ∷ older) g k b m = elim (List·Memᴰ·cases-cons m) [
-    | inl q ↦ record { older = older; grown = g .1; admitted = rw q (g .0); picks = rw q (k .0); inside = λ c n. List·Memᴰ·tail n }
+    | inl q ↦ record { older = older; back = g .1; linked = rw q (g .0); picks = rw q (k .0); inside = λ c n. List·Memᴰ·tail n }
     | inr n ↦ let w = since older (g .1) (k .1) b n in
-        record { older = w .older; grown = w .grown; admitted = w .admitted; picks = w .picks; inside = λ c j. List·Memᴰ·tail (w .inside c j) }
+        record { older = w .older; back = w .back; linked = w .linked; picks = w .picks; inside = λ c j. List·Memᴰ·tail (w .inside c j) }
   ]
 
   -- one block of each sequence number
@@ -67,24 +67,20 @@ module _ (digest : Bytes → Bytes) (p : ℕ) where
       go (inr i) (inl f) ih = absurd (omega (arith, below a i sa (ap siteOf (sym f) ∙ sb), ap sequenceOf f))
       go (inr i) (inr j) ih = ih i j
 
-  module _ (bs : List Bytes) (g : Grown digest bs) (k : Built bs) where
+  module _ (bs : List Bytes) (g : OneHistory digest bs) (k : Built bs) where
     -- ---- the site's blocks are one chain
 
     chain-below : (d : ℕ) (a b : Bytes) → BlockBy bs p a → BlockBy bs p b → sequenceOf b ≡ d + sequenceOf a → InChain digest bs a b
     chain-below zero a b x y q =
         subst (InChain digest bs a) (single bs k a b (x .held) (y .held) (x .bySite) (y .bySite) (omega arith)) itself
-    chain-below (suc d) a b x y q = go (admitted-in digest bs g b (y .held)) (chain-below d a)
-      where
-        go : (older : List Bytes) × Admitted digest older b × ((c : Bytes) → List·Memᴰ c older → List·Memᴰ c bs)
-            → ((c : Bytes) → BlockBy bs p a → BlockBy bs p c → sequenceOf c ≡ d + sequenceOf a → InChain digest bs a c) → InChain digest bs a b
-        go w ih = elim (w .1 .parented) [
-          | inl z ↦ absurd (omega arith)
-          | inr c ↦
-              let held : List·Memᴰ (c .0) bs = w .2 (c .0) (c .1 .among) in
-              earlier (ih (c .0) x (record { held = held; bySite = parent-site b (c .0) (c .1 .isParent) ∙ y .bySite })
-              (omega (arith, parent-sequence b (c .0) (c .1 .isParent))))
-              (record { held = held; referred = c .1 .referred; isParent = c .1 .isParent })
-        ]
+    chain-below (suc d) a b x y q = elim (child-parent digest bs g b (y .held)) [
+      | inl z ↦ absurd (omega arith)
+      | inr c ↦
+          let w = child-of digest bs g b (y .held) (c .0) (c .1) in
+          earlier (chain-below d a (blockOf (c .0)) x (record { held = w .among; bySite = parent-site b (blockOf (c .0)) (c .2) ∙ y .bySite })
+          (omega (arith, parent-sequence b (blockOf (c .0)) (c .2))))
+          (record { held = w .among; referred = w .byDigest; isParent = c .2 })
+    ]
 
     one-chain : (a b : Bytes) → BlockBy bs p a → BlockBy bs p b → sequenceOf a ≤ sequenceOf b → InChain digest bs a b
     one-chain a b x y h = chain-below (sequenceOf b - sequenceOf a) a b x y (omega arith)
@@ -93,7 +89,7 @@ module _ (digest : Bytes → Bytes) (p : ℕ) where
 
     -- a block whose digest was held when block e was admitted was held then
     held-since : (e : Bytes) (w : Since bs e) (c : Bytes) → List·Memᴰ c bs → Holds digest (w .older) (digest c) → List·Memᴰ c (w .older)
-    held-since e w c m = held-by-digest digest (w .older) c (λ d n. grown-distinct digest bs g d c (w .inside d n) m)
+    held-since e w c m = held-by-digest digest (w .older) c (λ d n. g .safe d c (w .inside d n) m)
 
     closed-under : (b c a : Bytes) → BlockBy bs p b → List·Memᴰ c bs → List·Memᴰ a bs → ReferredInChain digest bs b c → RefersTo digest c a
         → ReferredInChain digest bs b a
@@ -109,16 +105,16 @@ module _ (digest : Bytes → Bytes) (p : ℕ) where
         at = record { held = chain-held digest bs (r .inChain) (y .held); bySite = chain-site digest bs (r .inChain) ∙ y .bySite }
 
         w : Since bs e
-        w = since bs g k e (at .held)
+        w = since bs (refers-back digest bs g) k e (at .held)
 
         picks : Picks (w .older) e
         picks = w .picks (at .bySite)
 
         c-older : List·Memᴰ c (w .older)
-        c-older = held-since e w c mc (w .admitted .linked (digest c) (r .refers))
+        c-older = held-since e w c mc (w .linked (digest c) (r .refers))
 
         a-older : List·Memᴰ a (w .older)
-        a-older = held-since e w a ma (referred-held digest (w .older) (w .grown) c c-older (digest a) ca)
+        a-older = held-since e w a ma (referred-held digest (w .older) (w .back) c c-older (digest a) ca)
 
         -- a block of the site that was held when e was built is in the chain
         in-chain : (d : Bytes) → BlockBy (w .older) p d → InChain digest bs d b
@@ -156,14 +152,14 @@ module _ (digest : Bytes → Bytes) (p : ℕ) where
 
     -- ---- and at another site, where blocks of one digest are the same and no further block of the site is held
 
-    module _ (cs : List Bytes) (gc : Grown digest cs) (same : (a b : Bytes) → List·Memᴰ a bs → List·Memᴰ b cs → digest a ≡ digest b → a ≡ b)
+    module _ (cs : List Bytes) (gc : OneHistory digest cs) (same : (a b : Bytes) → List·Memᴰ a bs → List·Memᴰ b cs → digest a ≡ digest b → a ≡ b)
         (known : (b : Bytes) → BlockBy cs p b → List·Memᴰ b bs) where
       -- what a block held at both refers to is held at both
       held-here : (b c : Bytes) → List·Memᴰ b bs → List·Memᴰ c cs → RefersTo digest b c → List·Memᴰ c bs
-      held-here b c mb mc r = held-by-digest digest bs c (λ d n. same d c n mc) (referred-held digest bs g b mb (digest c) r)
+      held-here b c mb mc r = held-by-digest digest bs c (λ d n. same d c n mc) (referred-held digest bs (refers-back digest bs g) b mb (digest c) r)
 
       held-there : (b c : Bytes) → List·Memᴰ b cs → List·Memᴰ c bs → RefersTo digest b c → List·Memᴰ c cs
-      held-there b c mb mc r = held-by-digest digest cs c (λ d n e. sym (same c d mc n (sym e))) (referred-held digest cs gc b mb (digest c) r)
+      held-there b c mb mc r = held-by-digest digest cs c (λ d n e. sym (same c d mc n (sym e))) (referred-held digest cs (refers-back digest cs gc) b mb (digest c) r)
 
       above-here : {a b : Bytes} → List·Memᴰ b bs → Above digest cs b a → Above digest bs b a
       above-here {a} {b} mb (refers m r) = refers (held-here b a mb m r) r

@@ -11,7 +11,7 @@ use Rattle.block.specs.Layout.{siteOf, sequenceOf}
 use Rattle.agreement.specs.History.{History, blockOf}
 use Rattle.agreement.specs.Ancestry.{AncestorIn, refers, through}
 use Rattle.agreement.proofs.Histories.{parent-site, parent-sequence, Lineage, here, older}
-use Rattle.agreement.proofs.Ancestry.{Grown, child-of}
+use Rattle.agreement.proofs.Ancestry.{OneHistory, child-of}
 use Rattle.agreement.proofs.Worlds.{HistoryIn}
 use Rattle.arrival.specs.Full.{RefersTo, InChain, itself, earlier, ReferredInChain}
 
@@ -57,7 +57,7 @@ module _ (digest : Bytes → Bytes) (bs : List Bytes) where
     pub isIn : HistoryIn digest bs a
     pub inChain : InChain digest bs (blockOf a) (blockOf h)
 
-  pub chain-of : Grown digest bs → {a h : History} → Lineage a h → HistoryIn digest bs h → BlockInChain h a
+  pub chain-of : OneHistory digest bs → {a h : History} → Lineage a h → HistoryIn digest bs h → BlockInChain h a
   chain-of g here w = record { isIn = w; inChain = itself }
   chain-of g (older {c = c} {h = h} k m p) w =
       let x = child-of digest bs g (blockOf h) (w .among) c (rw (w .is) at m) in

@@ -30,7 +30,7 @@ use Rattle.agreement.specs.History.{History, blockOf, slotRecord, meaning}
 use Rattle.agreement.specs.Ancestry.{historyOf}
 use Rattle.agreement.specs.Promises.{forked, deliveredEntry}
 use Rattle.agreement.proofs.Meanings.{record-sized, record-settled}
-use Rattle.agreement.proofs.Ancestry.{Grown}
+use Rattle.agreement.proofs.Ancestry.{OneHistory}
 use Rattle.agreement.proofs.Agreement.{World}
 use Rattle.agreement.proofs.Worlds.{HistoryIn, history-in, one-world}
 use Rattle.agreement.proofs.Theorem.{delivered-is as delivered-entry}
@@ -48,7 +48,7 @@ made-is s h slot l =
     entry-in (λ slot. slotRecord s slot h) (λ slot _. record-sized s slot h) slot (madeOffset + deliveredEntry) l (omega arith)
     ∙ ap (λ (r : SlotRecord). r .made .delivered) (record-flatten (slotRecord s slot h) (record-sized s slot h))
 
-module _ (digest : Bytes → Bytes) (bs : List Bytes) (g : Grown digest bs) (s : Setup) (law : lawful s ≡ true) (slot v : ℕ) (last : Bytes) (below : slot < slotCount)
+module _ (digest : Bytes → Bytes) (bs : List Bytes) (g : OneHistory digest bs) (s : Setup) (law : lawful s ≡ true) (slot v : ℕ) (last : Bytes) (below : slot < slotCount)
     (w : Premises digest s bs slot v last) where
   few : s .sites ≤ maxSites
   few = sites-few (s .sites) (sites-lawful s law)

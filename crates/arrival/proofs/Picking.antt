@@ -3,14 +3,16 @@
 use mathlib.Core.Path.{_≡_, sym, ap, _∙_, subst}
 use mathlib.Core.Logic.{_⊎_, _≢_, inl, inr}
 use mathlib.Core.Bool.{true, _&&_}
-use mathlib.Core.List.{List·Memᴰ, Memᴰ·map, Memᴰ·of-map, Memᴰ·cast, map}
+use mathlib.Core.List.{[], List·Memᴰ, Memᴰ·map, Memᴰ·of-map, Memᴰ·cast, map}
 use Prim.Native.Nat.{ℕ, _<_}
 use native.Mathlib.Omega.{arith}
+use lib.ListN.{length}
 use borrow.Author.Tests.{ne-eqb, lt-ltb}
 use Rattle.base.specs.Bytes.{Bytes}
 use Rattle.base.proofs.Tests.{by-test, and-left, and-right}
 use Rattle.base.proofs.Members.{member-at}
 use Rattle.base.proofs.Search.{any-true-at}
+use Rattle.block.specs.Limits.{referenceSize}
 use Rattle.block.specs.Layout.{siteOf, sequenceOf, referencesOf}
 use Rattle.setup.specs.Setup.{Setup}
 use Rattle.table.specs.View.{maxPlaces, View}
@@ -26,13 +28,18 @@ use Rattle.build.proofs.Promises.{built-block}
 use Rattle.agreement.specs.Ledger.{Ledger}
 use Rattle.agreement.specs.Run.{Site}
 use Rattle.agreement.proofs.Tied.{Tied}
+use Rattle.agreement.proofs.Runs.{Together}
 use Rattle.agreement.proofs.Standing.{Standing, standing}
 use Rattle.agreement.proofs.Watched.{of-site, site-of}
 use Rattle.arrival.specs.Full.{BlockBy, RefersTo}
 use Rattle.arrival.specs.Building.{BuiltFrom}
 use Rattle.arrival.proofs.Builders.{Picks}
 
-module _ (digest : Bytes → Bytes) (s : Setup) (size : ℕ) (l : Ledger) (x : Site) (t : Tied digest s size l x) (p : ℕ) (b : Bytes) (w : BuiltFrom (x .table) p b) where
+module _ (digest : Bytes → Bytes) (sized : (b : Bytes) → length (digest b) ≡ referenceSize) (s : Setup) (size : ℕ) (l : Ledger) (x : Site)
+    (together : Together digest sized s size l x) (none : l .retired ≡ []) (p : ℕ) (b : Bytes) (w : BuiltFrom (x .table) p b) where
+  abbrev t : Tied digest s size l x
+  t = together .tied
+
   abbrev table : Bytes
   table = x .table
 
@@ -40,7 +47,7 @@ module _ (digest : Bytes → Bytes) (s : Setup) (size : ℕ) (l : Ledger) (x : S
   v = viewOf table
 
   stand : Standing digest l table
-  stand = standing digest s size l x t
+  stand = standing digest sized s size l x together
 
   -- ---- what it shows
 
@@ -72,10 +79,10 @@ module _ (digest : Bytes → Bytes) (s : Setup) (size : ℕ) (l : Ledger) (x : S
 
   rises : (d : Bytes) → BlockBy (l .blocks) p d → sequenceOf d < sequenceOf b
   rises d y =
-      let u = stand .placed d (y .held) in
+      let u = stand .allPlaced none d (y .held) in
       let own : siteOf (l .block (u .0)) ≡ p = ap siteOf (sym (u .2)) ∙ y .bySite in
       let k = stand .counted (u .0) (u .1) in
-      omega (arith, numbered, t .rows (u .0) k .sequence, ap sequenceOf (u .2), next-above everywhere v p (u .0) k (of-site digest s size l x t p (u .0) (u .1) own))
+      omega (arith, numbered, t .rows (u .0) k .sequence, ap sequenceOf (u .2), next-above everywhere v p (u .0) k (of-site digest sized s size l x together p (u .0) (u .1) own))
 
   -- a block of the site refers to place j, or the block itself does, where it refers to a place of another site that refers to place j
   closed-at : (i j : ℕ) → i < l .held → j < l .held → siteOf (l .block i) ≢ p → siteOf (l .block j) ≢ p → RefersTo digest b (l .block i)
@@ -86,19 +93,19 @@ module _ (digest : Bytes → Bytes) (s : Setup) (size : ℕ) (l : Ledger) (x : S
       let h : u .0 < l .held = stand .held (u .0) (u .1) in
       let own = and-left (ofSite v everywhere p (u .0)) (rowAt table (u .0) .refersTo j) (u .2) in
       let lists = and-right (ofSite v everywhere p (u .0)) (rowAt table (u .0) .refersTo j) (u .2) in
-      inr (l .block (u .0), record { held = stand .among (u .0) h; bySite = site-of digest s size l x t p (u .0) h own }, stand .lists (u .0) j h hj lists))
+      inr (l .block (u .0), record { held = stand .among (u .0) h; bySite = site-of digest sized s size l x together p (u .0) h own }, stand .lists (u .0) j h hj lists))
       (λ z.
       let other : isOther everywhere v p j ≡ true = rw (
         lt-ltb j maxPlaces (stand .fits j hj),
         ne-eqb (siteAt table j) p (λ e. m (sym (t .rows j (stand .counted j hj) .site) ∙ e)),
         z,
       ) in
-      let lower : j < i = stand .row i hi .lower j (stand .fits j hj) (stand .refers i j hi hj ij) in
+      let lower : j < i = stand .row i hi .lower j (stand .fits j hj) (stand .refers none i j hi hj ij) in
       inl (picked-refers j hj (picked-lower everywhere v p i j (refers-picked i hi r) (λ e. n (sym (t .rows i (stand .counted i hi) .site) ∙ e)) lower other)))
 
   closed : (c a : Bytes) → List·Memᴰ c (l .blocks) → List·Memᴰ a (l .blocks) → siteOf c ≢ p → siteOf a ≢ p → RefersTo digest b c → RefersTo digest c a
       → RefersTo digest b a ⊎ ((d : Bytes) × BlockBy (l .blocks) p d × RefersTo digest d a)
-  closed c a mc ma = go (stand .placed c mc) (stand .placed a ma)
+  closed c a mc ma = go (stand .allPlaced none c mc) (stand .allPlaced none a ma)
     where
       go : (i : ℕ) × (i < l .held) × (c ≡ l .block i) → (j : ℕ) × (j < l .held) × (a ≡ l .block j) → siteOf c ≢ p → siteOf a ≢ p → RefersTo digest b c
           → RefersTo digest c a → RefersTo digest b a ⊎ ((d : Bytes) × BlockBy (l .blocks) p d × RefersTo digest d a)

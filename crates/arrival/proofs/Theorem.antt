@@ -1,7 +1,7 @@
 -- The promise of arrival holds of the ledger and the site that a list of calls leaves. Assumes nothing.
 use mathlib.Core.Path.{_≡_, sym, ap, _∙_, subst}
 use mathlib.Core.Bool.{true}
-use mathlib.Core.List.{List}
+use mathlib.Core.List.{List, []}
 use Prim.Native.Nat.{ℕ, _<_}
 use lib.ListN.{length, getD}
 use Rattle.base.specs.Bytes.{Bytes}
@@ -15,7 +15,7 @@ use Rattle.agreement.specs.Ancestry.{historyOf}
 use Rattle.agreement.specs.Ledger.{Call, Ledger}
 use Rattle.agreement.specs.Run.{Site}
 use Rattle.agreement.specs.Promises.{ledgerOf, siteWith}
-use Rattle.agreement.proofs.Standing.{standing}
+use Rattle.agreement.proofs.Standing.{standing, one-history-each, unretired-clear}
 use Rattle.agreement.proofs.Runs.{Together}
 use Rattle.agreement.proofs.Theorem.{run, site-keeps}
 use Rattle.arrival.specs.Full.{InChain}
@@ -34,25 +34,25 @@ module _ (digest : Bytes → Bytes) (sized : (b : Bytes) → length (digest b) �
   together : Together digest sized s (length buffer) l x
   together = run digest sized s law buffer calls
 
-  arrives : (slot v : ℕ) (last : Bytes) → slot < slotCount → Premises digest s (l .blocks) slot v last → DeliveredInChain digest s (l .blocks) slot v last
-  arrives = arrived digest (l .blocks) (together .tied .grown) s law
+  arrives : l .retired ≡ [] → (slot v : ℕ) (last : Bytes) → slot < slotCount → Premises digest s (l .blocks) slot v last → DeliveredInChain digest s (l .blocks) slot v last
+  arrives none = arrived digest (l .blocks) (one-history-each digest sized s (length buffer) l x together (unretired-clear digest sized s (length buffer) l x together none)) s law
 
   -- an entry in the part of an interpreted place is the entry in its block's meaning
-  entry-shown : AllInterpreted l → (b : Bytes) (i k : ℕ) → i < l .held → l .block i ≡ b
+  entry-shown : l .retired ≡ [] → AllInterpreted l → (b : Bytes) (i k : ℕ) → i < l .held → l .block i ≡ b
       → getD (partOf (x .records) i) k 0 ≡ getD (meaning s (historyOf digest (l .blocks) b)) k 0
-  entry-shown all b i k h e = ap (λ (part : List ℕ). getD part k 0)
-      (site-keeps digest sized s law (length buffer) l x together .shown i (all i h) ∙ ap (λ (c : Bytes). meaning s (historyOf digest (l .blocks) c)) e)
+  entry-shown none all b i k h e = ap (λ (part : List ℕ). getD part k 0)
+      (site-keeps digest sized s law (length buffer) l x together .shown (unretired-clear digest sized s (length buffer) l x together none) i (all i h) ∙ ap (λ (c : Bytes). meaning s (historyOf digest (l .blocks) c)) e)
 
-  shown : AllInterpreted l → (slot v : ℕ) (last : Bytes) → slot < slotCount → Premises digest s (l .blocks) slot v last → ShownInChain digest l x slot v last
-  shown all slot v last h w =
-      let d = arrives slot v last h w in
-      let m = standing digest s (length buffer) l x (together .tied) .placed (d .by) (chain-held digest (l .blocks) (d .inChain) (w .rounds .lastBy .held)) in
+  shown : l .retired ≡ [] → AllInterpreted l → (slot v : ℕ) (last : Bytes) → slot < slotCount → Premises digest s (l .blocks) slot v last → ShownInChain digest l x slot v last
+  shown none all slot v last h w =
+      let d = arrives none slot v last h w in
+      let m = standing digest sized s (length buffer) l x together .allPlaced none (d .by) (chain-held digest (l .blocks) (d .inChain) (w .rounds .lastBy .held)) in
       record {
         place = m .0;
         held = m .1;
         inChain = subst (λ (c : Bytes). InChain digest (l .blocks) c last) (m .2) (d .inChain);
-        made = entry-shown all (d .by) (m .0) _ (m .1) (sym (m .2)) ∙ d .made;
-        stays = λ i k e. entry-shown all last i _ k e ∙ d .stays;
+        made = entry-shown none all (d .by) (m .0) _ (m .1) (sym (m .2)) ∙ d .made;
+        stays = λ i k e. entry-shown none all last i _ k e ∙ d .stays;
       }
 
   pub arrival : Arrival digest s buffer calls

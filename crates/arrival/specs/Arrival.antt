@@ -2,7 +2,7 @@
 use mathlib.Core.Path.{_≡_}
 use mathlib.Core.Bool.{Bool, true}
 use mathlib.Core.Logic.{_≢_}
-use mathlib.Core.List.{List}
+use mathlib.Core.List.{List, []}
 use Prim.Native.Nat.{ℕ, _+_, _-_, _*_, _≤_, _<_}
 use lib.ListN.{getD}
 use Rattle.base.specs.Bytes.{Bytes}
@@ -94,8 +94,9 @@ module _ (digest : Bytes → Bytes) where
     abbrev ledger : Ledger
     ledger = ledgerOf digest s buffer calls
 
+    -- with nothing retired
     pub record Arrival : Type 0 where
-      pub arrives : (slot v : ℕ) (last : Bytes) → slot < slotCount → Premises s (ledger .blocks) slot v last
+      pub arrives : ledger .retired ≡ [] → (slot v : ℕ) (last : Bytes) → slot < slotCount → Premises s (ledger .blocks) slot v last
           → DeliveredInChain s (ledger .blocks) slot v last
-      pub shown : AllInterpreted ledger → (slot v : ℕ) (last : Bytes) → slot < slotCount → Premises s (ledger .blocks) slot v last
+      pub shown : ledger .retired ≡ [] → AllInterpreted ledger → (slot v : ℕ) (last : Bytes) → slot < slotCount → Premises s (ledger .blocks) slot v last
           → ShownInChain ledger (siteWith digest s buffer calls) slot v last

@@ -41,8 +41,8 @@ module _ (digest : Bytes → Bytes) (s : Setup) (buffer₁ buffer₂ : List ℕ)
   ledger₂ = ledgerOf digest s buffer₂ calls₂
 
   pub record BuildersFull (p : ℕ) : Type 0 where
-    -- with respect to what its table holds
-    pub here : BuildsByRule digest p (started s buffer₁) calls₁ → Full digest (ledger₁ .blocks) p
+    -- with respect to what its table holds, as long as it has retired nothing
+    pub here : ledger₁ .retired ≡ [] → BuildsByRule digest p (started s buffer₁) calls₁ → Full digest (ledger₁ .blocks) p
     -- and at the other site, if that holds no block of it but these
-    pub elsewhere : BuildsByRule digest p (started s buffer₁) calls₁ → NoCollision digest (ledger₁ .blocks ++ ledger₂ .blocks)
+    pub elsewhere : ledger₁ .retired ≡ [] → BuildsByRule digest p (started s buffer₁) calls₁ → NoCollision digest (ledger₁ .blocks ++ ledger₂ .blocks)
         → ((b : Bytes) → BlockBy (ledger₂ .blocks) p b → List·Memᴰ b (ledger₁ .blocks)) → Full digest (ledger₂ .blocks) p

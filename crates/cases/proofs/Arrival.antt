@@ -27,7 +27,7 @@ use Rattle.cases.specs.Run.{zeros, callsOf, answersOf, Step, arriving}
 use Rattle.cases.specs.Blocks.{sites, threeSites, fourSites, echoing, readying}
 use Rattle.cases.specs.Arrival.{echoingBeside, readyingBeside, echoingAfter, readyingAfter, twoSites, AllButTwo, ledger, site, Run, NothingDelivered, Arrives, OneSiteFewer, LastNotFull, ArrivalCases}
 use Rattle.cases.proofs.Toy.{toyDigest}
-use Rattle.cases.proofs.Told.{told, ledgerFrom, ledger-left, allMarked, marked-held, marked-interpreted, madeBy, campaign}
+use Rattle.cases.proofs.Told.{told, ledgerFrom, ledger-left, allMarked, marked-held, marked-interpreted, madeBy, arriving-unretired, campaign}
 use Rattle.cases.proofs.Opened.{openedLedger}
 use Rattle.cases.proofs.Premises.{lawful-setup}
 use Rattle.cases.proofs.Covered.{holds, heldBy, refersTo, near, chainRefers, covers, uncovered, fullSite, is-full, earlierRequest, firstRequest, is-first, each, at-each, inRounds, rounds, misses, not-full}
@@ -91,6 +91,10 @@ module _ (steps : List Step) (last : Bytes) (place : ℕ)
   last-at : ledger steps .block place ≡ last
   last-at = of-ledger (λ l. l .block place ≡ last) standing
 
+  none-retired : ledger steps .retired ≡ []
+  unfolding ledgerFrom
+  none-retired = of-ledger (λ l. l .retired ≡ []) (arriving-unretired empty 0 steps)
+
   run : Run steps last place
   run = record {
     campaign = campaign (sites 4) 0 steps lawful-setup (omega arith) answered marks made;
@@ -100,7 +104,9 @@ module _ (steps : List Step) (last : Bytes) (place : ℕ)
 
   -- the part of the place is the last block's meaning
   part-is : partOf (site steps .records) place ≡ meaning (sites 4) (historyOf toy (ledger steps .blocks) last)
-  part-is = promised toy (toyDigest .size) (sites 4) lawful-setup zeros [] calls [] .first .shown place (all-interpreted place below)
+  part-is =
+      let keeps = promised toy (toyDigest .size) (sites 4) lawful-setup zeros [] calls [] .first in
+      keeps .shown (keeps .unretired none-retired) place (all-interpreted place below)
       ∙ ap (λ (b : Bytes). meaning (sites 4) (historyOf toy (ledger steps .blocks) b)) last-at
 
   nothing-delivered : NoDelivery (left steps .blocks) last → NothingDelivered steps last place
@@ -141,8 +147,8 @@ module _ (steps : List Step) (last : Bytes) (place : ℕ)
           premises = premises;
           ofRequest = refl;
           ofSet = refl;
-          arrives = promise .arrives 0 42 last (omega arith) premises;
-          shown = promise .shown all-interpreted 0 42 last (omega arith) premises .stays place below last-at;
+          arrives = promise .arrives none-retired 0 42 last (omega arith) premises;
+          shown = promise .shown none-retired all-interpreted 0 42 last (omega arith) premises .stays place below last-at;
         }
 
     one-site-fewer : countBelow set 4 + 1 ≡ 4 - faults 4 → fullSite toy (left steps .blocks) among (siteOf last) ≡ true

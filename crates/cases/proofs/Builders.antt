@@ -1,5 +1,5 @@
 -- A site builds by the building rule, by computing, and so it is full, by the theorem. Assumes nothing.
-use mathlib.Core.Path.{_≡_, refl}
+use mathlib.Core.Path.{_≡_, refl, ap}
 use mathlib.Core.Bool.{Bool, true, false, not, _&&_}
 use mathlib.Core.List.{List, [], _∷_, _++_, List·Memᴰ}
 use Prim.Native.Nat.{ℕ}
@@ -15,7 +15,7 @@ use Rattle.block.specs.Limits.{blockSize}
 use Rattle.block.specs.Layout.{siteOf}
 use Rattle.table.specs.Fresh.{freshTable}
 use Rattle.build.specs.Building.{building, built}
-use Rattle.agreement.specs.Ledger.{Call, admit, interpret}
+use Rattle.agreement.specs.Ledger.{Call, admit, interpret, Ledger}
 use Rattle.agreement.specs.Run.{Site, started, siteAnswer, siteStep}
 use Rattle.agreement.specs.Promises.{NoCollision}
 use Rattle.arrival.specs.Full.{BlockBy}
@@ -107,6 +107,10 @@ known : (b : Bytes) → BlockBy (ledgerLeft (sites 4) otherTurns .blocks) 1 b �
 unfolding openedBuilders
 known = rw (own-is, other-is) (all-known 1 (ledgerFrom ownTurns .blocks) (ledgerFrom otherTurns .blocks) refl)
 
+none-retired : ledgerLeft (sites 4) ownTurns .retired ≡ []
+unfolding openedBuilders
+none-retired = ap (λ (l : Ledger). l .retired) own-is
+
 -- ---- what the theorem on builders says of them
 
 theorem : BuildersFull toy (sites 4) zeros zeros (callsOf ownTurns) (callsOf otherTurns) 1
@@ -116,11 +120,11 @@ pub builderCases : BuilderCases
 unfolding openedBuilders
 builderCases =
     record {
-      builderFull = record { taken = session (sites 4) ownTurns lawful-setup refl; byRule = own-by-rule; full = theorem .here own-by-rule };
+      builderFull = record { taken = session (sites 4) ownTurns lawful-setup refl; byRule = own-by-rule; full = theorem .here none-retired own-by-rule };
       fullElsewhere = record {
         taken = session (sites 4) otherTurns lawful-setup refl;
         noCollision = no-collisions;
         known = known;
-        full = theorem .elsewhere own-by-rule no-collisions known;
+        full = theorem .elsewhere none-retired own-by-rule no-collisions known;
       };
     }

@@ -1,6 +1,7 @@
 -- The theorem's premises hold of two runs, by computing, and so does what it says of them. Assumes nothing.
 use mathlib.Core.Path.{_≡_, refl, sym, subst}
 use mathlib.Core.Bool.{Bool, true, false, not, _&&_}
+use mathlib.Core.Logic.{inl}
 use mathlib.Core.List.{List}
 use native.Mathlib.Omega.{arith}
 use Rattle.base.specs.Bytes.{Bytes, sameBytes}
@@ -44,8 +45,8 @@ met =
       mostForked = refl;
       forkedInBoth = refl;
       forkedInFirst = refl;
-      firstDelivers = record { place = 7; isInterpreted = record { below = omega arith; mark = refl }; notZero = λ e. omega arith; entry = refl };
-      secondDelivers = record { place = 10; isInterpreted = record { below = omega arith; mark = refl }; notZero = λ e. omega arith; entry = refl };
+      firstDelivers = record { block = ledgerFrom firstTurns .block 7; isInterpreted = inl (7, record { below = omega arith; mark = refl }, refl); notZero = λ e. omega arith; entry = refl };
+      secondDelivers = record { block = ledgerFrom secondTurns .block 10; isInterpreted = inl (10, record { below = omega arith; mark = refl }, refl); notZero = λ e. omega arith; entry = refl };
       firstInterpreted = record { below = omega arith; mark = refl };
       secondInterpreted = record { below = omega arith; mark = refl };
       sameBlock = refl;

@@ -4,7 +4,7 @@ use mathlib.Core.Path.{_≡_, refl, sym, ap, ap₂, _∙_, subst}
 use mathlib.Core.Logic.{_≢_}
 use mathlib.Core.Bool.{Bool, true, cond, _&&_}
 use mathlib.Core.List.{List, [], _∷_, map, List·Memᴰ, List·Memᴰ·head, List·Memᴰ·tail}
-use Prim.Native.Nat.{ℕ, _<_}
+use Prim.Native.Nat.{ℕ, suc, _<_}
 use native.Mathlib.Omega.{arith}
 use lib.Dec.{eqb}
 use lib.ListN.{length, getD, drop, replicate, length-replicate}
@@ -29,11 +29,11 @@ use Rattle.interpret.proofs.Parts.{record-in}
 use Rattle.agreement.specs.History.{slotRecord, meaning}
 use Rattle.agreement.specs.Ledger.{Call, admit, interpret, Ledger, empty, taken, viewIn, ledgerAnswer, ledgerStep, ledgerAfter, ledgerAnswers}
 use Rattle.agreement.specs.Run.{Site, started, siteAfter, siteAnswers}
-use Rattle.agreement.specs.Promises.{Interpreted, historyAt, ledgerOf, siteWith, Promised}
+use Rattle.agreement.specs.Promises.{Interpreted, RetiredClear, historyAt, ledgerOf, siteWith, Promised}
 use Rattle.agreement.proofs.Meanings.{record-sized}
 use Rattle.agreement.proofs.Theorem.{promised}
 use Rattle.cases.specs.Toy.{toy}
-use Rattle.cases.specs.Run.{zeros, at, answers, Turn, callsOf, answersOf, ledgerLeft, Session, Step, arriving, Campaign}
+use Rattle.cases.specs.Run.{good, zeros, at, answers, Turn, callsOf, answersOf, ledgerLeft, Session, Step, arriving, Campaign}
 use Rattle.cases.proofs.Toy.{toyDigest}
 
 -- ---- the ledger, told by answers
@@ -101,13 +101,17 @@ module _ (s : Setup) where
     pub ledger-told : ledgerOf toy s buffer calls ≡ claimed empty calls ys
     ledger-told = ap (λ (n : ℕ). ledgerAfter toy s n empty calls) whole ∙ so .ledger-is
 
-    pub record-told : (place slot : ℕ) → slot < slotCount → Interpreted (claimed empty calls ys) place
+    -- where no block was retired, nothing is asked of digests
+    pub unretired-told : claimed empty calls ys .retired ≡ [] → RetiredClear toy (ledgerOf toy s buffer calls)
+    unretired-told none = promises .first .unretired (ap (λ (l : Ledger). l .retired) ledger-told ∙ none)
+
+    pub record-told : RetiredClear toy (ledgerOf toy s buffer calls) → (place slot : ℕ) → slot < slotCount → Interpreted (claimed empty calls ys) place
         → recordIn (siteWith toy s buffer calls .records) place slot ≡ slotRecord s slot (historyAt toy (claimed empty calls ys) place)
     unfolding meaning
-    record-told place slot h m =
+    record-told clear place slot h m =
         record-in (λ slot. slotRecord s slot (historyAt toy (ledgerOf toy s buffer calls) place))
         (λ slot _. record-sized s slot (historyAt toy (ledgerOf toy s buffer calls) place)) _ place slot h
-        (promises .first .shown place (subst (λ (l : Ledger). Interpreted l place) (sym ledger-told) m))
+        (promises .first .shown clear place (subst (λ (l : Ledger). Interpreted l place) (sym ledger-told) m))
         ∙ ap (λ (l : Ledger). slotRecord s slot (historyAt toy l place)) ledger-told
 
 -- a buffer of zeros, or of other numbers
@@ -136,6 +140,13 @@ pub ledger-left : (s : Setup) (turns : List Turn) → lawful s ≡ true → told
     → ledgerLeft s turns ≡ ledgerFrom turns
 unfolding ledgerFrom
 ledger-left s turns law e = ledger-told s law zeros (whole 0) (callsOf turns) (answersOf turns) e
+
+-- blocks that arrive and are interpreted retire none
+pub arriving-unretired : (l : Ledger) (place : ℕ) (steps : List Step)
+    → claimed l (callsOf (arriving place steps)) (answersOf (arriving place steps)) .retired ≡ l .retired
+unfolding claimed arriving taken
+arriving-unretired l place [] = refl
+arriving-unretired l place (x ∷ xs) = arriving-unretired (taken (taken l (good (x .arrives))) (interpret place)) (suc place) xs
 
 -- a ledger has k places, all of them marked
 unfoldable pub allMarked : Ledger → ℕ → Bool
@@ -169,7 +180,8 @@ campaign s slot steps law h e marks made =
       taken = session s turns law e;
       recorded = list-same _ _ (length steps) (λ i l. ap (λ (r : SlotRecord). r .made)
           (ap (λ (x : Site). recordIn (siteAfter toy x (callsOf turns) .records) i slot) (sym (start s law))
-          ∙ record-told s law _ (whole 0) (callsOf turns) (answersOf turns) e i slot h
+          ∙ record-told s law zeros (whole 0) (callsOf turns) (answersOf turns) e
+          (unretired-told s law zeros (whole 0) (callsOf turns) (answersOf turns) e (arriving-unretired empty 0 steps)) i slot h
           (marked-interpreted (ledgerFrom turns) (length steps) marks i l))) ∙ made;
     }
   where

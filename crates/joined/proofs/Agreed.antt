@@ -1,6 +1,6 @@
 -- Agreement for a site that calls could have reached from blocks of a list: where at most f sites forked among these blocks and those of a
 -- further site, the two show one number for a slot. Assumes nothing; what is taken as given stands in the promise itself.
-use mathlib.Core.Path.{_≡_, sym, ap, _∙_, subst}
+use mathlib.Core.Path.{_≡_, refl, sym, ap, _∙_, subst}
 use mathlib.Core.Bool.{true}
 use mathlib.Core.Logic.{_⊎_, inl, inr}
 use mathlib.Core.List.{List, _++_, List·Memᴰ, List·Memᴰ·append-cases, Memᴰ·append-left, Memᴰ·append-right}
@@ -30,15 +30,15 @@ forked-more bs cs f p y =
 
 module _ (digest : Bytes → Bytes) (sized : (b : Bytes) → length (digest b) ≡ referenceSize) (s : Setup) (law : lawful s ≡ true) where
   -- what a site's records show is delivered in its ledger
-  shown-delivered : (l : Ledger) (x : Site) → SiteKeeps digest s l x → (slot v : ℕ) → ShowsDelivered x slot v → Delivered digest s l slot v
-  shown-delivered l x k slot v d =
+  shown-delivered : (l : Ledger) (x : Site) → SiteKeeps digest s l x → NoCollision digest (l .blocks) → (slot v : ℕ) → ShowsDelivered x slot v → Delivered digest s l slot v
+  shown-delivered l x k safe slot v d =
       let h : d .place < l .held = omega (arith, d .below, k .count) in
       let m : l .mark (d .place) ≡ 1 = sym (k .rows (d .place) h .mark) ∙ d .mark in
       record {
-        place = d .place;
-        isInterpreted = record { below = h; mark = m };
+        block = l .block (d .place);
+        isInterpreted = inl (d .place, record { below = h; mark = m }, refl);
         notZero = d .notZero;
-        entry = ap (λ (b : List ℕ). getD b (recordSize * slot + deliveredEntry) 0) (sym (k .shown (d .place) (record { below = h; mark = m }))) ∙ d .entry;
+        entry = ap (λ (b : List ℕ). getD b (recordSize * slot + deliveredEntry) 0) (sym (k .shown (λ a b r. safe a b (k .placed a .1 (inr r))) (d .place) (record { below = h; mark = m }))) ∙ d .entry;
       }
 
   pub agreed : (third : List ℕ) (blocks : List Bytes) (x : Site) → Reachable digest s third blocks x → (buffer : List ℕ) (calls : List Call)
@@ -48,7 +48,7 @@ module _ (digest : Bytes → Bytes) (sized : (b : Bytes) → length (digest b) �
   agreed third blocks x r buffer calls safe few slot v w h d e =
       all .agreement (λ a b ma mb. safe a b (more a ma) (more b mb))
       (omega (arith, count-mono (forked mine) (forked (blocks ++ other)) (s .sites) (λ p l y. forked-more mine (blocks ++ other) more p y)))
-      slot v w h (inl (first v d)) (elim e [ inl u ↦ inl (first w u) | inr u ↦ inr (shown-delivered _ _ (all .second) slot w u) ])
+      slot v w h (inl (first v d)) (elim e [ inl u ↦ inl (first w u) | inr u ↦ inr (shown-delivered _ _ (all .second) (λ a b m n. safe a b (Memᴰ·append-right blocks m) (Memᴰ·append-right blocks n)) slot w u) ])
     where
       all : Promised digest s third buffer (r .calls) calls
       all = promised digest sized s law third buffer (r .calls) calls
@@ -66,4 +66,4 @@ module _ (digest : Bytes → Bytes) (sized : (b : Bytes) → length (digest b) �
       ]
 
       first : (v : ℕ) → ShowsDelivered x slot v → Delivered digest s (ledgerOf digest s third (r .calls)) slot v
-      first v u = shown-delivered _ _ (all .first) slot v (subst (λ (y : Site). ShowsDelivered y slot v) (sym (r .reaches)) u)
+      first v u = shown-delivered _ _ (all .first) (λ a b m n. safe a b (Memᴰ·append-left other (r .among a m)) (Memᴰ·append-left other (r .among b n))) slot v (subst (λ (y : Site). ShowsDelivered y slot v) (sym (r .reaches)) u)

@@ -2,7 +2,7 @@
 use mathlib.Core.Path.{_≡_, sym, ap, _∙_, subst}
 use mathlib.Core.Bool.{true}
 use mathlib.Core.Logic.{_⊎_, _↔_}
-use mathlib.Core.List.{List, _++_, List·Memᴰ, Memᴰ·append-left, Memᴰ·append-right, Memᴰ·cast}
+use mathlib.Core.List.{List, [], _++_, List·Memᴰ, Memᴰ·append-left, Memᴰ·append-right, Memᴰ·cast}
 use Prim.Native.Nat.{ℕ, _<_}
 use native.Mathlib.Omega.{arith}
 use lib.Dec.{ltb}
@@ -40,7 +40,7 @@ use Rattle.joined.proofs.Agreed.{agreed}
 module _ (digest : Bytes → Bytes) (sized : (b : Bytes) → length (digest b) ≡ referenceSize) where
   -- two sites that calls reached, joined
   module _ (s z : Setup) (law : lawful s ≡ true) (size₁ size₂ : ℕ) (l₁ l₂ : Ledger) (x y : Site)
-      (r₁ : Reached digest sized s size₁ l₁ x) (r₂ : Reached digest sized z size₂ l₂ y) (third : List ℕ) (e : CanJoin x y third) where
+      (r₁ : Reached digest sized s size₁ l₁ x) (r₂ : Reached digest sized z size₂ l₂ y) (none₁ : l₁ .retired ≡ []) (none₂ : l₂ .retired ≡ []) (third : List ℕ) (e : CanJoin x y third) where
     p : Passed (x .table) (y .table) (x .records) (y .records) third
     p = passes (x .table) (y .table) (x .records) (y .records) third e
 
@@ -66,10 +66,10 @@ module _ (digest : Bytes → Bytes) (sized : (b : Bytes) → length (digest b) �
     one-setup = sym (r₂ .together .tied .setup) ∙ sym (p .joinable .setup) ∙ r₁ .together .tied .setup
 
     rows₁ : Rows digest (x .table) (l₁ .block)
-    rows₁ = reached-rows digest sized s size₁ l₁ x r₁
+    rows₁ = reached-rows digest sized s size₁ l₁ x r₁ none₁
 
     rows₂ : Rows digest (y .table) (l₂ .block)
-    rows₂ = reached-rows digest sized z size₂ l₂ y r₂
+    rows₂ = reached-rows digest sized z size₂ l₂ y r₂ none₂
 
     abbrev block : ℕ → Bytes
     block = blockOf digest (x .table) (y .table) (x .records) (y .records) third p (l₁ .block) (l₂ .block) rows₁ rows₂
@@ -111,10 +111,10 @@ module _ (digest : Bytes → Bytes) (sized : (b : Bytes) → length (digest b) �
     -- what is admitted
 
     stand₁ : Standing digest l₁ (x .table)
-    stand₁ = standing digest s size₁ l₁ x (r₁ .together .tied)
+    stand₁ = standing digest sized s size₁ l₁ x (r₁ .together)
 
     stand₂ : Standing digest l₂ (y .table)
-    stand₂ = standing digest z size₂ l₂ y (r₂ .together .tied)
+    stand₂ = standing digest sized z size₂ l₂ y (r₂ .together)
 
     block-among : (i : ℕ) → i < c → List·Memᴰ (block i) (l₁ .blocks ++ l₂ .blocks)
     block-among i h = by-test (ltb i n)

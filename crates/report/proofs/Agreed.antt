@@ -3,10 +3,11 @@
 use mathlib.Core.Path.{_≡_}
 use mathlib.Core.Bool.{true}
 use mathlib.Core.Logic.{inl, inr}
-use mathlib.Core.List.{List, []}
+use mathlib.Core.List.{List, [], Memᴰ·append-left, Memᴰ·append-right}
 use Prim.Native.Nat.{ℕ, _<_}
 use native.Mathlib.Omega.{arith}
 use lib.ListN.{length}
+use Rattle.base.specs.Bytes.{Bytes}
 use Rattle.block.specs.Limits.{slotCount}
 use Rattle.setup.specs.Setup.{Setup, lawful}
 use Rattle.sha256.specs.Sha256.{sha256}
@@ -14,13 +15,17 @@ use Rattle.sha256.proofs.Laws.{sha256-length}
 use Rattle.interpret.specs.Buffer.{bufferSize}
 use Rattle.agreement.specs.Ledger.{empty, ledgerAfter}
 use Rattle.agreement.specs.Run.{started, siteAfter}
-use Rattle.agreement.specs.Promises.{Delivered, ledgerOf}
+use Rattle.agreement.specs.Promises.{NoCollision, Delivered, ledgerOf}
 use Rattle.agreement.proofs.Runs.{Together}
 use Rattle.agreement.proofs.Theorem.{run, theorem}
 use Rattle.report.specs.Arrivals.{Arrival}
 use Rattle.report.specs.Agreed.{callsOf, Shows, Agreed}
 use Rattle.report.proofs.Steady.{Steady, steady-settled}
 use Rattle.report.proofs.Shown.{shows-delivered}
+
+-- the blocks that a listing admitted
+abbrev admitted : Setup → List ℕ → List Arrival → List Bytes
+admitted s buffer arrivals = ledgerOf sha256 s buffer (callsOf (started s buffer) arrivals) .blocks
 
 module _ (s : Setup) (law : lawful s ≡ true) (buffer : List ℕ) where
   -- before the first arrival
@@ -36,7 +41,8 @@ module _ (s : Setup) (law : lawful s ≡ true) (buffer : List ℕ) where
         whole = whole;
       }
 
-  delivered : (arrivals : List Arrival) (slot v : ℕ) → slot < slotCount → Shows (started s buffer) arrivals slot v
+  delivered : (arrivals : List Arrival) → NoCollision sha256 (admitted s buffer arrivals)
+      → (slot v : ℕ) → slot < slotCount → Shows (started s buffer) arrivals slot v
       → Delivered sha256 s (ledgerOf sha256 s buffer (callsOf (started s buffer) arrivals)) slot v
   delivered = shows-delivered s (length buffer) empty (started s buffer) start-together
 
@@ -46,5 +52,6 @@ agreed s buffer₁ buffer₂ arrivals₁ arrivals₂ law =
       settled = λ whole. steady-settled (started s buffer₁) (start-steady s law buffer₁ whole) arrivals₁;
       oneNumber = λ safe few slot v w low first second.
           theorem s law buffer₁ buffer₂ (callsOf (started s buffer₁) arrivals₁) (callsOf (started s buffer₂) arrivals₂) .agreement safe few slot v w low
-          (inl (delivered s law buffer₁ arrivals₁ slot v low first)) (inr (delivered s law buffer₂ arrivals₂ slot w low second));
+          (inl (delivered s law buffer₁ arrivals₁ (λ a b m n. safe a b (Memᴰ·append-left (admitted s buffer₂ arrivals₂) m) (Memᴰ·append-left (admitted s buffer₂ arrivals₂) n)) slot v low first))
+          (inr (delivered s law buffer₂ arrivals₂ (λ a b m n. safe a b (Memᴰ·append-right (admitted s buffer₁ arrivals₁) m) (Memᴰ·append-right (admitted s buffer₁ arrivals₁) n)) slot w low second));
     }

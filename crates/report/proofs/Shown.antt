@@ -1,7 +1,7 @@
 -- What a line of a listing shows delivered is delivered in the ledger of the listing's calls. Assumes nothing.
 use mathlib.Core.Path.{_≡_, refl, sym, ap, _∙_, subst}
 use mathlib.Core.Bool.{Bool, cond}
-use mathlib.Core.Logic.{_≢_}
+use mathlib.Core.Logic.{_≢_, inl}
 use mathlib.Core.List.{List, _∷_}
 use Prim.Native.Nat.{ℕ, _<_}
 use native.Mathlib.Omega.{arith}
@@ -21,10 +21,11 @@ use Rattle.interpret.proofs.Promises.{promises}
 use Rattle.agreement.specs.History.{History, node, slotRecord, meaning}
 use Rattle.agreement.specs.Ledger.{Call, Ledger, ledgerAfter}
 use Rattle.agreement.specs.Run.{Site, siteAnswer}
-use Rattle.agreement.specs.Promises.{Interpreted, historyAt, Delivered}
+use Rattle.agreement.specs.Promises.{Interpreted, NoCollision, historyAt, Delivered}
 use Rattle.agreement.proofs.Meanings.{record-sized, record-made}
-use Rattle.agreement.proofs.Standing.{standing}
 use Rattle.agreement.proofs.Runs.{Together, run-together}
+use Rattle.agreement.proofs.Growth.{after-keeps}
+use Rattle.agreement.proofs.Standing.{place-history, safe-clear}
 use Rattle.agreement.proofs.Theorem.{delivered-is}
 use Rattle.report.specs.Arrivals.{Arrival, arrived, unread}
 use Rattle.report.specs.Listing.{deliveredIn, admissionAnswer, siteArrived, arrivalRefusal}
@@ -64,13 +65,13 @@ module _ (s : Setup) (size : ℕ) where
   abbrev Paired : Ledger → Site → Type 0
   Paired = Together sha256 sha256-length s size
 
-  place-delivered : (l : Ledger) (x : Site) → Paired l x → (i slot v : ℕ) → Marks x i → slot < slotCount → deliveredIn (x .records) i slot ≡ v → v ≢ 0
+  place-delivered : (l : Ledger) (x : Site) → Paired l x → NoCollision sha256 (l .blocks) → (i slot v : ℕ) → Marks x i → slot < slotCount → deliveredIn (x .records) i slot ≡ v → v ≢ 0
       → Delivered sha256 s l slot v
   unfolding meaning
-  place-delivered l x t i slot v m low e n =
+  place-delivered l x t safe i slot v m low e n =
       record {
-        place = i;
-        isInterpreted = interpreted;
+        block = l .block i;
+        isInterpreted = inl (i, interpreted, refl);
         notZero = n;
         entry = delivered-is s history slot low ∙ sym (made-sent s slot history (λ z. n (sym made ∙ z))) ∙ made;
       }
@@ -79,10 +80,12 @@ module _ (s : Setup) (size : ℕ) where
       history = historyAt sha256 l i
 
       interpreted : Interpreted l i
-      interpreted = record { below = standing sha256 s size l x (t .tied) .held i (m .held); mark = sym (t .tied .rows i (m .held) .mark) ∙ m .mark }
+      interpreted = record { below = omega (arith, m .held, t .tied .count); mark = sym (t .tied .rows i (m .held) .mark) ∙ m .mark }
 
       part : partOf (x .records) i ≡ numbersOf (λ slot. slotRecord s slot history)
-      part = t .shown i (interpreted .below) (interpreted .mark)
+      part =
+          t .known .shown i (interpreted .below) (interpreted .mark)
+          ∙ ap (meaning s) (sym (place-history sha256 sha256-length s size l x t (safe-clear sha256 sha256-length s size l x t safe) i (interpreted .below)))
 
       its : recordIn (x .records) i slot ≡ slotRecord s slot history
       its = record-in (λ slot. slotRecord s slot history) (λ slot _. record-sized s slot history) (x .records) i slot low part
@@ -102,19 +105,28 @@ module _ (s : Setup) (size : ℕ) where
         subst (Paired (after l (callsAt x b verdict))) (site-after-calls x b verdict) (run-together sha256 sha256-length s size l x t (callsAt x b verdict))
 
     -- and then the calls of the rest
+    rest-after : (rest : List Arrival) → after l (callsOf x (arrived b verdict ∷ rest)) ≡ after (after l (callsAt x b verdict)) (callsOf (siteArrived sha256 x b verdict) rest)
+    unfolding callsOf
+    rest-after rest = ledger-after-both sha256 s size l (callsAt x b verdict) (callsOf (siteArrived sha256 x b verdict) rest)
+
+    safe-rest : (rest : List Arrival) → NoCollision sha256 (after l (callsOf x (arrived b verdict ∷ rest)) .blocks)
+        → NoCollision sha256 (after (after l (callsAt x b verdict)) (callsOf (siteArrived sha256 x b verdict) rest) .blocks)
+    safe-rest rest = subst (λ (m : Ledger). NoCollision sha256 (m .blocks)) (rest-after rest)
+
     then-rest : (rest : List Arrival) (slot v : ℕ) → Delivered sha256 s (after (after l (callsAt x b verdict)) (callsOf (siteArrived sha256 x b verdict) rest)) slot v
         → Delivered sha256 s (after l (callsOf x (arrived b verdict ∷ rest))) slot v
-    unfolding callsOf
-    then-rest rest slot v =
-        subst (λ (m : Ledger). Delivered sha256 s m slot v) (sym (ledger-after-both sha256 s size l (callsAt x b verdict) (callsOf (siteArrived sha256 x b verdict) rest)))
+    then-rest rest slot v = subst (λ (m : Ledger). Delivered sha256 s m slot v) (sym (rest-after rest))
 
-  pub shows-delivered : (l : Ledger) (x : Site) → Paired l x → (arrivals : List Arrival) (slot v : ℕ) → slot < slotCount → Shows x arrivals slot v
-      → Delivered sha256 s (after l (callsOf x arrivals)) slot v
+  pub shows-delivered : (l : Ledger) (x : Site) → Paired l x → (arrivals : List Arrival) → NoCollision sha256 (after l (callsOf x arrivals) .blocks)
+      → (slot v : ℕ) → slot < slotCount → Shows x arrivals slot v → Delivered sha256 s (after l (callsOf x arrivals)) slot v
   unfolding callsOf
-  shows-delivered l x t (unread ∷ rest) slot v low (past m) = shows-delivered l x t rest slot v low m
-  shows-delivered l x t (arrived b verdict ∷ rest) slot v low (here z e n) =
+  shows-delivered l x t (unread ∷ rest) safe slot v low (past m) = shows-delivered l x t rest safe slot v low m
+  shows-delivered l x t (arrived b verdict ∷ rest) safe slot v low (here z e n) =
+      let next : Ledger = after l (callsAt x b verdict) in
+      let all : NoCollision sha256 (after next (callsOf (siteArrived sha256 x b verdict) rest) .blocks) = safe-rest l x t b verdict rest safe in
+      let keeps = after-keeps sha256 s size next (callsOf (siteArrived sha256 x b verdict) rest) in
       then-rest l x t b verdict rest slot v
-      (delivered-stays sha256 sha256-length s size slot v _ _ (pair-after l x t b verdict) (callsOf (siteArrived sha256 x b verdict) rest)
-      (place-delivered _ _ (pair-after l x t b verdict) _ slot v (marks x b verdict z) low e n))
-  shows-delivered l x t (arrived b verdict ∷ rest) slot v low (later m) =
-      then-rest l x t b verdict rest slot v (shows-delivered _ _ (pair-after l x t b verdict) rest slot v low m)
+      (delivered-stays sha256 sha256-length s size slot v _ _ (pair-after l x t b verdict) (callsOf (siteArrived sha256 x b verdict) rest) all
+      (place-delivered _ _ (pair-after l x t b verdict) (λ c d i j. all c d (keeps c i) (keeps d j)) _ slot v (marks x b verdict z) low e n))
+  shows-delivered l x t (arrived b verdict ∷ rest) safe slot v low (later m) =
+      then-rest l x t b verdict rest slot v (shows-delivered _ _ (pair-after l x t b verdict) rest (safe-rest l x t b verdict rest safe) slot v low m)

@@ -1,8 +1,10 @@
--- What a ledger has delivered stays delivered, whatever calls follow: a block keeps its place, its mark and its history. Assumes nothing.
-use mathlib.Core.Path.{_≡_, refl, ap, _∙_}
+-- What a ledger has delivered stays delivered, whatever calls follow: a block keeps its mark and its history. Assumes nothing; that no two different
+-- blocks share a digest stands where it is needed.
+use mathlib.Core.Path.{_≡_, refl, sym, ap, _∙_}
 use mathlib.Core.Bool.{Bool, cond}
-use mathlib.Core.List.{List, [], _∷_, _++_}
-use Prim.Native.Nat.{ℕ, _+_, _*_, _<_}
+use mathlib.Core.Logic.{inl, inr}
+use mathlib.Core.List.{List, [], _∷_, _++_, List·Memᴰ}
+use Prim.Native.Nat.{ℕ, _+_, _*_}
 use native.Mathlib.Omega.{arith}
 use lib.Dec.{eqb}
 use lib.ListN.{length, getD}
@@ -16,10 +18,11 @@ use Rattle.agreement.specs.History.{History, meaning}
 use Rattle.agreement.specs.Ancestry.{historyOf}
 use Rattle.agreement.specs.Ledger.{Call, admit, interpret, Ledger, taken, ledgerAnswer, ledgerStep, ledgerAfter}
 use Rattle.agreement.specs.Run.{Site, siteStep}
-use Rattle.agreement.specs.Promises.{deliveredEntry, Delivered}
-use Rattle.agreement.proofs.Ancestry.{Grown, history-stays}
-use Rattle.agreement.proofs.Standing.{standing}
+use Rattle.agreement.specs.Promises.{InterpretedBlock, deliveredEntry, NoCollision, Delivered}
+use Rattle.agreement.proofs.Ancestry.{history-agree}
 use Rattle.agreement.proofs.Runs.{Together, step-together}
+use Rattle.agreement.proofs.Growth.{step-keeps, after-keeps}
+use Rattle.agreement.proofs.Standing.{interpreted-among, one-history-each, safe-clear}
 
 -- a list of calls, and then another
 pub ledger-after-both : (digest : Bytes → Bytes) (s : Setup) (size : ℕ) (l : Ledger) (first second : List Call)
@@ -29,48 +32,52 @@ ledger-after-both digest s size l [] second = refl
 ledger-after-both digest s size l (c ∷ first) second = ledger-after-both digest s size (ledgerStep digest s size l c) first second
 
 module _ (digest : Bytes → Bytes) (sized : (b : Bytes) → length (digest b) ≡ referenceSize) (s : Setup) (size slot v : ℕ) where
-  module _ (l : Ledger) (x : Site) (t : Together digest sized s size l x) (d : Delivered digest s l slot v) where
-    abbrev i : ℕ
-    i = d .place
+  interpreted-stays : (l : Ledger) (c : Call) (b : Bytes) → InterpretedBlock l b → InterpretedBlock (taken l c) b
+  unfolding taken
+  interpreted-stays l (admit a verdict) b (inl (i, w, e)) =
+      let n = ne-eqb i (l .held) (λ q. absurd (omega (arith, w .below))) in
+      inl (i, record { below = omega (arith, w .below); mark = ap (λ (z : Bool). cond z 0 (l .mark i)) n ∙ w .mark }, e ∙ sym (ap (λ (z : Bool). cond z a (l .block i)) n))
+  interpreted-stays l (admit a verdict) b (inr m) = inr m
+  interpreted-stays l (interpret place) b (inl (i, w, e)) = inl (i, record { below = w .below; mark = by-test (eqb i place) (λ y. rw y) (λ n. rw n (w .mark)) }, e)
+  interpreted-stays l (interpret place) b (inr m) = inr m
 
-    low : i < l .held
-    low = d .isInterpreted .below
+  module _ (l : Ledger) (x : Site) (t : Together digest sized s size l x) (c : Call) where
+    abbrev l′ : Ledger
+    l′ = ledgerStep digest s size l c
 
-    taken-stays : (c : Call) → Grown digest (taken l c .blocks) → Delivered digest s (taken l c) slot v
-    unfolding taken
-    taken-stays (admit b verdict) g =
-        let n = ne-eqb i (l .held) (λ e. absurd (omega (arith, low))) in
-        record {
-          place = i;
-          isInterpreted = record { below = omega (arith, low); mark = ap (λ (z : Bool). cond z 0 (l .mark i)) n ∙ d .isInterpreted .mark };
-          notZero = d .notZero;
-          entry =
-              ap (λ (h : History). getD (meaning s h) (recordSize * slot + deliveredEntry) 0)
-              (ap (λ (z : Bool). historyOf digest (b ∷ l .blocks) (cond z b (l .block i))) n
-              ∙ history-stays digest (l .blocks) b g (l .block i) (standing digest s size l x (t .tied) .among i low))
-              ∙ d .entry;
-        }
-    taken-stays (interpret place) g =
-        record {
-          place = i;
-          isInterpreted = record { below = low; mark = marked (eqb i place) };
-          notZero = d .notZero;
-          entry = d .entry;
-        }
-      where
-        marked : (z : Bool) → cond z 1 (l .mark i) ≡ 1
-        marked z = by-test z (λ y. rw y) (λ n. rw n (d .isInterpreted .mark))
-
-    step-stays : (c : Call) → Delivered digest s (ledgerStep digest s size l c) slot v
+    step-interpreted : (b : Bytes) → InterpretedBlock l b → InterpretedBlock l′ b
     unfolding ledgerStep
-    step-stays c = go (step-together digest sized s size l x t c .tied .grown)
-      where
-        go : Grown digest (ledgerStep digest s size l c .blocks) → Delivered digest s (ledgerStep digest s size l c) slot v
-        go g = by-test (eqb (ledgerAnswer digest s size l c .refusal) 0) (λ y. rw y (taken-stays c (rw y at g))) (λ n. rw n d)
+    step-interpreted b i = by-test (eqb (ledgerAnswer digest s size l c .refusal) 0) (λ y. rw y (interpreted-stays l c b i)) (λ n. rw n i)
 
-  pub delivered-stays : (l : Ledger) (x : Site) → Together digest sized s size l x → (calls : List Call) → Delivered digest s l slot v
-      → Delivered digest s (ledgerAfter digest s size l calls) slot v
+    -- a block keeps its history
+    history-stays : NoCollision digest (l′ .blocks) → (b : Bytes) → List·Memᴰ b (l .blocks) → historyOf digest (l .blocks) b ≡ historyOf digest (l′ .blocks) b
+    history-stays safe b m =
+        history-agree digest (l .blocks) (l′ .blocks)
+        (one-history-each digest sized s size l x t (safe-clear digest sized s size l x t (λ d e i j. safe d e (later d i) (later e j))))
+        (one-history-each digest sized s size l′ _ t′ (safe-clear digest sized s size l′ _ t′ safe))
+        (λ d e i. safe d e (later d i)) b m (later b m)
+      where
+        later : (d : Bytes) → List·Memᴰ d (l .blocks) → List·Memᴰ d (l′ .blocks)
+        later = step-keeps digest s size l c
+
+        t′ : Together digest sized s size l′ (siteStep digest x c)
+        t′ = step-together digest sized s size l x t c
+
+    step-stays : NoCollision digest (l′ .blocks) → Delivered digest s l slot v → Delivered digest s l′ slot v
+    step-stays safe d =
+        let m = interpreted-among digest sized s size l x t (d .block) (d .isInterpreted) in
+        record {
+          block = d .block;
+          isInterpreted = step-interpreted (d .block) (d .isInterpreted);
+          notZero = d .notZero;
+          entry = ap (λ (h : History). getD (meaning s h) (recordSize * slot + deliveredEntry) 0) (sym (history-stays safe (d .block) m)) ∙ d .entry;
+        }
+
+  pub delivered-stays : (l : Ledger) (x : Site) → Together digest sized s size l x → (calls : List Call) → NoCollision digest (ledgerAfter digest s size l calls .blocks)
+      → Delivered digest s l slot v → Delivered digest s (ledgerAfter digest s size l calls) slot v
   unfolding ledgerAfter
-  delivered-stays l x t [] d = d
-  delivered-stays l x t (c ∷ calls) d =
-      delivered-stays (ledgerStep digest s size l c) (siteStep digest x c) (step-together digest sized s size l x t c) calls (step-stays l x t d c)
+  delivered-stays l x t [] safe d = d
+  delivered-stays l x t (c ∷ calls) safe d =
+      let keeps = after-keeps digest s size (ledgerStep digest s size l c) calls in
+      delivered-stays (ledgerStep digest s size l c) (siteStep digest x c) (step-together digest sized s size l x t c) calls safe
+      (step-stays l x t c (λ a b i j. safe a b (keeps a i) (keeps b j)) d)

@@ -1,7 +1,7 @@
 -- `put_answer` meets its contract: two stores where they fit. Assumes nothing.
 use mathlib.Core.Path.{_≡_, ap, _∙_}
 use mathlib.Core.List.{List, [], _∷_}
-use Prim.Native.Nat.{ℕ, _+_, _*_, _≤_, _<_}
+use Prim.Native.Nat.{ℕ, _+_, _*_, _/_, _≤_, _<_}
 use native.Mathlib.Numerals.{add-one}
 use native.Mathlib.Omega.{arith}
 use lib.ListN.{length, set, length-set}
@@ -24,21 +24,28 @@ module _ (b : List ℕ) (i : ℕ) (a : Answer) where
   unfolding putAnswer
   answer-lost h = rw (lt-leb (2 * i + 2) (length b) h)
 
+-- two more numbers fit behind 2 i where i is below the half
+fits : (i n : ℕ) → i < n / 2 → 2 * i + 2 ≤ n
+fits i n h = omega arith
+
+lost : (i n : ℕ) → n / 2 ≤ i → n < 2 * i + 2
+lost i n h = omega arith
+
 slice-write-answers-2 : tie.Need-slice-write-answers-2
-slice-write-answers-2 c = let a = c .before .before .args in omega (arith, length-set (a .answers .now) (2 * a .i) (a .answer .refusal), c .before .if1 .taken)
+slice-write-answers-2 c =
+    let a = c .before .before .args in
+    omega (arith, length-set (a .answers .now) (2 * a .i) (a .answer .refusal), fits (a .i) (length (a .answers .now)) (c .before .if1 .taken))
 
 returns : tie.Need-returns
-returns c = answer-put _ _ _ (c .before .if1 .taken)
+returns c = answer-put _ _ _ (fits _ _ (c .before .if1 .taken))
 
 returns-2 : tie.Need-returns-2
-returns-2 c = answer-lost _ _ _ (c .if1 .left)
+returns-2 c = answer-lost _ _ _ (lost _ _ (c .if1 .left))
 
 pub put-answer-spec : {M : Type 1} → statement M
 put-answer-spec =
     tie.close
     (tie.spec
-    (λ c. search needs)
-    (λ c. search needs)
     (λ c. search needs)
     (λ c. search needs)
     (λ c. search needs)
