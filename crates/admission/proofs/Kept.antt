@@ -24,7 +24,7 @@ use Rattle.table.specs.Layout.{setupOf, countOf, digestAt, rowAt, viewOf, withR
 use Rattle.table.specs.Rules.{rowInForm}
 use Rattle.table.specs.Form.{inForm}
 use Rattle.table.specs.Promises.{Grown}
-use Rattle.table.proofs.Views.{RowForm, row-form, form-row, same-sym, rule-same}
+use Rattle.table.proofs.Views.{RowForm, row-form, form-row, same-sym, rule-same, rule-formed}
 use Rattle.table.proofs.Formed.{Formed, formed-of, in-formed}
 use Rattle.table.proofs.Put.{grown, grown-formed}
 use Rattle.admission.specs.Admission.{lists, rowFor, admission, admitted}
@@ -89,8 +89,8 @@ module _ (digest : Bytes → Bytes) (t t′ b : Bytes) (verdict : ℕ) (p : Pare
         -- it is uninterpreted
         closed = λ m. absurd (omega (arith, g .here .mark));
         parent =
-            rule-same (viewOf t′) (viewOf t) (countOf t) (rowAt t′ (countOf t)) (rowFor digest (viewOf t) b)
-            (same-sym (viewOf t) (viewOf t′) (countOf t) (g .below)) (form .held .fits) (g .here) ∙ p .parent;
+            rule-formed (viewOf t′) (countOf t) (rowAt t′ (countOf t)) (rule-same (viewOf t′) (viewOf t) (countOf t) (rowAt t′ (countOf t)) (rowFor digest (viewOf t) b)
+            (same-sym (viewOf t) (viewOf t′) (countOf t) (g .below)) (form .held .fits) (g .here) ∙ p .parent);
       }
 
   row-in-form : rowInForm (setupOf t) (viewOf t′) (countOf t) ≡ true

@@ -3,7 +3,7 @@
 use mathlib.Core.Path.{_≡_, refl, sym, ap, _∙_}
 use mathlib.Core.Bool.{Bool, true, _&&_}
 use mathlib.Core.Logic.{_≢_, inl, inr}
-use Prim.Native.Nat.{ℕ, _+_, _<_}
+use Prim.Native.Nat.{ℕ, _+_, _≤_, _<_}
 use native.Mathlib.Decide.{decLt}
 use native.Mathlib.Omega.{arith}
 use lib.Dec.{eqb, ltb}
@@ -22,7 +22,7 @@ use Rattle.admission.specs.Admission.{lists, rowFor, admission}
 use Rattle.admission.specs.Promises.{Readable, ReferenceMissing, ParentRule, New, Parented, Causes}
 use Rattle.admission.proofs.Causes.{causes}
 use Rattle.watch.specs.Promises.{Shares}
-use Rattle.build.specs.Building.{nextSequence, isGreatest, picked, nextContent, nextBlock}
+use Rattle.build.specs.Building.{maxSequence, nextSequence, isGreatest, picked, nextContent, nextBlock}
 use Rattle.build.specs.Promises.{Asked, Admissible}
 use Rattle.build.proofs.Sequence.{greatest-site, greatest-before, greatest-only}
 use Rattle.build.proofs.Picked.{pickedAt, picked-held, picked-own, greatest-first}
@@ -30,7 +30,8 @@ use Rattle.build.proofs.Fits.{one-place, as-many-references, reference-
 use Rattle.build.proofs.Fields.{next-site, next-numbered}
 use Rattle.build.proofs.Shown.{shown-count, shown-reference, listed-reference, reference-listed}
 
-module _ (seen : ℕ → Bool) (t : Bytes) (p : ℕ) (requests : Bytes) (all : AllBytes t) (allRequests : AllBytes requests) (asked : Asked t p requests) where
+module _ (seen : ℕ → Bool) (t : Bytes) (p : ℕ) (requests : Bytes) (all : AllBytes t) (allRequests : AllBytes requests) (asked : Asked t p requests)
+    (last : nextSequence seen (viewOf t) p ≤ maxSequence) where
   abbrev v : View
   v = viewOf t
 
@@ -47,7 +48,7 @@ module _ (seen : ℕ → Bool) (t : Bytes) (p : ℕ) (requests : Bytes) (all : A
   form = formed-of t (asked .formed)
 
   reads : Reads block next
-  reads = next-reads seen t p requests all allRequests asked
+  reads = next-reads seen t p requests all allRequests asked last
 
   -- ---- what its bytes show
 

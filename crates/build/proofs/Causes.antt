@@ -21,8 +21,9 @@ use Rattle.table.proofs.Checks.{none-refused, past-check, at-check, elsewhere, 
 use Rattle.watch.specs.Forks.{forkedIn}
 use Rattle.watch.specs.Promises.{Shares}
 use Rattle.watch.proofs.Shared.{forked-shares}
-use Rattle.build.specs.Building.{wellListed, buildingChecks, buildingFrom}
-use Rattle.build.specs.Promises.{Asked, answer, needed, Able}
+use Rattle.build.specs.Building.{maxSequence, nextSequence, wellListed, buildingChecks, buildingFrom}
+use Rattle.build.specs.Promises.{Asked, answer, needed, Able, Ended, Lasting}
+use Rattle.build.proofs.Sequence.{greatest-own, greatest-before, next-above, some-greatest}
 
 -- ---- what checks 3 and 6 say of the requests
 
@@ -88,25 +89,53 @@ module _ (seen : ℕ → Bool) (t : Bytes) (p : ℕ) (requests output : Bytes) w
   unfolding elsewhere
   sixteen = and-then (past-six 16 (λ k l h e. omega arith)) (Iff·trans (at-check _ _ _ (never-answered 16 _ _ refl)) (present _ _ (forked-shares (viewOf t) seen p)))
 
-  pub seventeen : (number ≡ 17) ↔ (Able seen t p requests output × (length output < size))
+  abbrev sequence : ℕ
+  sequence = nextSequence seen (viewOf t) p
+
+  ended : (leb sequence maxSequence ≡ false) ↔ Ended seen t p
+  ended = (
+    λ e. let w = some-greatest seen (viewOf t) p (λ z. omega (arith, leb-false sequence maxSequence e)) in
+        record {
+          place = w .0;
+          below = w .1;
+          own = greatest-own seen (viewOf t) p (w .0) (w .2);
+          sequence = omega (arith, greatest-before seen (viewOf t) p (w .0) (w .2), leb-false sequence maxSequence e);
+        },
+    λ w. lt-leb sequence maxSequence (omega (arith, w .sequence, next-above seen (viewOf t) p (w .place) (w .below) (w .own))),
+  )
+
+  pub thirty : (number ≡ 30) ↔ (Able seen t p requests output × Ended seen t p)
   unfolding elsewhere
-  seventeen = and-then (past-sixteen 17 (λ k l h e. omega arith) (λ e. omega arith)) (Iff·trans (at-check _ _ _ (never-answered 17 _ _ refl))
+  thirty = and-then (past-sixteen 30 (λ k l h e. omega arith) (λ e. omega arith)) (Iff·trans (at-check _ _ _ (never-answered 30 _ _ refl)) ended)
+
+  past-thirty : (n : ℕ) → NotUpToSix n → 16 ≢ n → 30 ≢ n → (number ≡ n) ↔ (Lasting seen t p requests output × (from 6 ≡ n))
+  past-thirty n out other third =
+      Iff·trans (and-then (past-sixteen n out other) (past-check _ _ _ n (λ _. third))) (
+        λ q. (record { able = q .0; within = leb-true _ _ (q .1 .0) }, q .1 .1),
+        λ q. (q .0 .able, (le-leb _ _ (q .0 .within), q .1)),
+      )
+
+  pub seventeen : (number ≡ 17) ↔ (Lasting seen t p requests output × (length output < size))
+  unfolding elsewhere
+  seventeen = and-then (past-thirty 17 (λ k l h e. omega arith) (λ e. omega arith) (λ e. omega arith)) (Iff·trans (at-check _ _ _ (never-answered 17 _ _ refl))
       (λ e. leb-false _ _ e, λ h. lt-leb _ _ h))
 
-  pub none : (number ≡ 0) ↔ (Able seen t p requests output × (size ≤ length output))
-  none = and-then (past-sixteen 0 (λ k l h e. omega arith) (λ e. omega arith)) (Iff·trans (past-check _ _ _ 0 (λ _ e. omega arith))
+  pub none : (number ≡ 0) ↔ (Lasting seen t p requests output × (size ≤ length output))
+  none = and-then (past-thirty 0 (λ k l h e. omega arith) (λ e. omega arith) (λ e. omega arith)) (Iff·trans (past-check _ _ _ 0 (λ _ e. omega arith))
       (λ q. leb-true _ _ (q .0), λ h. (le-leb _ _ h, none-refused size)))
 
-  -- where checks 2 to 16 hold, the value is the length, whether the output has room for it or not
-  value-is : Able seen t p requests output → answer seen t p requests output .value ≡ size
+  -- where all checks before 17 hold, the value is the length, whether the output has room for it or not
+  value-is : Lasting seen t p requests output → answer seen t p requests output .value ≡ size
   unfolding buildingFrom answerTo
-  value-is a =
+  value-is last =
+      let a = last .able in
       rw (
         a .asked .formed,
         lt-ltb p (setupOf t .sites) (a .asked .site),
         well-listed requests .1 (a .asked .fits, a .asked .whole),
         any-false (badRequestAt requests) (count requests) (a .asked .admissible),
         not-true-false (forkedIn (viewOf t) seen p) (λ y. a .unforked (forked-shares (viewOf t) seen p .0 y)),
+        le-leb sequence maxSequence (last .within),
       ) (either (leb size (length output)))
     where
       either : (fits : Bool) → cond fits (success size) (refused 17 size) .value ≡ size

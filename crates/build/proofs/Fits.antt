@@ -3,7 +3,7 @@ use mathlib.Core.Path.{_≡_, sym, ap, _∙_}
 use mathlib.Core.Bool.{Bool, true}
 use mathlib.Core.Logic.{_≢_}
 use mathlib.Core.List.{[]}
-use Prim.Native.Nat.{ℕ, _+_, _*_, _/_, _<_}
+use Prim.Native.Nat.{ℕ, _+_, _*_, _/_, _≤_, _<_}
 use native.Mathlib.Omega.{arith}
 use lib.ListN.{length, getD, drop, length-map}
 use Rattle.base.specs.Bytes.{Bytes, AllBytes}
@@ -20,9 +20,8 @@ use Rattle.table.specs.Layout.{rowStart, setupOf, countOf, digestAt, viewOf}
 use Rattle.table.specs.Form.{inForm}
 use Rattle.table.proofs.Views.{row-form}
 use Rattle.table.proofs.Formed.{Formed, formed-of}
-use Rattle.build.specs.Building.{picked, nextContent, nextBlock}
+use Rattle.build.specs.Building.{maxSequence, nextSequence, picked, nextContent, nextBlock}
 use Rattle.build.specs.Promises.{Asked}
-use Rattle.build.proofs.Sequence.{next-low}
 use Rattle.build.proofs.Digests.{digest-size}
 use Rattle.build.proofs.Picked.{pickedAt, picked-few, picked-held, picked-different}
 
@@ -78,7 +77,8 @@ module _ (seen : ℕ → Bool) (t : Bytes) (p : ℕ) (requests : Bytes) where
       → length (nextBlock seen (viewOf t) p requests) ≡ headerSize + referenceSize * length (picked seen (viewOf t) p) + length requests
   needed-is f whole = next-length f ∙ omega arith
 
-  module _ (all : AllBytes t) (allRequests : AllBytes requests) (asked : Asked t p requests) where
+  module _ (all : AllBytes t) (allRequests : AllBytes requests) (asked : Asked t p requests)
+      (last : nextSequence seen (viewOf t) p ≤ maxSequence) where
     form : Formed t
     form = formed-of t (asked .formed)
 
@@ -94,7 +94,7 @@ module _ (seen : ℕ → Bool) (t : Bytes) (p : ℕ) (requests : Bytes) where
     next-fits =
         record {
           site = omega (arith, asked .site, all 0);
-          sequence = omega (arith, next-low (setupOf t) (viewOf t) (form .held) seen p, form .held .fits);
+          sequence = omega (arith, last);
           fewReferences = omega (arith, as-many-references, picked-few seen (viewOf t) p);
           digests = digest-there;
           different = references-different form;

@@ -27,12 +27,6 @@ module _ (f : ℕ → ℕ) where
     | inr l ↦ omega (arith, greatest-bounds k i l)
   ]
 
-  -- it is within every bound of the values
-  pub greatest-within : (k m : ℕ) → ((i : ℕ) → i < k → f i ≤ m) → greatestBelow f k ≤ m
-  unfolding greatestBelow
-  greatest-within zero m h = omega arith
-  greatest-within (suc k) m h = omega (arith, h k (omega arith), greatest-within k m (λ i l. h i (omega arith)))
-
   -- it is 0 or the value at some number below k
   pub greatest-reached : (k : ℕ) → greatestBelow f k ≢ 0 → (i : ℕ) × (i < k) × (f i ≡ greatestBelow f k)
   unfolding greatestBelow

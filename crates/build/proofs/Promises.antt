@@ -11,7 +11,7 @@ use Rattle.table.specs.Layout.{viewOf}
 use Rattle.build.specs.Building.{nextBlock, builtFrom}
 use Rattle.build.specs.Promises.{Admissible, answer, after, Promised}
 use Rattle.build.proofs.Fits.{next-reads}
-use Rattle.build.proofs.Causes.{sixteen, seventeen, none, value}
+use Rattle.build.proofs.Causes.{sixteen, thirty, seventeen, none, value}
 use Rattle.build.proofs.Admissible.{next-admissible}
 
 module _ (seen : ℕ → Bool) (t : Bytes) (p : ℕ) (requests output : Bytes) (done : answer seen t p requests output .refusal ≡ 0) where
@@ -39,13 +39,14 @@ pub promised : (seen : ℕ → Bool) (t : Bytes) (p : ℕ) (requests output : By
 promised seen t p requests output =
     record {
       sixteen = sixteen seen t p requests output;
+      thirty = thirty seen t p requests output;
       seventeen = seventeen seen t p requests output;
       none = none seen t p requests output;
       value = value seen t p requests output;
       read = λ all allRequests e.
-          rw (front seen t p requests output e) (next-reads seen t p requests all allRequests (none seen t p requests output .0 e .0 .asked));
+          rw (front seen t p requests output e) (let last = none seen t p requests output .0 e .0 in next-reads seen t p requests all allRequests (last .able .asked) (last .within));
       rest = rest seen t p requests output;
       admissible = λ all allRequests e digest.
-          let able = none seen t p requests output .0 e .0 in
-          subst (Admissible digest t) (sym (front seen t p requests output e)) (next-admissible seen t p requests all allRequests (able .asked) (able .unforked) digest);
+          let last = none seen t p requests output .0 e .0 in
+          subst (Admissible digest t) (sym (front seen t p requests output e)) (next-admissible seen t p requests all allRequests (last .able .asked) (last .within) (last .able .unforked) digest);
     }

@@ -16,11 +16,17 @@ use Rattle.table.specs.Layout.{viewOf}
 use Rattle.table.specs.Form.{inForm}
 use Rattle.table.specs.Checks.{success, refused, answerTo}
 use Rattle.table.proofs.Formed.{formed-of}
-use Rattle.build.specs.Building.{nextSequence, picked, nextContent, nextBlock}
+use Rattle.build.specs.Building.{maxSequence, nextSequence, picked, nextContent, nextBlock}
 use Rattle.build.specs.Steps.{Listed, digestsOf, nextAnswer, nextOutput}
 use Rattle.build.proofs.Picked.{picked-few, picked-held}
 use Rattle.build.proofs.Digests.{digests-size}
 use Rattle.build.proofs.Fits.{reference-size, needed-is}
+
+-- 30
+pub way-past : (seen : ℕ → Bool) (t : Bytes) (p : ℕ) (requests output : Bytes) → maxSequence < nextSequence seen (viewOf t) p
+    → (refused 30 0 ≡ nextAnswer seen t p requests output) × (output ≡ nextOutput seen t p requests output)
+unfolding nextAnswer nextOutput answerTo
+way-past seen t p requests output h = let no = lt-leb (nextSequence seen (viewOf t) p) maxSequence h in (rw no, rw no)
 
 module _ (seen : ℕ → Bool) (t : Bytes) (p : ℕ) (requests : Bytes) (formed : inForm t ≡ true) where
   abbrev references : Bytes
@@ -69,13 +75,16 @@ module _ (seen : ℕ → Bool) (t : Bytes) (p : ℕ) (requests : Bytes) (formed 
     }
 
     -- 17, and the block
-    pub way-short : length output < needed → (refused 17 needed ≡ nextAnswer seen t p requests output) × (output ≡ nextOutput seen t p requests output)
+    pub way-short : nextSequence seen (viewOf t) p ≤ maxSequence → length output < needed
+        → (refused 17 needed ≡ nextAnswer seen t p requests output) × (output ≡ nextOutput seen t p requests output)
     unfolding nextAnswer nextOutput answerTo
-    way-short h = let no = lt-leb (length (nextBlock seen (viewOf t) p requests)) (length output) (omega (arith, needed-size)) in
-        (rw (no, needed-size), rw no)
+    way-short last h = let yes = le-leb (nextSequence seen (viewOf t) p) maxSequence last in
+        let no = lt-leb (length (nextBlock seen (viewOf t) p requests)) (length output) (omega (arith, needed-size)) in
+        (rw (yes, no, needed-size), rw (yes, no))
 
-    pub way-written : needed ≤ length output → (after : Bytes) → after ≡ splice output 0 (nextBlock seen (viewOf t) p requests)
-        → (success needed ≡ nextAnswer seen t p requests output) × (after ≡ nextOutput seen t p requests output)
+    pub way-written : nextSequence seen (viewOf t) p ≤ maxSequence → needed ≤ length output → (after : Bytes)
+        → after ≡ splice output 0 (nextBlock seen (viewOf t) p requests) → (success needed ≡ nextAnswer seen t p requests output) × (after ≡ nextOutput seen t p requests output)
     unfolding nextAnswer nextOutput answerTo
-    way-written h after e = let yes = le-leb (length (nextBlock seen (viewOf t) p requests)) (length output) (omega (arith, needed-size)) in
-        (rw (yes, needed-size), rw yes e)
+    way-written last h after e = let within = le-leb (nextSequence seen (viewOf t) p) maxSequence last in
+        let yes = le-leb (length (nextBlock seen (viewOf t) p requests)) (length output) (omega (arith, needed-size)) in
+        (rw (within, yes, needed-size), rw (within, yes) e)

@@ -19,6 +19,10 @@ use Rattle.table.specs.Form.{inForm}
 use Rattle.table.specs.Checks.{Check, check, answerTo}
 use Rattle.watch.specs.Forks.{everywhere, ofSite, forkedIn}
 
+-- the greatest sequence number that two bytes hold
+abbrev pub maxSequence : ℕ
+maxSequence = 65535
+
 -- the greatest of f's values at the numbers below k, 0 if there is none
 unfoldable pub greatestBelow : (ℕ → ℕ) → ℕ → ℕ
 greatestBelow f zero = 0
@@ -67,7 +71,7 @@ unfoldable pub wellListed : Bytes → Bool
 wellListed requests = leb (length requests) maxRequestListSize && eqb (length requests % requestSize) 0
 
 -- 2: table not in form; 4: site not below n; 3; 6: slot over 7, or number 0, with the index of the first such request; 16: two held blocks of
--- the site share a sequence number; 17: output shorter than the block, with the length needed
+-- the site share a sequence number; 30: building past sequence 65,535; 17: output shorter than the block, with the length needed
 abbrev pub buildingChecks : (ℕ → Bool) → Bool → Setup → View → ℕ → Bytes → ℕ → List Check
 buildingChecks seen formed s v p requests room =
     check 2 formed 0
@@ -75,6 +79,7 @@ buildingChecks seen formed s v p requests room =
     ∷ check 3 (wellListed requests) 0
     ∷ check 6 (not (anyBelow (badRequestAt requests) (length requests / requestSize))) (firstBelow (badRequestAt requests) (length requests / requestSize))
     ∷ check 16 (not (forkedIn v seen p)) 0
+    ∷ check 30 (leb (nextSequence seen v p) maxSequence) 0
     ∷ check 17 (leb (length (nextBlock seen v p requests)) room) (length (nextBlock seen v p requests))
     ∷ []
 

@@ -10,12 +10,13 @@ use Rattle.block.specs.Reading.{badRequestAt}
 use Rattle.block.specs.Codec.{Reads}
 use Rattle.block.specs.declared.Answer.{Answer}
 use Rattle.table.specs.View.{maxPlaces}
-use Rattle.table.specs.Layout.{setupOf, countOf, viewOf}
+use Rattle.table.specs.Layout.{setupOf, countOf, sequenceAt, viewOf}
 use Rattle.table.specs.Form.{inForm}
 use Rattle.admission.specs.Admission.{admission}
 use Rattle.admission.specs.Promises.{DigestHeld}
+use Rattle.watch.specs.Forks.{ofSite}
 use Rattle.watch.specs.Promises.{Shares}
-use Rattle.build.specs.Building.{nextContent, nextBlock, buildingFrom, builtFrom}
+use Rattle.build.specs.Building.{maxSequence, nextSequence, nextContent, nextBlock, buildingFrom, builtFrom}
 
 -- checks 2, 4, 3 and 6 hold
 pub record Asked (t : Bytes) (p : ℕ) (requests : Bytes) : Type 0 where
@@ -24,6 +25,13 @@ pub record Asked (t : Bytes) (p : ℕ) (requests : Bytes) : Type 0 where
   pub fits : length requests ≤ maxRequestListSize
   pub whole : length requests % requestSize ≡ 0
   pub admissible : (i : ℕ) → i < length requests / requestSize → badRequestAt requests i ≡ false
+
+-- a held block of the site has sequence number 65,535: none can follow
+pub record Ended (seen : ℕ → Bool) (t : Bytes) (p : ℕ) : Type 0 where
+  pub place : ℕ
+  pub below : place < countOf t
+  pub own : ofSite (viewOf t) seen p place ≡ true
+  pub sequence : maxSequence ≤ sequenceAt t place
 
 -- what admission of the bytes to the table answers with verdict 1: "refused only by 11, or by 8 on a shared digest"
 module _ (digest : Bytes → Bytes) (t b : Bytes) where
@@ -50,11 +58,17 @@ module _ (seen : ℕ → Bool) (t : Bytes) (p : ℕ) (requests output : Bytes) w
     pub asked : Asked t p requests
     pub unforked : Shares (viewOf t) seen p → ⊥
 
+  -- check 30 holds too
+  pub record Lasting : Type 0 where
+    pub able : Able
+    pub within : nextSequence seen (viewOf t) p ≤ maxSequence
+
   pub record Promised : Type 0 where
     -- each refusal comes under its cause and under no other
     pub sixteen : (answer .refusal ≡ 16) ↔ (Asked t p requests × Shares (viewOf t) seen p)
-    pub seventeen : (answer .refusal ≡ 17) ↔ (Able × (length output < needed))
-    pub none : (answer .refusal ≡ 0) ↔ (Able × (needed ≤ length output))
+    pub thirty : (answer .refusal ≡ 30) ↔ (Able × Ended seen t p)
+    pub seventeen : (answer .refusal ≡ 17) ↔ (Lasting × (length output < needed))
+    pub none : (answer .refusal ≡ 0) ↔ (Lasting × (needed ≤ length output))
     -- the length, and the length needed
     pub value : (answer .refusal ≡ 0) ⊎ (answer .refusal ≡ 17) → answer .value ≡ needed
     -- what is built reads back to exactly the picked content

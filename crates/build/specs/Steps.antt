@@ -1,28 +1,27 @@
 -- What the contracts of inner functions cite: what an entry point has tested. Nothing here need be believed.
 use mathlib.Core.Path.{_≡_}
 use mathlib.Core.Bool.{Bool, true, false, cond}
-use mathlib.Core.List.{List, [], _∷_, map}
-use Prim.Native.Nat.{ℕ, _-_, _*_, _/_, _≤_, _<_}
-use lib.Dec.{eqb, leb}
-use lib.ListN.{length, take}
+use mathlib.Core.List.{List, map}
+use Prim.Native.Nat.{ℕ, _-_, _*_, _/_, _≤_}
+use lib.Dec.{eqb}
+use lib.ListN.{length, take, drop}
 use Rattle.base.specs.List.{passing}
 use Rattle.base.specs.Mask.{maskBelow, inMask}
 use Rattle.base.specs.Bytes.{Bytes, joined, splice}
 use Rattle.block.specs.Limits.{referenceSize, requestSize, maxReferences, maxRequestListSize}
 use Rattle.block.specs.declared.Answer.{Answer}
 use Rattle.table.specs.View.{maxPlaces}
-use Rattle.table.specs.Layout.{countOf, digestAt, sequenceAt, viewOf}
+use Rattle.table.specs.Layout.{setupOf, countOf, digestAt, viewOf}
 use Rattle.table.specs.Form.{inForm}
-use Rattle.table.specs.Checks.{check, answerTo}
+use Rattle.table.specs.Checks.{answerTo}
 use Rattle.table.specs.Steps.{Places}
 use Rattle.watch.specs.Forks.{forkedIn}
-use Rattle.build.specs.Building.{isReferred, isOther, nextBlock}
+use Rattle.build.specs.Building.{isReferred, isOther, nextBlock, buildingChecks}
 
--- a table and a site that check 16 lets pass, with the places and the sequence numbers that follow from form
+-- a table and a site that check 16 lets pass, with the places that follow from form
 pub record Ready (t : Bytes) (seen p : ℕ) : Type 0 where
   pub formed : inForm t ≡ true
   pub sized : Places t (countOf t)
-  pub low : (i : ℕ) → i < countOf t → sequenceAt t i < maxPlaces
   pub unforked : forkedIn (viewOf t) (inMask seen) p ≡ false
 
 -- so many of a list's references are there, and the list has room for all
@@ -55,12 +54,11 @@ pub record Listed (requests : Bytes) : Type 0 where
   pub fits : length requests ≤ maxRequestListSize
   pub whole : length requests ≡ requestSize * (length requests / requestSize)
 
--- check 17, and the output after it
+-- checks 30 and 17, and the output after them
 module _ (seen : ℕ → Bool) (t : Bytes) (p : ℕ) (requests output : Bytes) where
   unfoldable pub nextAnswer : Answer
   nextAnswer =
-      answerTo (check 17 (leb (length (nextBlock seen (viewOf t) p requests)) (length output)) (length (nextBlock seen (viewOf t) p requests)) ∷ [])
-      (length (nextBlock seen (viewOf t) p requests))
+      answerTo (drop 5 (buildingChecks seen true (setupOf t) (viewOf t) p requests (length output))) (length (nextBlock seen (viewOf t) p requests))
 
   unfoldable pub nextOutput : Bytes
   nextOutput = cond (eqb (nextAnswer .refusal) 0) (splice output 0 (nextBlock seen (viewOf t) p requests)) output

@@ -1,6 +1,6 @@
 // Building a site's next block from its table. Promises: `build` answers and leaves what specs/Building.antt says, for any table, site, request
 // list and output; what is built reads back to the content picked, the table it was built from admits it unless it is full or holds the same
-// digest, and each of 16 and 17 comes under its cause and under no other (specs/Promises.antt). Assumes nothing; the table is read only.
+// digest, and each of 16, 30 and 17 comes under its cause and under no other (specs/Promises.antt). Assumes nothing; the table is read only.
 mod next;
 mod picking;
 
@@ -12,6 +12,9 @@ ghost use mathlib.Core.Path.{_≡_};
 ghost use Rattle.base.specs.Mask.{inMask};
 ghost use Rattle.build.specs.Building.{wellListed, buildingFrom, builtFrom, building, built};
 ghost use Rattle.build.specs.Steps.{Ready, Listed, nextAnswer, nextOutput};
+
+// The greatest sequence number that two bytes hold.
+const MAX_SEQUENCE: u32 = 65535;
 
 // Check 3 of a request list.
 fn well_listed(requests: &[u8]) -> bool
@@ -62,14 +65,21 @@ pub fn build_from(table: &[u8], seen: u64, site: u8, requests: &[u8], output: &m
     write_next(table, seen, site, requests, output)
 }
 
-// Check 17, and the block where there is room for it.
+// Checks 30 and 17, and the block where there is room for it.
 fn write_next(table: &[u8], seen: u64, site: u8, requests: &[u8], output: &mut [u8]) -> Answer
     requires { ⌜ Ready (now table) seen site × Listed (now requests) ⌝ }
     ensures { λ r. ⌜ r ≡ nextAnswer (inMask seen) (now (table .entry)) site (now (requests .entry)) (now (output .entry)) ⌝ }
     ensures { λ _. ⌜ now (output .exit) ≡ nextOutput (inMask seen) (now (table .entry)) site (now (requests .entry)) (now (output .entry)) ⌝ }
 {
+    let next = next::next_sequence(table, seen, site);
+    if MAX_SEQUENCE < next {
+        return Answer {
+            refusal: 30,
+            value: 0,
+        };
+    }
+    let sequence = next as u16;
     let mut list = [0u8; REFERENCE_SIZE * MAX_REFERENCES];
-    let sequence = next::next_sequence(table, seen, site);
     let count = picking::pick(table, seen, site, sequence, &mut list);
     let needed = HEADER_SIZE + REFERENCE_SIZE * count + requests.len();
     if output.len() < needed {

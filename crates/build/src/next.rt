@@ -8,23 +8,23 @@ ghost use Rattle.build.specs.Building.{sequenceAfter, nextSequence};
 ghost use Rattle.build.specs.Steps.{Ready};
 
 // One more than the sequence number of the site's block at a place; 0 if there is none.
-fn sequence_after(table: &[u8], seen: u64, site: u8, i: usize) -> u16
+fn sequence_after(table: &[u8], seen: u64, site: u8, i: usize) -> u32
     requires { ⌜ Ready (now table) seen site × (i < countOf (now table)) ⌝ }
     ensures { λ r. ⌜ r ≡ sequenceAfter (inMask seen) (viewOf (now (table .entry))) site i ⌝ }
 {
     if !watch::sites::of_site(table, seen, i, site) {
         return 0;
     }
-    rows::sequence_at(table, i) + 1
+    (rows::sequence_at(table, i) as u32) + 1
 }
 
 // One more than the site's greatest sequence number; 0 if it has no block.
-pub fn next_sequence(table: &[u8], seen: u64, site: u8) -> u16
+pub fn next_sequence(table: &[u8], seen: u64, site: u8) -> u32
     requires { ⌜ Ready (now table) seen site ⌝ }
     ensures { λ r. ⌜ r ≡ nextSequence (inMask seen) (viewOf (now (table .entry))) site ⌝ }
 {
     let k = rows::count_of(table);
-    let mut next: u16 = 0;
+    let mut next: u32 = 0;
     let mut i = 0;
     while i < k {
         let after = sequence_after(table, seen, site, i);

@@ -25,7 +25,7 @@ directAt v buffer slot j = record { site = v .row j .site; sequence = v .row j .
 unfoldable pub joinIf : Bool → Direct → List Direct → List Direct
 joinIf test d ds = cond test (d ∷ ds) ds
 
--- the blocks of the places below k that r refers to. Their order does not matter: messages are a set, and there is one parent
+-- the blocks of the places below k that r refers to. Their order does not matter: messages are a set, and there is at most one parent
 unfoldable pub directsBelow : View → List ℕ → ℕ → Row → ℕ → List Direct
 directsBelow v buffer slot r zero = []
 directsBelow v buffer slot r (suc j) = joinIf (r .refersTo j) (directAt v buffer slot j) (directsBelow v buffer slot r j)

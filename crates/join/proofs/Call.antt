@@ -16,10 +16,10 @@ use Rattle.table.specs.Form.{inForm}
 use Rattle.table.specs.Checks.{answerTo}
 use Rattle.table.proofs.Checks.{numbered, all-hold}
 use Rattle.interpret.specs.Buffer.{bufferSize}
-use Rattle.join.specs.Join.{sameSetup, joinedCount, joinAnswer, joinedTable, joinedRecords, joined, copied}
+use Rattle.join.specs.Join.{neitherRetired, sameSetup, joinedCount, joinAnswer, joinedTable, joinedRecords, joined, copied}
 use Rattle.join.specs.Promises.{OneSetup}
 use Rattle.join.specs.Steps.{sidesChecks, blocksChecks, blocksAnswer, blocksTable, blocksRecords, BothFormed, Passed}
-use Rattle.join.proofs.Passes.{setup-same, whole-of}
+use Rattle.join.proofs.Passes.{setup-same, whole-of, unretired-of}
 
 module _ (left right : Bytes) (leftRecords rightRecords third : List ℕ) where
   abbrev sides : Answer
@@ -34,6 +34,9 @@ module _ (left right : Bytes) (leftRecords rightRecords third : List ℕ) where
   abbrev sizes : Bool
   sizes = eqb (length leftRecords) bufferSize && (eqb (length rightRecords) bufferSize && eqb (length third) bufferSize)
 
+  abbrev unretired : Bool
+  unretired = neitherRetired left right
+
   abbrev setups : Bool
   setups = sameSetup (setupOf left) (setupOf right)
 
@@ -47,9 +50,11 @@ module _ (left right : Bytes) (leftRecords rightRecords third : List ℕ) where
   unfolding joinAnswer answerTo
   first-refuse n = by-test formed
       (λ f. by-test sizes
-      (λ z. by-test setups
-      (λ s. absurd (n (rw (f, z, s))))
-      (λ s. rw (f, z, s)))
+      (λ z. by-test unretired
+      (λ u. by-test setups
+      (λ s. absurd (n (rw (f, z, u, s))))
+      (λ s. rw (f, z, u, s)))
+      (λ u. rw (f, z, u)))
       (λ z. rw (f, z)))
       (λ f. rw f)
 
@@ -66,7 +71,10 @@ module _ (left right : Bytes) (leftRecords rightRecords third : List ℕ) where
   unfolding numbered
   one-setup e =
       let h = all-hold (sidesChecks left right (length leftRecords) (length rightRecords) (length third)) 0 refl e in
-      record { isWhole = whole-of left right leftRecords rightRecords third (h .0) (h .1 .0); setup = setup-same (setupOf left) (setupOf right) .0 (h .1 .1 .0) }
+      record {
+        unretired = unretired-of left right leftRecords rightRecords third (whole-of left right leftRecords rightRecords third (h .0) (h .1 .0)) (h .1 .1 .0);
+        setup = setup-same (setupOf left) (setupOf right) .0 (h .1 .1 .1 .0);
+      }
 
   pub one-setup-of : (a : Answer) → a ≡ sides → a .refusal ≡ 0 → OneSetup left right leftRecords rightRecords third
   one-setup-of a e z = one-setup (ap (λ (x : Answer). x .refusal) (sym e) ∙ z)
@@ -75,8 +83,9 @@ module _ (left right : Bytes) (leftRecords rightRecords third : List ℕ) where
   blocks-decide : OneSetup left right leftRecords rightRecords third → blocksAnswer left right ≡ answer
   unfolding joinAnswer answerTo
   blocks-decide o =
-      let w = o .isWhole in
-      rw (w .leftFormed, w .rightFormed, eq-eqb _ _ (w .leftSize), eq-eqb _ _ (w .rightSize), eq-eqb _ _ (w .size), setup-same (setupOf left) (setupOf right) .1 (o .setup))
+      let u = o .unretired in
+      let w = u .isWhole in
+      rw (w .leftFormed, w .rightFormed, eq-eqb _ _ (w .leftSize), eq-eqb _ _ (w .rightSize), eq-eqb _ _ (w .size), eq-eqb _ _ (u .leftRetired), eq-eqb _ _ (u .rightRetired), setup-same (setupOf left) (setupOf right) .1 (o .setup))
 
   pub decided : OneSetup left right leftRecords rightRecords third → (a : Answer) (t : Bytes) (b : List ℕ) → a ≡ blocksAnswer left right
       → t ≡ blocksTable left right → b ≡ blocksRecords left right leftRecords rightRecords third → Leaves a t b
@@ -94,7 +103,7 @@ module _ (left right : Bytes) (leftRecords rightRecords third : List ℕ) where
 
   module _ (o : OneSetup left right leftRecords rightRecords third) (a : Answer) (e : a ≡ blocksAnswer left right) where
     pub formed-of-both : BothFormed left right
-    formed-of-both = record { leftFormed = o .isWhole .leftFormed; rightFormed = o .isWhole .rightFormed }
+    formed-of-both = let w = o .unretired .isWhole in record { leftFormed = w .leftFormed; rightFormed = w .rightFormed }
 
     pub passed : a .refusal ≡ 0 → Passed left right leftRecords rightRecords third
     unfolding numbered
@@ -103,12 +112,14 @@ module _ (left right : Bytes) (leftRecords rightRecords third : List ℕ) where
         record {
           joinable = record {
             formed = formed-of-both;
+            leftRetired = o .unretired .leftRetired;
+            rightRetired = o .unretired .rightRetired;
             setup = o .setup;
             apart = not-true _ (h .0);
             fits = leb-true (joinedCount (viewOf left) (viewOf right)) maxPlaces (h .1 .0);
           };
-          sides = record { formed = formed-of-both; leftSize = o .isWhole .leftSize; rightSize = o .isWhole .rightSize };
-          size = o .isWhole .size;
+          sides = record { formed = formed-of-both; leftSize = o .unretired .isWhole .leftSize; rightSize = o .unretired .isWhole .rightSize };
+          size = o .unretired .isWhole .size;
         }
 
     abbrev Left : Bytes → List ℕ → Type 0

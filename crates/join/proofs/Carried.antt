@@ -18,7 +18,8 @@ use Rattle.table.specs.Layout.{referencesOffset, requestsOffset, countOffset, r
 use Rattle.table.specs.Steps.{Place}
 use Rattle.table.proofs.RowBytes.{rowPart, requestsOn, referenceMask}
 use Rattle.table.proofs.Laid.{row-laid}
-use Rattle.join.specs.Steps.{withReferences, rowWith}
+use Rattle.table.specs.Steps.{rowWith}
+use Rattle.join.specs.Steps.{withReferences}
 
 -- ---- a row written in three parts
 

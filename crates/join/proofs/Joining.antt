@@ -21,11 +21,11 @@ use Rattle.base.proofs.Bytes.{same-equal, equal-same, same-other, other-same}
 use Rattle.block.specs.Limits.{referenceSize, slotCount, maxReferences}
 use Rattle.setup.specs.Setup.{Setup}
 use Rattle.table.specs.View.{maxPlaces, Row, interpreted, View}
-use Rattle.table.specs.Layout.{rowStart, setupOf, countOf, digestAt, siteAt, sequenceAt, requestAt, markAt, rowAt, viewOf, withRow, withMark}
+use Rattle.table.specs.Layout.{rowStart, setupOf, retiredOf, countOf, digestAt, siteAt, sequenceAt, requestAt, markAt, rowAt, viewOf, withRow, withMark}
 use Rattle.table.specs.Rules.{hasDigest, placeOf, parentRow, parents, parentRule}
 use Rattle.table.specs.Form.{inForm}
 use Rattle.table.specs.Promises.{Grown, Marked}
-use Rattle.table.proofs.Views.{RowForm, form-row}
+use Rattle.table.proofs.Views.{RowForm, form-row, form-rule, rule-formed}
 use Rattle.table.proofs.Formed.{formed-of, formed-row, one-place, in-formed}
 use Rattle.table.proofs.Canonical.{Canonical, row-canonical, mark-canonical}
 use Rattle.table.proofs.Put.{grown, grown-formed}
@@ -93,6 +93,7 @@ module _ (left right : Bytes) (both : Joinable left right) where
   pub record Joining (k : ℕ) (t : Bytes) : Type 0 where
     pub formed : inForm t ≡ true
     pub setup : setupOf t ≡ setupOf left
+    pub retired : retiredOf t ≡ 0
     pub count : countOf t ≡ n + countBelow extra k
     pub kept : (p : ℕ) → p < n → Shows t p left p
     pub added : (p : ℕ) → n ≤ p → p < countOf t → Added k t p
@@ -113,6 +114,7 @@ module _ (left right : Bytes) (both : Joinable left right) where
       record {
         formed = f;
         setup = refl;
+        retired = both .leftRetired;
         count = omega arith;
         kept = λ p h. shows-self left p;
         added = λ p h l. absurd (omega arith);
@@ -201,6 +203,7 @@ module _ (left right : Bytes) (both : Joinable left right) where
       record Touched (t′ : Bytes) : Type 0 where
         formed : inForm t′ ≡ true
         setup : setupOf t′ ≡ setupOf t
+        retired : retiredOf t′ ≡ retiredOf t
         count : countOf t′ ≡ countOf t
         rows : (q : ℕ) → Shows t′ q t q
         up : (q : ℕ) → markAt t q ≡ 1 → markAt t′ q ≡ 1
@@ -237,6 +240,7 @@ module _ (left right : Bytes) (both : Joinable left right) where
             record {
               formed = x .formed;
               setup = x .setup ∙ a .setup;
+              retired = x .retired ∙ a .retired;
               count = x .count ∙ count-kept;
               kept = λ q h. let u = x .rows q in let v = a .kept q h in record {
                 digest = u .digest ∙ v .digest;
@@ -281,6 +285,7 @@ module _ (left right : Bytes) (both : Joinable left right) where
           record {
             formed = a .formed;
             setup = refl;
+            retired = refl;
             count = refl;
             rows = λ q. shows-self t q;
             up = λ q y. y;
@@ -304,6 +309,7 @@ module _ (left right : Bytes) (both : Joinable left right) where
               formed = in-formed (withMark t p) (marked-formed t (withMark t p) p (formed-of t (a .formed)) is at
                   (λ q h z. ready y q (omega (arith, at)) (sym (refers-is q h) ∙ z)));
               setup = is .setup;
+              retired = is .retired;
               count = is .count;
               rows = λ q. let u = is .rows q in record { digest = u .digest; site = u .site; sequence = u .sequence; refersTo = u .refersTo; request = u .request };
               up = λ q z. is .rows q .mark ∙ by-test (eqb q p) (λ o. rw o) (λ o. rw o z);
@@ -407,7 +413,7 @@ module _ (left right : Bytes) (both : Joinable left right) where
 
       parent-new : parentRule (viewOf t′) c (rowAt t′ c) ≡ true
       unfolding parentRule parents
-      parent-new = elim (or-cases (eqb (sequenceAt right k) 0) _ (row .parent)) [
+      parent-new = elim (or-cases (eqb (sequenceAt right k) 0) _ (sym (form-rule w k (rowAt right k) (both .rightRetired)) ∙ row .parent)) [
         | inl z ↦ let o : eqb (sequenceAt t′ c) 0 ≡ true = ap (λ (y : ℕ). eqb y 0) (gr .here .sequence) ∙ z in rw o
         | inr z ↦ by-test (eqb (sequenceAt t′ c) 0) (λ y. rw y) (λ y. rw (y, one-parent (eqb-true _ 1 z)))
       ]
@@ -421,7 +427,7 @@ module _ (left right : Bytes) (both : Joinable left right) where
             few = few-new;
             new = λ j h e. not-held j h (gr .below j h .digest ∙ e ∙ gr .here .digest);
             closed = λ e j h y. sym (gr .below j h .mark) ∙ ready (sym (gr .here .mark) ∙ e) j h (refers-at j (omega (arith, room)) y);
-            parent = parent-new;
+            parent = rule-formed (viewOf t′) c (rowAt t′ c) parent-new;
           }
 
       carry-on : (q j : ℕ) → q < c → Carried t q j → Carried t′ q j
@@ -456,6 +462,7 @@ module _ (left right : Bytes) (both : Joinable left right) where
           record {
             formed = in-formed t′ (grown-formed t t′ r (formed-of t (a .formed)) room gr (form-row (setupOf t) (viewOf t′) c new-form));
             setup = gr .setup ∙ a .setup;
+            retired = gr .retired ∙ a .retired;
             count = count-new;
             kept = λ q h. let u = gr .below q (omega (arith, left-within)) in let v = a .kept q h in record {
               digest = sym (u .digest) ∙ v .digest;

@@ -12,14 +12,14 @@ use Rattle.base.proofs.Tests.{and-left, and-right}
 use Rattle.base.proofs.Bytes.{same-equal, equal-same}
 use Rattle.setup.specs.Setup.{Setup}
 use Rattle.table.specs.View.{maxPlaces}
-use Rattle.table.specs.Layout.{setupOf, viewOf}
+use Rattle.table.specs.Layout.{setupOf, retiredOf, viewOf}
 use Rattle.table.specs.Form.{inForm}
 use Rattle.table.specs.Checks.{answerTo}
 use Rattle.table.proofs.Checks.{numbered, all-hold}
 use Rattle.interpret.specs.Buffer.{bufferSize}
 use Rattle.join.specs.Steps.{BothFormed, Passed}
-use Rattle.join.specs.Promises.{Whole}
-use Rattle.join.specs.Join.{sameSetup, joinedCount, joinChecks, joinAnswer, joined, copied, joinedTable, joinedRecords}
+use Rattle.join.specs.Promises.{Whole, Unretired}
+use Rattle.join.specs.Join.{neitherRetired, sameSetup, joinedCount, joinChecks, joinAnswer, joined, copied, joinedTable, joinedRecords}
 
 -- two setups that pass the test are equal, and equal ones pass it
 pub setup-same : (s z : Setup) → (sameSetup s z ≡ true) ↔ (s ≡ z)
@@ -44,21 +44,34 @@ whole-of left right leftRecords rightRecords third f z =
       size = eqb-true _ _ (and-right (eqb (length rightRecords) bufferSize) (eqb (length third) bufferSize) r);
     }
 
+-- and 31
+pub unretired-of : (left right : Bytes) (leftRecords rightRecords third : List ℕ) → Whole left right leftRecords rightRecords third → neitherRetired left right ≡ true
+    → Unretired left right leftRecords rightRecords third
+unretired-of left right leftRecords rightRecords third w e =
+    record {
+      isWhole = w;
+      leftRetired = eqb-true _ _ (and-left (eqb (retiredOf left) 0) (eqb (retiredOf right) 0) e);
+      rightRetired = eqb-true _ _ (and-right (eqb (retiredOf left) 0) (eqb (retiredOf right) 0) e);
+    }
+
 module _ (left right : Bytes) (leftRecords rightRecords third : List ℕ) (e : joinAnswer left right leftRecords rightRecords third .refusal ≡ 0) where
   pub passes : Passed left right leftRecords rightRecords third
   unfolding joinAnswer numbered
   passes =
       let h = all-hold (joinChecks left right (length leftRecords) (length rightRecords) (length third)) (joinedCount (viewOf left) (viewOf right)) refl e in
-      let w = whole-of left right leftRecords rightRecords third (h .0) (h .1 .0) in
+      let u = unretired-of left right leftRecords rightRecords third (whole-of left right leftRecords rightRecords third (h .0) (h .1 .0)) (h .1 .1 .0) in
+      let w = u .isWhole in
       let formed : BothFormed left right = record { leftFormed = w .leftFormed; rightFormed = w .rightFormed } in
       record {
         sides = record { formed = formed; leftSize = w .leftSize; rightSize = w .rightSize };
         size = w .size;
         joinable = record {
           formed = formed;
-          setup = setup-same (setupOf left) (setupOf right) .0 (h .1 .1 .0);
-          apart = not-true _ (h .1 .1 .1 .0);
-          fits = leb-true (joinedCount (viewOf left) (viewOf right)) maxPlaces (h .1 .1 .1 .1 .0);
+          leftRetired = u .leftRetired;
+          rightRetired = u .rightRetired;
+          setup = setup-same (setupOf left) (setupOf right) .0 (h .1 .1 .1 .0);
+          apart = not-true _ (h .1 .1 .1 .1 .0);
+          fits = leb-true (joinedCount (viewOf left) (viewOf right)) maxPlaces (h .1 .1 .1 .1 .1 .0);
         };
       }
 
@@ -74,4 +87,4 @@ module _ (left right : Bytes) (leftRecords rightRecords third : List ℕ) (e : j
   unfolding joinAnswer answerTo numbered
   value-passed =
       let h = all-hold (joinChecks left right (length leftRecords) (length rightRecords) (length third)) (joinedCount (viewOf left) (viewOf right)) refl e in
-      rw (h .0, h .1 .0, h .1 .1 .0, h .1 .1 .1 .0, h .1 .1 .1 .1 .0)
+      rw (h .0, h .1 .0, h .1 .1 .0, h .1 .1 .1 .0, h .1 .1 .1 .1 .0, h .1 .1 .1 .1 .1 .0)

@@ -97,6 +97,7 @@ module _ (left right : Bytes) (leftRecords rightRecords third : List ℕ) (p : P
   shape =
       record {
         setup = all .setup;
+        retired = all .retired;
         count = all .count;
         first = λ q h. let u = all .kept q h in record { digest = u .digest; site = u .site; sequence = u .sequence; request = u .request };
         firstRefers = λ q a h l. all .kept q h .refersTo a l;

@@ -19,12 +19,12 @@ use Rattle.base.proofs.Sets.{mask-has}
 use Rattle.table.specs.View.{maxPlaces, SameRow}
 use Rattle.table.specs.Layout.{markOffset, rowStart, countOf, digestAt, referencesAt, markAt, viewOf, withRow, withMark}
 use Rattle.table.specs.Rules.{hasDigest}
-use Rattle.table.specs.Steps.{Place, Places}
+use Rattle.table.specs.Steps.{Place, Places, rowWith}
 use Rattle.table.proofs.Formed.{formed-of, formed-places, formed-row, one-place}
 use Rattle.table.proofs.Put.{put-same}
 use Rattle.join.specs.Join.{refersBy, isExtra, carried, joinPlace, placeIn}
 use Rattle.join.specs.Promises.{placeBehind}
-use Rattle.join.specs.Steps.{Joinable, resultPlace, Numbered, EachPlaced, renumberedBy, rowWith, Next}
+use Rattle.join.specs.Steps.{Joinable, resultPlace, Numbered, EachPlaced, renumberedBy, Next}
 use Rattle.join.proofs.Referred.{place-has, place-found, place-is, by-from, by-has}
 use Rattle.join.proofs.Placed.{extra-is}
 use Rattle.join.proofs.Joining.{Joining, joining, room}

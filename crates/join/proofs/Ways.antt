@@ -13,7 +13,7 @@ use Rattle.table.specs.Layout.{setupOf, countOf, viewOf}
 use Rattle.table.specs.Form.{inForm}
 use Rattle.table.specs.Checks.{answerTo, refused, success}
 use Rattle.interpret.specs.Buffer.{bufferSize}
-use Rattle.join.specs.Join.{sameSetup, clashAt, joinedCount}
+use Rattle.join.specs.Join.{neitherRetired, sameSetup, clashAt, joinedCount}
 use Rattle.join.specs.Steps.{sidesChecks, blocksAnswer, BothFormed}
 
 -- ---- the two sides as a whole
@@ -45,13 +45,18 @@ module _ (left right : Bytes) (leftSize rightSize size : ℕ) where
       way12 n = rw (f .leftFormed, f .rightFormed, eq-eqb leftSize bufferSize a, eq-eqb rightSize bufferSize b, ne-eqb size bufferSize n)
 
       module _ (c : size ≡ bufferSize) where
-        pub way23 : sameSetup (setupOf left) (setupOf right) ≡ false → refused 23 0 ≡ answer
+        pub way31 : neitherRetired left right ≡ false → refused 31 0 ≡ answer
         unfolding answerTo
-        way23 n = rw (f .leftFormed, f .rightFormed, eq-eqb leftSize bufferSize a, eq-eqb rightSize bufferSize b, eq-eqb size bufferSize c, n)
+        way31 n = rw (f .leftFormed, f .rightFormed, eq-eqb leftSize bufferSize a, eq-eqb rightSize bufferSize b, eq-eqb size bufferSize c, n)
 
-        pub way-on : sameSetup (setupOf left) (setupOf right) ≡ true → success 0 ≡ answer
-        unfolding answerTo
-        way-on y = rw (f .leftFormed, f .rightFormed, eq-eqb leftSize bufferSize a, eq-eqb rightSize bufferSize b, eq-eqb size bufferSize c, y)
+        module _ (u : neitherRetired left right ≡ true) where
+          pub way23 : sameSetup (setupOf left) (setupOf right) ≡ false → refused 23 0 ≡ answer
+          unfolding answerTo
+          way23 n = rw (f .leftFormed, f .rightFormed, eq-eqb leftSize bufferSize a, eq-eqb rightSize bufferSize b, eq-eqb size bufferSize c, u, n)
+
+          pub way-on : sameSetup (setupOf left) (setupOf right) ≡ true → success 0 ≡ answer
+          unfolding answerTo
+          way-on y = rw (f .leftFormed, f .rightFormed, eq-eqb leftSize bufferSize a, eq-eqb rightSize bufferSize b, eq-eqb size bufferSize c, u, y)
 
 -- ---- their blocks
 

@@ -12,7 +12,7 @@ use Rattle.block.specs.Limits.{slotCount}
 use Rattle.block.specs.declared.Answer.{Answer}
 use Rattle.setup.specs.Setup.{Setup}
 use Rattle.table.specs.View.{maxPlaces, Row, interpreted, View}
-use Rattle.table.specs.Layout.{setupOf, countOf, digestAt, viewOf, withRow, withMark}
+use Rattle.table.specs.Layout.{setupOf, retiredOf, countOf, digestAt, viewOf, withRow, withMark}
 use Rattle.table.specs.Rules.{hasDigest, placeOf}
 use Rattle.table.specs.Form.{inForm}
 use Rattle.table.specs.Checks.{Check, check, answerTo}
@@ -23,6 +23,10 @@ abbrev pub placeIn : View → Bytes → ℕ
 placeIn v d = placeOf v (v .held) d
 
 -- ---- the checks
+
+-- 31: "a table that has retired something, when joining": neither has
+abbrev pub neitherRetired : Bytes → Bytes → Bool
+neitherRetired left right = eqb (retiredOf left) 0 && eqb (retiredOf right) 0
 
 -- 23: "setups differ"
 abbrev pub sameSetup : Setup → Setup → Bool
@@ -60,12 +64,13 @@ isExtra v w j = not (anyBelow (hasDigest v (w .row j .digest)) (v .held))
 abbrev pub joinedCount : View → View → ℕ
 joinedCount v w = v .held + countBelow (isExtra v w) (w .held)
 
--- 2: either table not in form; 12: one of the three record buffers not of 20,480 numbers; 23; 24, with the lowest left place; 25: more than
--- 64 blocks in the result
+-- 2: either table not in form; 12: one of the three record buffers not of 20,480 numbers; 31; 23; 24, with the lowest left place; 25: more
+-- than 64 blocks in the result
 abbrev pub joinChecks : Bytes → Bytes → ℕ → ℕ → ℕ → List Check
 joinChecks left right leftSize rightSize size =
     check 2 (inForm left && inForm right) 0
     ∷ check 12 (eqb leftSize bufferSize && (eqb rightSize bufferSize && eqb size bufferSize)) 0
+    ∷ check 31 (neitherRetired left right) 0
     ∷ check 23 (sameSetup (setupOf left) (setupOf right)) 0
     ∷ check 24 (not (anyBelow (clashAt (viewOf left) (viewOf right)) (countOf left))) (firstBelow (clashAt (viewOf left) (viewOf right)) (countOf left))
     ∷ check 25 (leb (joinedCount (viewOf left) (viewOf right)) maxPlaces) 0

@@ -2,7 +2,7 @@
 -- stands in the crate `joined`.
 use mathlib.Core.Path.{_≡_}
 use mathlib.Core.Bool.{true, false, _||_}
-use mathlib.Core.Logic.{_≢_, _↔_}
+use mathlib.Core.Logic.{_≢_, _⊎_, _↔_}
 use mathlib.Core.List.{List}
 use Prim.Native.Nat.{ℕ, _+_, _≤_, _<_}
 use lib.ListN.{length}
@@ -11,7 +11,7 @@ use Rattle.base.specs.Bytes.{Bytes}
 use Rattle.block.specs.Limits.{slotCount}
 use Rattle.block.specs.declared.Answer.{Answer}
 use Rattle.table.specs.View.{maxPlaces, interpreted}
-use Rattle.table.specs.Layout.{setupOf, countOf, digestAt, siteAt, sequenceAt, requestAt, rowAt, viewOf}
+use Rattle.table.specs.Layout.{setupOf, retiredOf, countOf, digestAt, siteAt, sequenceAt, requestAt, rowAt, viewOf}
 use Rattle.table.specs.Form.{inForm}
 use Rattle.interpret.specs.Buffer.{bufferSize, partOf}
 use Rattle.join.specs.Join.{refersBy, sameBlock, isExtra, joinedCount, joinAnswer, placeIn, interpretedAt, partFor, joined, copied}
@@ -26,9 +26,15 @@ pub record Whole (left right : Bytes) (leftRecords rightRecords third : List ℕ
   pub rightSize : length rightRecords ≡ bufferSize
   pub size : length third ≡ bufferSize
 
+-- and 31
+pub record Unretired (left right : Bytes) (leftRecords rightRecords third : List ℕ) : Type 0 where
+  pub isWhole : Whole left right leftRecords rightRecords third
+  pub leftRetired : retiredOf left ≡ 0
+  pub rightRetired : retiredOf right ≡ 0
+
 -- and 23
 pub record OneSetup (left right : Bytes) (leftRecords rightRecords third : List ℕ) : Type 0 where
-  pub isWhole : Whole left right leftRecords rightRecords third
+  pub unretired : Unretired left right leftRecords rightRecords third
   pub setup : setupOf left ≡ setupOf right
 
 -- the left's place i and a place of the right have equal digests, and other fields or references
@@ -46,7 +52,9 @@ pub record Apart (left right : Bytes) (leftRecords rightRecords third : List ℕ
 
 -- each refusal comes under its cause and under no other
 pub record Causes (left right : Bytes) (leftRecords rightRecords third : List ℕ) (answer : Answer) : Type 0 where
-  pub twentyThree : (answer .refusal ≡ 23) ↔ (Whole left right leftRecords rightRecords third × (setupOf left ≢ setupOf right))
+  -- 31: either table has retired something
+  pub thirtyOne : (answer .refusal ≡ 31) ↔ (Whole left right leftRecords rightRecords third × ((retiredOf left ≢ 0) ⊎ (retiredOf right ≢ 0)))
+  pub twentyThree : (answer .refusal ≡ 23) ↔ (Unretired left right leftRecords rightRecords third × (setupOf left ≢ setupOf right))
   pub twentyFour : (answer .refusal ≡ 24) ↔ (OneSetup left right leftRecords rightRecords third × ((i : ℕ) × Clash left right i))
   pub twentyFive : (answer .refusal ≡ 25) ↔ (Apart left right leftRecords rightRecords third × (maxPlaces < joinedCount (viewOf left) (viewOf right)))
   pub none : (answer .refusal ≡ 0) ↔ (Apart left right leftRecords rightRecords third × (joinedCount (viewOf left) (viewOf right) ≤ maxPlaces))
@@ -69,6 +77,7 @@ placeBehind left right j = countOf left + countBelow (isExtra (viewOf left) (vie
 -- the table t
 pub record Shape (left right t : Bytes) : Type 0 where
   pub setup : setupOf t ≡ setupOf left
+  pub retired : retiredOf t ≡ 0
   pub count : countOf t ≡ joinedCount (viewOf left) (viewOf right)
   -- "the left's places first"
   pub first : (p : ℕ) → p < countOf left → SameFields t p left p

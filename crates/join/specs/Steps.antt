@@ -10,21 +10,21 @@ use Rattle.base.specs.Mask.{maskBelow, inMask}
 use Rattle.base.specs.Bytes.{Bytes, splice}
 use Rattle.base.specs.Word.{wordSize, wordBytes}
 use Rattle.block.specs.declared.Answer.{Answer}
-use Rattle.table.specs.View.{maxPlaces, Row}
-use Rattle.table.specs.Layout.{referencesOffset, requestsOffset, setupOf, countOf, digestAt, rowAt, viewOf}
+use Rattle.table.specs.View.{maxPlaces}
+use Rattle.table.specs.Layout.{referencesOffset, requestsOffset, setupOf, retiredOf, countOf, digestAt, viewOf}
 use Rattle.table.specs.Form.{inForm}
 use Rattle.table.specs.Checks.{Check, answerTo}
 use Rattle.interpret.specs.Buffer.{bufferSize, partStart}
 use Rattle.join.specs.Join.{clashAt, isExtra, joinedCount, joinChecks, joinBelow, joinedTable, placeIn, handedBack, joinedRecords}
 use Rattle.join.specs.Promises.{placeBehind}
 
--- ---- the checks in two parts: 2, 12 and 23; then 24 and 25, which read the tables alone
+-- ---- the checks in two parts: 2, 12, 31 and 23; then 24 and 25, which read the tables alone
 
 abbrev pub sidesChecks : Bytes → Bytes → ℕ → ℕ → ℕ → List Check
-sidesChecks left right leftSize rightSize size = take 3 (joinChecks left right leftSize rightSize size)
+sidesChecks left right leftSize rightSize size = take 4 (joinChecks left right leftSize rightSize size)
 
 abbrev pub blocksChecks : Bytes → Bytes → List Check
-blocksChecks left right = drop 3 (joinChecks left right 0 0 0)
+blocksChecks left right = drop 4 (joinChecks left right 0 0 0)
 
 abbrev pub blocksAnswer : Bytes → Bytes → Answer
 blocksAnswer left right = answerTo (blocksChecks left right) (joinedCount (viewOf left) (viewOf right))
@@ -50,9 +50,11 @@ pub record Sides (left right : Bytes) (leftRecords rightRecords : List ℕ) : Ty
   pub leftSize : length leftRecords ≡ bufferSize
   pub rightSize : length rightRecords ≡ bufferSize
 
--- 2, 23, 24 and 25, of the two tables
+-- 2, 31, 23, 24 and 25, of the two tables
 pub record Joinable (left right : Bytes) : Type 0 where
   pub formed : BothFormed left right
+  pub leftRetired : retiredOf left ≡ 0
+  pub rightRetired : retiredOf right ≡ 0
   pub setup : setupOf left ≡ setupOf right
   pub apart : anyBelow (clashAt (viewOf left) (viewOf right)) (countOf left) ≡ false
   pub fits : joinedCount (viewOf left) (viewOf right) ≤ maxPlaces
@@ -105,18 +107,6 @@ pub record Pair (left : Bytes) (i : ℕ) (right : Bytes) (j : ℕ) (inRight inLe
 -- the bytes of a row with these references in place of its own
 abbrev pub withReferences : Bytes → ℕ → Bytes
 withReferences row references = take referencesOffset row ++ (wordBytes wordSize references ++ drop requestsOffset row)
-
--- the row of the right's place j with these references
-abbrev pub rowWith : Bytes → ℕ → ℕ → Row
-rowWith right j references =
-    record {
-      digest = rowAt right j .digest;
-      site = rowAt right j .site;
-      sequence = rowAt right j .sequence;
-      refersTo = inMask references;
-      request = rowAt right j .request;
-      mark = rowAt right j .mark;
-    }
 
 -- the table after the right's places below j
 pub record Next (t right : Bytes) (j : ℕ) (places : List ℕ) : Type 0 where

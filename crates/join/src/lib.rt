@@ -1,5 +1,5 @@
 // Joining two controllers: two tables and their records made one. Promises: `join` answers and leaves what specs/Join.antt says, for any
-// tables and buffers; each of 23, 24 and 25 comes under its cause and under no other, form is kept, and the result is told without the order in
+// tables and buffers; each of 31, 23, 24 and 25 comes under its cause and under no other, form is kept, and the result is told without the order in
 // which it is made (specs/Promises.antt). Assumes nothing.
 mod clash;
 mod parts;
@@ -13,9 +13,20 @@ ghost use mathlib.Core.Path.{_≡_};
 ghost use lib.ListN.{length};
 ghost use Rattle.table.specs.Layout.{tableSize, setupOf};
 ghost use Rattle.table.specs.Checks.{answerTo};
-ghost use Rattle.join.specs.Join.{sameSetup, joinAnswer, joinedTable, joinedRecords, joined, copied};
+ghost use Rattle.join.specs.Join.{neitherRetired, sameSetup, joinAnswer, joinedTable, joinedRecords, joined, copied};
 ghost use Rattle.join.specs.Promises.{OneSetup};
 ghost use Rattle.join.specs.Steps.{sidesChecks, blocksAnswer, blocksTable, blocksRecords, BothFormed, Passed, Held, Numbered};
+
+// Whether neither of two tables has retired anything.
+fn neither_retired(left: &[u8], right: &[u8]) -> bool
+    requires { ⌜ (length (now left) ≡ tableSize) × (length (now right) ≡ tableSize) ⌝ }
+    ensures { λ r. ⌜ r ≡ neitherRetired (now (left .entry)) (now (right .entry)) ⌝ }
+{
+    if table::rows::retired_of(left) != 0 {
+        return false;
+    }
+    table::rows::retired_of(right) == 0
+}
 
 // Whether the setups of two tables are the same.
 fn same_setup(left: &[u8], right: &[u8]) -> bool
@@ -26,12 +37,12 @@ fn same_setup(left: &[u8], right: &[u8]) -> bool
         return false;
     }
     base::same(
-        &left[table::OWNERS_OFFSET..table::COUNT_OFFSET],
-        &right[table::OWNERS_OFFSET..table::COUNT_OFFSET],
+        &left[table::OWNERS_OFFSET..table::RETIRED_OFFSET],
+        &right[table::OWNERS_OFFSET..table::RETIRED_OFFSET],
     )
 }
 
-// The checks of the two sides as a whole: 2, 12 and 23.
+// The checks of the two sides as a whole: 2, 12, 31 and 23.
 fn sides_answer(
     left: &[u8],
     right: &[u8],
@@ -68,6 +79,12 @@ fn sides_answer(
     if size != BUFFER_SIZE {
         return Answer {
             refusal: 12,
+            value: 0,
+        };
+    }
+    if !neither_retired(left, right) {
+        return Answer {
+            refusal: 31,
             value: 0,
         };
     }

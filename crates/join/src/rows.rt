@@ -5,9 +5,9 @@ ghost use Prim.Native.Nat.{_+_, _≤_};
 ghost use lib.ListN.{length};
 ghost use Rattle.base.specs.Bytes.{splice};
 ghost use Rattle.table.specs.Layout.{rowSize, countOf, viewOf, withRow};
-ghost use Rattle.table.specs.Steps.{Place};
+ghost use Rattle.table.specs.Steps.{Place, rowWith};
 ghost use Rattle.join.specs.Join.{joinPlace, joinedTable};
-ghost use Rattle.join.specs.Steps.{Joinable, Numbered, Next, EachPlaced, renumberedBy, withReferences, rowWith};
+ghost use Rattle.join.specs.Steps.{Joinable, Numbered, Next, EachPlaced, renumberedBy, withReferences};
 
 // The places in the result of the blocks of these references, as a mask. A turn is taken for each reference, from the highest down.
 fn renumbered(references: u64, places: &[u8]) -> u64

@@ -5,7 +5,7 @@ use mathlib.Core.Path.{_≡_, sym, ap, ap₂, _∙_, subst}
 use mathlib.Core.Bool.{Bool, true, false}
 use mathlib.Core.Logic.{inl, inr}
 use mathlib.Core.List.{[], _∷_, _++_, append-assoc}
-use Prim.Native.Nat.{ℕ, _+_, _-_, _*_, _≤_, _<_}
+use Prim.Native.Nat.{ℕ, suc, _+_, _-_, _*_, _≤_, _<_}
 use native.Mathlib.Nat.{eq-or-lt-of-le}
 use native.Mathlib.Omega.{arith}
 use lib.Dec.{eqb}
@@ -23,7 +23,7 @@ use Rattle.base.proofs.Splice.{splice-part-in}
 use Rattle.block.specs.Limits.{referenceSize, slotCount}
 use Rattle.setup.specs.Setup.{Setup}
 use Rattle.table.specs.View.{maxPlaces, Row, View, markedIf, SameBelow}
-use Rattle.table.specs.Layout.{ownersOffset, countOffset, rowsOffset, markOffset, rowSize, rowStart, tableSize, setupOf, countOf, rowAt, viewOf, rowBytes, layout, withRow, withMark}
+use Rattle.table.specs.Layout.{ownersOffset, retiredOffset, countOffset, rowsOffset, markOffset, rowSize, rowStart, tableSize, setupOf, retiredOf, countOf, rowAt, viewOf, rowBytes, layout, withRow, withMark}
 use Rattle.table.specs.Form.{inForm}
 use Rattle.table.specs.Promises.{Marked}
 use Rattle.table.proofs.Formed.{Formed, formed-of}
@@ -113,24 +113,29 @@ module _ (t : Bytes) (f : Formed t) (c : Canonical t) where
   rows-back : joined (listBelow (λ i. rowBytes (rowAt t i)) (countOf t)) ++ replicate (rowSize * (maxPlaces - countOf t)) 0 ≡ drop rowsOffset t
   rows-back = ap₂ _++_ rows-laid zeros-back ∙ part-and-rest t rowsOffset (rowSize * countOf t)
 
+  -- a byte of the header, and what follows it
+  byte-at : (n : ℕ) → n < tableSize → drop n t ≡ getD t n 0 ∷ drop (suc n) t
+  byte-at n h = drop-cons t n 0 (omega (arith, f .size))
+
   pub canonical-laid : t ≡ layout (setupOf t) (viewOf t)
   unfolding layout
   canonical-laid =
       drop-cons t 0 0 (omega (arith, f .size)) ∙ ap (λ (b : Bytes). getD t 0 0 ∷ b)
-      (sym (ap (λ (b : Bytes). take slotCount (drop ownersOffset t) ++ b) (ap (λ (b : Bytes). countOf t ∷ b) rows-back ∙ sym (drop-cons t countOffset 0 (omega (arith, f .size))))
+      (sym (ap (λ (b : Bytes). take slotCount (drop ownersOffset t) ++ b)
+      (ap (λ (b : Bytes). retiredOf t ∷ countOf t ∷ b) rows-back ∙ ap (λ (b : Bytes). retiredOf t ∷ b) (sym (byte-at countOffset (omega arith))) ∙ sym (byte-at retiredOffset (omega arith)))
       ∙ part-and-rest t ownersOffset slotCount))
 
-pub layout-same : (s : Setup) (v w : View) → v .held ≡ w .held → SameBelow v w (v .held) → layout s v ≡ layout s w
+pub layout-same : (s : Setup) (v w : View) → v .retired ≡ w .retired → v .held ≡ w .held → SameBelow v w (v .held) → layout s v ≡ layout s w
 unfolding layout
-layout-same s v w n e =
-    ap (λ (b : Bytes). s .sites ∷ (s .owners ++ (v .held ∷ (b ++ replicate (rowSize * (maxPlaces - v .held)) 0))))
+layout-same s v w g n e =
+    ap (λ (b : Bytes). s .sites ∷ (s .owners ++ (v .retired ∷ v .held ∷ (b ++ replicate (rowSize * (maxPlaces - v .held)) 0))))
     (ap joined (list-same (λ i. rowBytes (v .row i)) (λ i. rowBytes (w .row i)) (v .held) (λ i h. row-bytes-same (v .row i) (w .row i) (e i h))))
-    ∙ ap (λ (k : ℕ). s .sites ∷ (s .owners ++ (k ∷ (joined (listBelow (λ i. rowBytes (w .row i)) k) ++ replicate (rowSize * (maxPlaces - k)) 0)))) n
+    ∙ ap₂ (λ (r k : ℕ). s .sites ∷ (s .owners ++ (r ∷ k ∷ (joined (listBelow (λ i. rowBytes (w .row i)) k) ++ replicate (rowSize * (maxPlaces - k)) 0)))) g n
 
-pub tables-equal : (t u : Bytes) → inForm t ≡ true → inForm u ≡ true → Canonical t → Canonical u → setupOf t ≡ setupOf u → countOf t ≡ countOf u
-    → SameBelow (viewOf t) (viewOf u) (countOf t) → t ≡ u
-tables-equal t u f g c d s n e =
+pub tables-equal : (t u : Bytes) → inForm t ≡ true → inForm u ≡ true → Canonical t → Canonical u → setupOf t ≡ setupOf u
+    → retiredOf t ≡ retiredOf u → countOf t ≡ countOf u → SameBelow (viewOf t) (viewOf u) (countOf t) → t ≡ u
+tables-equal t u f g c d s r n e =
     canonical-laid t (formed-of t f) c
     ∙ ap (λ (z : Setup). layout z (viewOf t)) s
-    ∙ layout-same (setupOf u) (viewOf t) (viewOf u) n e
+    ∙ layout-same (setupOf u) (viewOf t) (viewOf u) r n e
     ∙ sym (canonical-laid u (formed-of u g) d)

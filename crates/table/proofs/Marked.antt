@@ -1,7 +1,7 @@
 -- What a table shows after a place was marked: the same but for that mark. So a table in form stays in form where the place's references
 -- are interpreted. Assumes nothing.
 use mathlib.Core.Path.{_≡_, refl, sym, ap, ap₂, _∙_, subst}
-use mathlib.Core.Bool.{Bool, true, false, cond}
+use mathlib.Core.Bool.{Bool, true, false, cond, _&&_, _||_}
 use mathlib.Core.List.{[], _∷_}
 use Prim.Native.Nat.{ℕ, _+_, _-_, _*_, _≤_, _<_}
 use native.Mathlib.Omega.{arith}
@@ -12,15 +12,15 @@ use Rattle.base.specs.Bytes.{Bytes, allZero, splice}
 use Rattle.base.specs.Mask.{inMask}
 use Rattle.base.specs.Word.{wordSize, word}
 use Rattle.base.specs.Number.{number, numberAt}
-use Rattle.base.proofs.Tests.{by-test}
+use Rattle.base.proofs.Tests.{by-test, true-not-false}
 use Rattle.base.proofs.Count.{count-same}
 use Rattle.base.proofs.Splice.{drop-splice, splice-low, splice-in, splice-part-low, length-splice}
 use Rattle.block.specs.Limits.{referenceSize, slotCount}
-use Rattle.table.specs.View.{maxPlaces, Row, SameRow, markedIf, View}
-use Rattle.table.specs.Layout.{ownersOffset, countOffset, siteOffset, sequenceOffset, referencesOffset, requestsOffset, markOffset, rowSize, rowStart, tableSize, setupOf, countOf, rowAt, viewOf, withMark}
-use Rattle.table.specs.Rules.{parents, parentRule}
+use Rattle.table.specs.View.{maxPlaces, Row, interpreted, SameRow, markedIf, View}
+use Rattle.table.specs.Layout.{ownersOffset, countOffset, siteOffset, sequenceOffset, referencesOffset, requestsOffset, markOffset, rowSize, rowStart, tableSize, setupOf, countOf, rowAt, viewOf, withMark, retiredOffset, retiredOf}
+use Rattle.table.specs.Rules.{parents, parentRule, parentInForm}
 use Rattle.table.specs.Promises.{Marked}
-use Rattle.table.proofs.Views.{rule-reads, RowForm, row-form, form-row}
+use Rattle.table.proofs.Views.{form-rule-reads, RowForm, row-form, form-row}
 use Rattle.table.proofs.Formed.{Formed}
 use Rattle.table.proofs.RowBytes.{rowPart, part-same}
 
@@ -86,6 +86,7 @@ module _ (t : Bytes) (i : ℕ) (size : length t ≡ tableSize) (low : i < maxPla
       record {
         size = length-splice t at (1 ∷ []) (omega arith) ∙ size;
         setup = ap₂ (λ (x : ℕ) (y : Bytes). record { sites = x; owners = y }) (byte-kept 0 (omega arith)) (part-kept ownersOffset slotCount (omega arith));
+        retired = byte-kept retiredOffset (omega arith);
         count = byte-kept countOffset (omega arith);
         rows = row-of;
         rest = λ n h. behind n (omega arith);
@@ -95,11 +96,23 @@ module _ (t : Bytes) (i : ℕ) (size : length t ≡ tableSize) (low : i < maxPla
 
 -- the view with the mark set, of which the parent rule reads no mark
 abbrev aside : Bytes → ℕ → View
-aside t i = record { held = countOf t; row = λ k. markedIf (eqb k i) (rowAt t k) }
+aside t i = record { retired = retiredOf t; held = countOf t; row = λ k. markedIf (eqb k i) (rowAt t k) }
 
-rule-aside : (t : Bytes) (i j : ℕ) (r : Row) → parentRule (aside t i) j r ≡ parentRule (viewOf t) j r
-unfolding parentRule parents
+rule-aside : (t : Bytes) (i j : ℕ) (r : Row) → parentInForm (aside t i) j r ≡ parentInForm (viewOf t) j r
+unfolding parentInForm parentRule parents
 rule-aside t i j r = refl
+
+-- a mark more never puts a row out of form by its parent
+rule-marks : (v : View) (k : ℕ) (r : Row) (test : Bool) → parentInForm v k r ≡ true → parentInForm v k (markedIf test r) ≡ true
+unfolding parentInForm parentRule parents
+rule-marks v k r false e = e
+rule-marks v k r true e = go (parentRule v k r) (eqb (v .retired) 1) (interpreted r) (eqb (parents v k r) 0) e
+  where
+    go : (a b c d : Bool) → (a || ((b && c) && d)) ≡ true → (a || ((b && true) && d)) ≡ true
+    go true b c d h = refl
+    go false true true d h = h
+    go false true false d h = true-not-false h refl
+    go false false c d h = h
 
 module _ (t t′ : Bytes) (i : ℕ) (f : Formed t) (m : Marked t t′ i) (below : i < countOf t)
     (ready : (j : ℕ) → j < i → rowAt t i .refersTo j ≡ true → rowAt t j .mark ≡ 1) where
@@ -135,9 +148,9 @@ module _ (t t′ : Bytes) (i : ℕ) (f : Formed t) (m : Marked t t′ i) (below 
         new = λ k l e. was j h .new k l (sym (m .rows k .digest) ∙ e ∙ m .rows j .digest);
         closed = closed j h;
         parent =
-            rule-reads (viewOf t′) (aside t i) j (rowAt t′ j) (rowAt t j) (λ k l. m .rows k) (m .rows j .site) (m .rows j .sequence)
-            (λ k l. m .rows j .refersTo k (omega (arith, f .held .fits)))
-            ∙ rule-aside t i j (rowAt t j) ∙ was j h .parent;
+            form-rule-reads (viewOf t′) (aside t i) j (rowAt t′ j) (markedIf (eqb j i) (rowAt t j)) (m .retired) (λ k l. m .rows k) (m .rows j .site) (m .rows j .sequence)
+            (m .rows j .mark) (λ k l. m .rows j .refersTo k (omega (arith, f .held .fits)))
+            ∙ rule-aside t i j (markedIf (eqb j i) (rowAt t j)) ∙ rule-marks (viewOf t) j (rowAt t j) (eqb j i) (was j h .parent);
       }
 
   pub marked-formed : Formed t′
@@ -146,6 +159,7 @@ module _ (t t′ : Bytes) (i : ℕ) (f : Formed t) (m : Marked t t′ i) (below 
         size = m .size;
         held = rw (m .setup) (record {
           lawful = f .held .lawful;
+          retired = omega (arith, m .retired, f .held .retired);
           fits = omega (arith, m .count, f .held .fits);
           rows = λ j h. form-row (setupOf t) (viewOf t′) j (row-formed j (omega (arith, m .count)));
         });

@@ -10,7 +10,7 @@ pub promises : Promises
 promises =
     record {
       laid = laid;
-      empty = λ s law. record { formed = in-formed _ (empty-formed s law); setup = empty-shows s law .0; count = empty-shows s law .1 };
+      empty = λ s law. record { formed = in-formed _ (empty-formed s law); setup = empty-shows s law .0; retired = empty-shows s law .1; count = empty-shows s law .2 };
       grown = grown;
       marked = marked;
     }

@@ -13,7 +13,7 @@ use Rattle.base.proofs.Bytes.{zeros-drop}
 use Rattle.base.proofs.Splice.{drop-splice, splice-low, splice-in, splice-part-low, splice-part-in, length-splice}
 use Rattle.block.specs.Limits.{referenceSize, slotCount}
 use Rattle.table.specs.View.{maxPlaces, Row, SameRow}
-use Rattle.table.specs.Layout.{ownersOffset, countOffset, rowsOffset, rowSize, rowStart, tableSize, setupOf, countOf, rowAt, viewOf, rowBytes, withRow}
+use Rattle.table.specs.Layout.{ownersOffset, retiredOffset, countOffset, rowsOffset, rowSize, rowStart, tableSize, setupOf, retiredOf, countOf, rowAt, viewOf, rowBytes, withRow}
 use Rattle.table.specs.Rules.{rowInForm}
 use Rattle.table.specs.Promises.{Grown}
 use Rattle.table.proofs.Views.{row-trans, form-grows}
@@ -60,6 +60,11 @@ module _ (t : Bytes) (r : Row) (size : length t ≡ tableSize) (room : countOf t
       splice-part-low placed countOffset next count-within ownersOffset slotCount (omega arith)
       ∙ splice-part-low t start (rowBytes r) start-within ownersOffset slotCount (omega arith)
 
+  retired-kept : retiredOf (withRow t r) ≡ retiredOf t
+  unfolding withRow placed
+  retired-kept =
+      splice-low placed countOffset next count-within retiredOffset (omega arith) ∙ splice-low t start (rowBytes r) start-within retiredOffset (omega arith)
+
   counted : countOf (withRow t r) ≡ suc (countOf t)
   unfolding withRow placed
   counted = splice-in placed countOffset next count-within 0 (omega arith) ∙ add-one (countOf t)
@@ -92,6 +97,7 @@ module _ (t : Bytes) (r : Row) (size : length t ≡ tableSize) (room : countOf t
       record {
         size = length-splice placed countOffset next (omega (arith, placed-size)) ∙ placed-size;
         setup = ap₂ (λ (x : ℕ) (y : Bytes). record { sites = x; owners = y }) sites-kept owners-kept;
+        retired = retired-kept;
         count = counted;
         below = λ i h. part-same t (withRow t r) i (part-kept i h);
         here = row-here;
@@ -108,7 +114,7 @@ pub grown-formed : (t t′ : Bytes) (r : Row) → Formed t → countOf t < maxPl
 grown-formed t t′ r f room g e =
     record {
       size = g .size;
-      held = rw (g .setup) (form-grows (setupOf t) (viewOf t) (viewOf t′) (f .held) (g .count) room (g .below) e);
+      held = rw (g .setup) (form-grows (setupOf t) (viewOf t) (viewOf t′) (f .held) (sym (g .retired)) (g .count) room (g .below) e);
       zeros = ap (λ (n : ℕ). allZero (drop (rowStart n) t′)) (g .count) ∙ ap allZero (g .rest ∙ later) ∙ zeros-drop rowSize (drop (rowStart (countOf t)) t) (f .zeros);
     }
   where

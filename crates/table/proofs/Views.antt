@@ -11,14 +11,14 @@ use borrow.Author.Tests.{eq-eqb, eqb-true, lt-ltb, ltb-true, le-leb, leb-true, l
 use Rattle.base.specs.Bytes.{Bytes, sameBytes}
 use Rattle.base.specs.Search.{anyBelow, allBelow}
 use Rattle.base.specs.Count.{countBelow}
-use Rattle.base.proofs.Tests.{by-test, true-not-false, not-true-false, and-left, and-right, and-not-right}
+use Rattle.base.proofs.Tests.{by-test, true-not-false, not-true-false, and-left, and-right, and-not-right, or-false}
 use Rattle.base.proofs.Search.{first-same, any-same, all-same, any-false, any-false-at, all-true, all-true-at}
 use Rattle.base.proofs.Count.{count-same}
 use Rattle.base.proofs.Bytes.{other-same, same-other}
 use Rattle.block.specs.Limits.{maxReferences}
 use Rattle.setup.specs.Setup.{Setup, lawful}
 use Rattle.table.specs.View.{maxPlaces, Row, interpreted, View, SameRow, SameBelow}
-use Rattle.table.specs.Rules.{hasDigest, placeOf, parentRow, parents, parentRule, refersUninterpreted, rowInForm, heldInForm}
+use Rattle.table.specs.Rules.{hasDigest, placeOf, parentRow, parents, parentRule, parentInForm, refersUninterpreted, rowInForm, heldInForm}
 
 -- ---- rows and views that show the same
 
@@ -64,21 +64,44 @@ same-lower v w k i l e j h = e j (omega arith)
 pub place-same : (v w : View) (k : ℕ) (d : Bytes) → SameBelow v w k → placeOf v k d ≡ placeOf w k d
 place-same v w k d e = first-same (hasDigest v d) (hasDigest w d) k (λ j h. ap (λ (x : Bytes). sameBytes x d) (e j h .digest))
 
--- the parent rule reads of a row only its site, its sequence number and which places below k it refers to
+-- the parents that a row has are counted by its site, its sequence number and which places below k it refers to
+parents-read : (v w : View) (k : ℕ) (r q : Row) → SameBelow v w k → r .site ≡ q .site → r .sequence ≡ q .sequence
+    → ((j : ℕ) → j < k → r .refersTo j ≡ q .refersTo j) → parents v k r ≡ parents w k q
+unfolding parents
+parents-read v w k r q e s n f =
+    count-same (λ j. r .refersTo j && parentRow r (v .row j)) (λ j. q .refersTo j && parentRow q (w .row j)) k
+    (λ j h. ap₂ _&&_ (f j h) (rw (s, n, e j h .site, e j h .sequence)))
+
+-- the parent rule reads no more of a row
 pub rule-reads : (v w : View) (k : ℕ) (r q : Row) → SameBelow v w k → r .site ≡ q .site → r .sequence ≡ q .sequence
     → ((j : ℕ) → j < k → r .refersTo j ≡ q .refersTo j) → parentRule v k r ≡ parentRule w k q
-unfolding parentRule parents
-rule-reads v w k r q e s n f =
-    ap₂ (λ (x y : ℕ). eqb x 0 || eqb y 1) n
-    (count-same (λ j. r .refersTo j && parentRow r (v .row j)) (λ j. q .refersTo j && parentRow q (w .row j)) k
-    (λ j h. ap₂ _&&_ (f j h) (rw (s, n, e j h .site, e j h .sequence))))
+unfolding parentRule
+rule-reads v w k r q e s n f = ap₂ (λ (x y : ℕ). eqb x 0 || eqb y 1) n (parents-read v w k r q e s n f)
+
+-- form's parent rule reads the row's mark too, and whether something has been retired
+pub form-rule-reads : (v w : View) (k : ℕ) (r q : Row) → v .retired ≡ w .retired → SameBelow v w k → r .site ≡ q .site → r .sequence ≡ q .sequence
+    → r .mark ≡ q .mark → ((j : ℕ) → j < k → r .refersTo j ≡ q .refersTo j) → parentInForm v k r ≡ parentInForm w k q
+unfolding parentInForm
+form-rule-reads v w k r q g e s n m f =
+    ap₂ _||_ (rule-reads v w k r q e s n f)
+    (ap₂ _&&_ (ap₂ (λ (x y : ℕ). eqb x 1 && eqb y 1) g m) (ap (λ (x : ℕ). eqb x 0) (parents-read v w k r q e s n f)))
 
 pub rule-same : (v w : View) (k : ℕ) (r q : Row) → SameBelow v w k → k ≤ maxPlaces → SameRow r q → parentRule v k r ≡ parentRule w k q
 rule-same v w k r q e l f = rule-reads v w k r q e (f .site) (f .sequence) (λ j h. f .refersTo j (omega arith))
 
-pub row-same : (s : Setup) (v w : View) (i : ℕ) → SameBelow v w (suc i) → i < maxPlaces → rowInForm s v i ≡ rowInForm s w i
+-- a row that has its parent is in form by it
+pub rule-formed : (v : View) (k : ℕ) (r : Row) → parentRule v k r ≡ true → parentInForm v k r ≡ true
+unfolding parentInForm
+rule-formed v k r e = rw e
+
+-- where nothing has been retired, form asks the parent rule itself
+pub form-rule : (v : View) (k : ℕ) (r : Row) → v .retired ≡ 0 → parentInForm v k r ≡ parentRule v k r
+unfolding parentInForm
+form-rule v k r e = ap (λ (x : ℕ). parentRule v k r || ((eqb x 1 && interpreted r) && eqb (parents v k r) 0)) e ∙ or-false (parentRule v k r)
+
+pub row-same : (s : Setup) (v w : View) (i : ℕ) → v .retired ≡ w .retired → SameBelow v w (suc i) → i < maxPlaces → rowInForm s v i ≡ rowInForm s w i
 unfolding rowInForm
-row-same s v w i e l =
+row-same s v w i g e l =
     let here : SameRow (v .row i) (w .row i) = e i (omega arith) in
     let below : SameBelow v w i = same-lower v w (suc i) i (omega arith) e in
     ap₂ _&&_ (ap (λ (x : ℕ). ltb x (s .sites)) (here .site))
@@ -89,13 +112,14 @@ row-same s v w i e l =
     (ap₂ _&&_ (ap₂ (λ (m : ℕ) (x : Bool). not (eqb m 1 && x)) (here .mark)
     (any-same (refersUninterpreted v (v .row i)) (refersUninterpreted w (w .row i)) i
     (λ j h. ap₂ (λ (x : Bool) (m : ℕ). x && not (eqb m 1)) (here .refersTo j (omega arith)) (below j h .mark))))
-    (rule-same v w i (v .row i) (w .row i) below (omega arith) here))))))
+    (form-rule-reads v w i (v .row i) (w .row i) g below (here .site) (here .sequence) (here .mark) (λ j h. here .refersTo j (omega arith))))))))
 
-pub held-same : (s : Setup) (v w : View) → v .held ≡ w .held → SameBelow v w (v .held) → v .held ≤ maxPlaces → heldInForm s v ≡ heldInForm s w
+pub held-same : (s : Setup) (v w : View) → v .retired ≡ w .retired → v .held ≡ w .held → SameBelow v w (v .held) → v .held ≤ maxPlaces → heldInForm s v ≡ heldInForm s w
 unfolding heldInForm
-held-same s v w n e l =
-    ap₂ (λ (k : ℕ) (x : Bool). lawful s && (leb k maxPlaces && x)) n
-    (all-same (rowInForm s v) (rowInForm s w) (v .held) (λ i h. row-same s v w i (same-lower v w (v .held) (suc i) h e) (omega arith)) ∙ ap (allBelow (rowInForm s w)) n)
+held-same s v w g n e l =
+    ap₂ (λ (r : ℕ) (y : Bool). lawful s && (leb r 1 && y)) g
+    (ap₂ (λ (k : ℕ) (x : Bool). leb k maxPlaces && x) n
+    (all-same (rowInForm s v) (rowInForm s w) (v .held) (λ i h. row-same s v w i g (same-lower v w (v .held) (suc i) h e) (omega arith)) ∙ ap (allBelow (rowInForm s w)) n))
 
 -- ---- what a row in form has
 
@@ -109,7 +133,7 @@ pub record RowForm (s : Setup) (v : View) (i : ℕ) : Type 0 where
   pub new : (j : ℕ) → j < i → v .row j .digest ≡ v .row i .digest → ⊥
   -- where it is interpreted, so are its references
   pub closed : v .row i .mark ≡ 1 → (j : ℕ) → j < i → v .row i .refersTo j ≡ true → v .row j .mark ≡ 1
-  pub parent : parentRule v i (v .row i) ≡ true
+  pub parent : parentInForm v i (v .row i) ≡ true
 
 pub row-form : (s : Setup) (v : View) (i : ℕ) → rowInForm s v i ≡ true → RowForm s v i
 unfolding rowInForm
@@ -161,6 +185,7 @@ form-row s v i f =
 
 pub record Held (s : Setup) (v : View) : Type 0 where
   pub lawful : lawful s ≡ true
+  pub retired : v .retired ≤ 1
   pub fits : v .held ≤ maxPlaces
   pub rows : (i : ℕ) → i < v .held → rowInForm s v i ≡ true
 
@@ -169,19 +194,21 @@ unfolding heldInForm
 held-of s v e =
     record {
       lawful = search and-left;
+      retired = leb-true (v .retired) 1 (search (and-left, and-right));
       fits = leb-true (v .held) maxPlaces (search (and-left, and-right));
-      rows = all-true-at (rowInForm s v) (v .held) (search and-right);
+      rows = all-true-at (rowInForm s v) (v .held) (search (and-right, and-left));
     }
 
 pub held-in : (s : Setup) (v : View) → Held s v → heldInForm s v ≡ true
 unfolding heldInForm
-held-in s v h = rw (h .lawful, le-leb (v .held) maxPlaces (h .fits), all-true (rowInForm s v) (v .held) (h .rows))
+held-in s v h = rw (h .lawful, le-leb (v .retired) 1 (h .retired), le-leb (v .held) maxPlaces (h .fits), all-true (rowInForm s v) (v .held) (h .rows))
 
 -- one row more
-pub form-grows : (s : Setup) (v w : View) → Held s v → w .held ≡ suc (v .held) → v .held < maxPlaces → SameBelow v w (v .held) → rowInForm s w (v .held) ≡ true → Held s w
-form-grows s v w h n l e r =
+pub form-grows : (s : Setup) (v w : View) → Held s v → v .retired ≡ w .retired → w .held ≡ suc (v .held) → v .held < maxPlaces → SameBelow v w (v .held) → rowInForm s w (v .held) ≡ true → Held s w
+form-grows s v w h g n l e r =
     record {
       lawful = h .lawful;
+      retired = omega (arith, h .retired);
       fits = omega arith;
       rows = λ i k. row i (omega arith);
     }
@@ -189,5 +216,5 @@ form-grows s v w h n l e r =
     row : (i : ℕ) → i < suc (v .held) → rowInForm s w i ≡ true
     row i k = elim (eq-or-lt-of-le (le-of-suc-le-suc k)) [
       | inl q ↦ ap (rowInForm s w) q ∙ r
-      | inr b ↦ sym (row-same s v w i (same-lower v w (v .held) (suc i) b e) (omega arith)) ∙ h .rows i b
+      | inr b ↦ sym (row-same s v w i g (same-lower v w (v .held) (suc i) b e) (omega arith)) ∙ h .rows i b
     ]

@@ -13,7 +13,7 @@ use Rattle.table.specs.declared.FreshTable.{FreshTable}
 
 -- nothing is held
 abbrev pub nothing : View
-nothing = record { held = 0; row = rowAt [] }
+nothing = record { retired = 0; held = 0; row = rowAt [] }
 
 unfoldable pub emptyTable : Setup → Bytes
 emptyTable s = layout s nothing

@@ -2,8 +2,9 @@
 --
 --   byte 0        n
 --   bytes 1 to 8  the owners
---   byte 9        count
---   10 on         64 rows of 60 bytes, one for each place:
+--   byte 9        1 if something has been retired, 0 if not
+--   byte 10       count
+--   11 on         64 rows of 60 bytes, one for each place:
 --
 --     bytes 0 to 31   digest
 --     byte 32         site
@@ -28,8 +29,11 @@ use Rattle.table.specs.View.{maxPlaces, Row, View}
 abbrev pub ownersOffset : ℕ
 ownersOffset = 1
 
+abbrev pub retiredOffset : ℕ
+retiredOffset = ownersOffset + slotCount
+
 abbrev pub countOffset : ℕ
-countOffset = ownersOffset + slotCount
+countOffset = retiredOffset + 1
 
 abbrev pub rowsOffset : ℕ
 rowsOffset = countOffset + 1
@@ -58,7 +62,7 @@ rowSize = markOffset + 1
 abbrev pub rowStart : ℕ → ℕ
 rowStart i = rowsOffset + rowSize * i
 
--- 3,850 bytes
+-- 3,851 bytes
 abbrev pub tableSize : ℕ
 tableSize = rowStart maxPlaces
 
@@ -66,6 +70,10 @@ tableSize = rowStart maxPlaces
 
 abbrev pub setupOf : Bytes → Setup
 setupOf t = record { sites = getD t 0 0; owners = take slotCount (drop ownersOffset t) }
+
+-- "A table keeps whether it has retired anything"
+abbrev pub retiredOf : Bytes → ℕ
+retiredOf t = getD t retiredOffset 0
 
 abbrev pub countOf : Bytes → ℕ
 countOf t = getD t countOffset 0
@@ -100,7 +108,7 @@ rowAt t i =
     }
 
 abbrev pub viewOf : Bytes → View
-viewOf t = record { held = countOf t; row = rowAt t }
+viewOf t = record { retired = retiredOf t; held = countOf t; row = rowAt t }
 
 -- ---- the bytes of a setup and of what is held
 
@@ -118,9 +126,10 @@ unfoldable pub layout : Setup → View → Bytes
 layout s v =
     s .sites
     ∷ (s .owners
-    ++ (v .held
+    ++ (v .retired
+    ∷ (v .held
     ∷ (joined (listBelow (λ i. rowBytes (v .row i)) (v .held))
-    ++ replicate (rowSize * (maxPlaces - v .held)) 0)))
+    ++ replicate (rowSize * (maxPlaces - v .held)) 0))))
 
 -- a table with a row at the next place, and the count one more
 unfoldable pub withRow : Bytes → Row → Bytes

@@ -34,6 +34,10 @@ parents v k r = countBelow (λ j. r .refersTo j && parentRow r (v .row j)) k
 unfoldable pub parentRule : View → ℕ → Row → Bool
 parentRule v k r = eqb (r .sequence) 0 || eqb (parents v k r) 1
 
+-- request Eleven: "form allows a missing parent for interpreted places of such a table"; two stay out of form
+unfoldable pub parentInForm : View → ℕ → Row → Bool
+parentInForm v k r = parentRule v k r || ((eqb (v .retired) 1 && interpreted r) && eqb (parents v k r) 0)
+
 -- a place that r refers to is not interpreted
 abbrev pub refersUninterpreted : View → Row → ℕ → Bool
 refersUninterpreted v r j = r .refersTo j && not (interpreted (v .row j))
@@ -53,9 +57,9 @@ rowInForm s v i =
     && (not (anyBelow (hasDigest v (v .row i .digest)) i)
     -- an interpreted place has all its references interpreted
     && (not (interpreted (v .row i) && anyBelow (refersUninterpreted v (v .row i)) i)
-    -- the parent rule holds
-    && parentRule v i (v .row i))))))
+    -- the parent rule holds, as far as nothing is missing that was retired
+    && parentInForm v i (v .row i))))))
 
--- setup lawful, a count up to 64, and every row in form
+-- setup lawful, retired something or not, a count up to 64, and every row in form
 unfoldable pub heldInForm : Setup → View → Bool
-heldInForm s v = lawful s && (leb (v .held) maxPlaces && allBelow (rowInForm s v) (v .held))
+heldInForm s v = lawful s && (leb (v .retired) 1 && (leb (v .held) maxPlaces && allBelow (rowInForm s v) (v .held)))

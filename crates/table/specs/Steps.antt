@@ -12,7 +12,7 @@ use Rattle.base.specs.Mask.{maskBelow, inMask}
 use Rattle.base.specs.Steps.{printCount, printsBelow}
 use Rattle.setup.specs.Setup.{maxSites}
 use Rattle.table.specs.View.{maxPlaces, Row}
-use Rattle.table.specs.Layout.{tableSize, rowStart, setupOf, countOf, digestAt, siteAt, sequenceAt, markAt, viewOf}
+use Rattle.table.specs.Layout.{tableSize, rowStart, setupOf, countOf, digestAt, siteAt, sequenceAt, markAt, rowAt, viewOf}
 use Rattle.table.specs.Rules.{isParent, refersUninterpreted}
 use Rattle.table.specs.Form.{inForm}
 
@@ -30,6 +30,18 @@ pub record Places (t : Bytes) (k : ℕ) : Type 0 where
 abbrev pub rowOf : ℕ → ℕ → ℕ → Row
 rowOf site sequence references =
     record { digest = []; site = site; sequence = sequence; refersTo = inMask references; request = λ slot. 0; mark = 0 }
+
+-- the row of place i with these references
+abbrev pub rowWith : Bytes → ℕ → ℕ → Row
+rowWith t i references =
+    record {
+      digest = rowAt t i .digest;
+      site = rowAt t i .site;
+      sequence = rowAt t i .sequence;
+      refersTo = inMask references;
+      request = rowAt t i .request;
+      mark = rowAt t i .mark;
+    }
 
 -- for a block of this site and sequence number, that at place j is a parent
 abbrev pub parentAt : Bytes → ℕ → ℕ → ℕ → Bool

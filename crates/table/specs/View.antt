@@ -26,8 +26,9 @@ pub record Row : Type 0 where
 abbrev pub interpreted : Row → Bool
 interpreted r = eqb (r .mark) 1
 
--- how many blocks are held, and the row of each place
+-- whether something has been retired (1 if so, 0 if not), how many blocks are held, and the row of each place
 pub record View : Type 0 where
+  pub retired : ℕ
   pub held : ℕ
   pub row : ℕ → Row
 

@@ -5,13 +5,16 @@ use crate::rows;
 use crate::rules;
 use setup::MAX_SITES;
 ghost use mathlib.Core.Path.{_≡_};
+ghost use mathlib.Core.Bool.{_&&_};
 ghost use Prim.Native.Nat.{_≤_};
+ghost use lib.Dec.{eqb};
 ghost use lib.ListN.{length};
 ghost use Rattle.base.specs.Search.{anyBelow, allBelow};
 ghost use Rattle.setup.specs.Setup.{maxSites};
-ghost use Rattle.table.specs.Layout.{tableSize, setupOf, digestAt, viewOf};
-ghost use Rattle.table.specs.Rules.{hasDigest, rowInForm, heldInForm};
-ghost use Rattle.table.specs.Steps.{Place, Places, Lower, Met, groupAt, printAt, printsMet, marksClosed};
+ghost use Rattle.table.specs.View.{interpreted};
+ghost use Rattle.table.specs.Layout.{tableSize, setupOf, retiredOf, digestAt, rowAt, viewOf};
+ghost use Rattle.table.specs.Rules.{hasDigest, parentInForm, rowInForm, heldInForm};
+ghost use Rattle.table.specs.Steps.{Place, Places, Lower, Met, rowWith, groupAt, printAt, printsMet, marksClosed};
 
 // A digest is of one of these groups and has a print in it, by its first two bytes. Equal digests have both in common, and others seldom do.
 const GROUPS: usize = 16;
@@ -54,6 +57,37 @@ fn marks_closed(table: &[u8], i: usize, references: u64, marked: u64) -> bool
     (marked | references) == marked
 }
 
+// Whether the parent of place i may have been retired.
+fn may_lack_parent(table: &[u8], i: usize) -> bool
+    requires { ⌜ Place (now table) i ⌝ }
+    ensures { λ r. ⌜ r ≡ (eqb (retiredOf (now (table .entry))) 1 && interpreted (rowAt (now (table .entry)) i)) ⌝ }
+{
+    if rows::retired_of(table) != 1 {
+        return false;
+    }
+    rows::mark_at(table, i) == 1
+}
+
+// The parent rule of form for the row of place i with these references: one parent, or none where it may have been retired. The references are
+// gone over once.
+fn parent_in_form(table: &[u8], i: usize, references: u64) -> bool
+    requires { ⌜ Place (now table) i ⌝ }
+    ensures { λ r. ⌜ r ≡ parentInForm (viewOf (now (table .entry))) i (rowWith (now (table .entry)) i references) ⌝ }
+{
+    let sequence = rows::sequence_at(table, i);
+    if sequence == 0 {
+        return true;
+    }
+    let parents = rules::parents_among(table, i, references, rows::site_at(table, i), sequence);
+    if parents == 1 {
+        return true;
+    }
+    if !may_lack_parent(table, i) {
+        return false;
+    }
+    parents == 0
+}
+
 // Whether the row of place i is in form, where its site is below n. Of the lower places `marked` is the mask of the interpreted ones and
 // `own` that of the row's own site: a parent is among these, so the parent rule goes over no other reference. `prints` is the mask of the
 // prints in the group of its digest.
@@ -78,13 +112,7 @@ fn row_in_form(table: &[u8], i: usize, marked: u64, own: u64, prints: u64) -> bo
     if !marks_closed(table, i, references, marked) {
         return false;
     }
-    rules::parent_rule(
-        table,
-        i,
-        references & own,
-        rows::site_at(table, i),
-        rows::sequence_at(table, i),
-    )
+    parent_in_form(table, i, references & own)
 }
 
 // Whether every row below k is. The marks met so far are kept as a mask, the places met of each site as another, and the prints met of each
@@ -120,15 +148,18 @@ fn rows_in_form(table: &[u8], k: usize) -> bool
     true
 }
 
-// Whether the setup is lawful, the count up to 64, and every row below it in form.
+// Whether the setup is lawful, the retired byte 0 or 1, the count up to 64, and every row below it in form.
 pub fn held_in_form(table: &[u8]) -> bool
     requires { ⌜ length (now table) ≡ tableSize ⌝ }
     ensures { λ r. ⌜ r ≡ heldInForm (setupOf (now (table .entry))) (viewOf (now (table .entry))) ⌝ }
 {
     if !setup::lawful(
         rows::sites_of(table),
-        &table[crate::OWNERS_OFFSET..crate::COUNT_OFFSET],
+        &table[crate::OWNERS_OFFSET..crate::RETIRED_OFFSET],
     ) {
+        return false;
+    }
+    if 1 < rows::retired_of(table) {
         return false;
     }
     let k = rows::count_of(table);

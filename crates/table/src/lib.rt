@@ -21,7 +21,9 @@ pub const MAX_PLACES: usize = 64;
 // Where each field stands: of the table, then of a row, which begins with the digest.
 pub const OWNERS_OFFSET: usize = 1;
 
-pub const COUNT_OFFSET: usize = OWNERS_OFFSET + SLOTS;
+pub const RETIRED_OFFSET: usize = OWNERS_OFFSET + SLOTS;
+
+pub const COUNT_OFFSET: usize = RETIRED_OFFSET + 1;
 
 pub const ROWS_OFFSET: usize = COUNT_OFFSET + 1;
 

@@ -1,9 +1,10 @@
-// What a table's bytes show: n, the owners, the count, and the fields of a row.
+// What a table's bytes show: n, the owners, whether something has been retired, the count, and the fields of a row.
 use crate::COUNT_OFFSET;
 use crate::MARK_OFFSET;
 use crate::OWNERS_OFFSET;
 use crate::REFERENCES_OFFSET;
 use crate::REQUESTS_OFFSET;
+use crate::RETIRED_OFFSET;
 use crate::ROW_SIZE;
 use crate::ROWS_OFFSET;
 use crate::SEQUENCE_OFFSET;
@@ -13,7 +14,7 @@ ghost use Prim.Native.Nat.{_<_};
 ghost use lib.ListN.{length};
 ghost use Rattle.block.specs.Limits.{slotCount};
 ghost use Rattle.setup.specs.Setup.{ownerOf};
-ghost use Rattle.table.specs.Layout.{tableSize, setupOf, countOf, digestAt, siteAt, sequenceAt, referencesAt, requestAt, markAt};
+ghost use Rattle.table.specs.Layout.{tableSize, setupOf, retiredOf, countOf, digestAt, siteAt, sequenceAt, referencesAt, requestAt, markAt};
 ghost use Rattle.table.specs.Steps.{Place};
 
 pub fn sites_of(table: &[u8]) -> u8
@@ -28,6 +29,14 @@ pub fn owner_of(table: &[u8], slot: usize) -> u8
     ensures { λ r. ⌜ r ≡ ownerOf (setupOf (now (table .entry))) slot ⌝ }
 {
     table[OWNERS_OFFSET + slot]
+}
+
+// 1 if something has been retired.
+pub fn retired_of(table: &[u8]) -> u8
+    requires { ⌜ length (now table) ≡ tableSize ⌝ }
+    ensures { λ r. ⌜ r ≡ retiredOf (now (table .entry)) ⌝ }
+{
+    table[RETIRED_OFFSET]
 }
 
 pub fn count_of(table: &[u8]) -> usize

@@ -58,7 +58,7 @@ fn parent_below(table: &[u8], k: usize, j: usize, site: u8, sequence: u16) -> bo
 }
 
 // How many of the references below k are parents. A turn is taken for each reference, from the highest down, and for no other place.
-fn parents_among(table: &[u8], k: usize, references: u64, site: u8, sequence: u16) -> usize
+pub fn parents_among(table: &[u8], k: usize, references: u64, site: u8, sequence: u16) -> usize
     requires { ⌜ Places (now table) k ⌝ }
     ensures { λ r. ⌜ r ≡ parents (viewOf (now (table .entry))) k (rowOf site sequence references) ⌝ }
 {

@@ -20,7 +20,6 @@ use Rattle.table.proofs.Formed.{formed-of, formed-places}
 use Rattle.watch.specs.Forks.{forkedIn}
 use Rattle.build.specs.Building.{wellListed, buildingFrom, builtFrom}
 use Rattle.build.specs.Steps.{Ready, Listed, nextAnswer, nextOutput}
-use Rattle.build.proofs.Sequence.{sequence-low}
 use Rattle.build.proofs.Causes.{well-listed}
 use Rattle.build.proofs.build_from.Statement.{statement}
 use Rattle.build.proofs.build_from.Tie as tie
@@ -28,11 +27,9 @@ use Rattle.build.proofs.build_from.Tie as tie
 -- what the tests before check 17 show
 ready : (t : Bytes) (seen p : ℕ) → inForm t ≡ true → forkedIn (viewOf t) (inMask seen) p ≡ false → Ready t seen p
 ready t seen p e n =
-    let form = formed-of t e in
     record {
       formed = e;
       sized = formed-places t e;
-      low = λ i h. omega (arith, sequence-low (setupOf t) (viewOf t) (form .held) i h, form .held .fits);
       unforked = n;
     }
 

@@ -12,14 +12,14 @@ start-of c = c .before .before .before .before .before .before .before .before
 
 place-all-requires : tie.Need-place-all-requires
 place-all-requires c κs =
-    let p = c .before .before .before .before .before .before .before .pre .isWhole in
+    let p = c .before .before .before .before .before .before .before .pre .unretired .isWhole in
     (record { leftFormed = p .rightFormed; rightFormed = p .leftFormed }, search needs)
 
 abbrev there-of : tie.After-place-all2 → tie.After-place-all
 there-of c = c .before .before .before .before
 
 abbrev formed : (s : tie.Start) → BothFormed (s .args .left .now) (s .args .right .now)
-formed s = record { leftFormed = s .pre .isWhole .leftFormed; rightFormed = s .pre .isWhole .rightFormed }
+formed s = record { leftFormed = s .pre .unretired .isWhole .leftFormed; rightFormed = s .pre .unretired .isWhole .rightFormed }
 
 place-all-requires-2 : tie.Need-place-all-requires-2
 place-all-requires-2 c κs = (formed (start-of (c .before .before .before)), search needs)

@@ -1,12 +1,15 @@
 -- `sides_answer` meets its contract: one law for each way out. Assumes nothing.
 use mathlib.Core.Path.{_≡_, sym, _∙_}
 use mathlib.Core.Bool.{true}
+use lib.ListN.{length}
 use borrow.Author.Needs.{needs}
 use borrow.Author.Tests.{not-true, not-false}
+use Rattle.table.specs.Layout.{tableSize}
 use Rattle.table.specs.Form.{inForm}
 use Rattle.table.proofs.Formed.{formed-of}
+use Rattle.join.specs.Join.{neitherRetired}
 use Rattle.join.specs.Steps.{BothFormed}
-use Rattle.join.proofs.Ways.{way2, way2-right, way12-left, way12-right, way12, way23, way-on}
+use Rattle.join.proofs.Ways.{way2, way2-right, way12-left, way12-right, way12, way31, way23, way-on}
 use Rattle.join.proofs.sides_answer.Statement.{statement}
 use Rattle.join.proofs.sides_answer.Tie as tie
 
@@ -58,31 +61,45 @@ returns-5 c =
     let a = start-at (three .before) .args in
     way12 (a .left .now) (a .right .now) (a .left-size) (a .right-size) (a .size) (formed (three .before)) (three .if3 .left) (four .if4 .left) (c .if5 .taken)
 
--- ---- setups
+-- ---- what has been retired, and setups
 
 abbrev three-of : tie.Else5 → tie.Else3
 three-of c = c .before .before
 
-same-setup-requires : tie.Need-same-setup-requires
-same-setup-requires c κs =
-    let f = formed (three-of c .before) in
-    (formed-of _ (f .leftFormed) .size, formed-of _ (f .rightFormed) .size)
+lengths : (c : tie.Else5) → let a = start-at (three-of c .before) .args in (length (a .left .now) ≡ tableSize) × (length (a .right .now) ≡ tableSize)
+lengths c = let f = formed (three-of c .before) in (formed-of _ (f .leftFormed) .size, formed-of _ (f .rightFormed) .size)
 
 returns-6 : tie.Need-returns-6
 returns-6 c =
     let five = c .before .before in
     let three = three-of five in
     let a = start-at (three .before) .args in
-    way23 (a .left .now) (a .right .now) (a .left-size) (a .right-size) (a .size) (formed (three .before)) (three .if3 .left) (five .before .if4 .left) (five .if5 .left)
-    (sym (c .before .same-setup .ensures) ∙ not-true _ (c .if6 .taken))
+    way31 (a .left .now) (a .right .now) (a .left-size) (a .right-size) (a .size) (formed (three .before)) (three .if3 .left) (five .before .if4 .left) (five .if5 .left)
+    (sym (c .before .neither-retired .ensures) ∙ not-true _ (c .if6 .taken))
+
+abbrev five-of : tie.Else6 → tie.Else5
+five-of c = c .before .before
+
+unretired : (c : tie.Else6) → let a = start-at (three-of (five-of c) .before) .args in neitherRetired (a .left .now) (a .right .now) ≡ true
+unretired c = sym (c .before .neither-retired .ensures) ∙ not-false _ (c .if6 .left)
 
 returns-7 : tie.Need-returns-7
 returns-7 c =
-    let five = c .before .before in
+    let six = c .before .before in
+    let five = five-of six in
+    let three = three-of five in
+    let a = start-at (three .before) .args in
+    way23 (a .left .now) (a .right .now) (a .left-size) (a .right-size) (a .size) (formed (three .before)) (three .if3 .left) (five .before .if4 .left) (five .if5 .left)
+    (unretired six) (sym (c .before .same-setup .ensures) ∙ not-true _ (c .if7 .taken))
+
+returns-8 : tie.Need-returns-8
+returns-8 c =
+    let six = c .before .before in
+    let five = five-of six in
     let three = three-of five in
     let a = start-at (three .before) .args in
     way-on (a .left .now) (a .right .now) (a .left-size) (a .right-size) (a .size) (formed (three .before)) (three .if3 .left) (five .before .if4 .left) (five .if5 .left)
-    (sym (c .before .same-setup .ensures) ∙ not-false _ (c .if6 .left))
+    (unretired six) (sym (c .before .same-setup .ensures) ∙ not-false _ (c .if7 .left))
 
 pub sides-answer-spec : {M : Type 1} → statement M
 sides-answer-spec =
@@ -95,6 +112,8 @@ sides-answer-spec =
     returns-3
     returns-4
     returns-5
-    same-setup-requires
+    (λ c κs. lengths c)
     returns-6
-    returns-7)
+    (λ c κs. lengths (five-of c))
+    returns-7
+    returns-8)

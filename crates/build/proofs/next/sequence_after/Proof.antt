@@ -9,14 +9,8 @@ use Rattle.build.proofs.next.sequence_after.Tie as tie
 returns : tie.Need-returns
 returns c = rw (sym (c .before .of-site .ensures) ∙ not-true _ (c .if1 .taken))
 
-add-result : tie.Need-add-result
-add-result c =
-    let start = c .before .before .before .before in
-    let low = start .pre .0 .low (start .args .i) (start .pre .1) in
-    omega (arith, c .sequence-at .ensures)
-
 returns-2 : tie.Need-returns-2
 returns-2 c = let e = c .before in rw (sym (e .before .of-site .ensures) ∙ not-false _ (e .if1 .left), ← c .sequence-at .ensures)
 
 pub sequence-after-spec : {M : Type 1} → statement M
-sequence-after-spec = tie.close (tie.spec (λ c κs. search needs) returns (λ c κs. search needs) add-result returns-2)
+sequence-after-spec = tie.close (tie.spec (λ c κs. search needs) returns (λ c κs. search needs) (λ c. search needs) (λ c. search needs) returns-2)

@@ -7,7 +7,7 @@ use borrow.Author.Tests.{le-leb, lt-leb, not-true, not-false}
 use Rattle.setup.specs.Setup.{lawful}
 use Rattle.setup.proofs.Thresholds.{sites-few, sites-lawful}
 use Rattle.table.specs.View.{maxPlaces}
-use Rattle.table.specs.Layout.{setupOf, countOf}
+use Rattle.table.specs.Layout.{setupOf, retiredOf, countOf}
 use Rattle.table.specs.Rules.{heldInForm}
 use Rattle.table.proofs.form.held_in_form.Statement.{statement}
 use Rattle.table.proofs.form.held_in_form.Tie as tie
@@ -25,15 +25,24 @@ returns c = rw (sym (judged (c .before)) ∙ not-true _ (c .if1 .taken))
 
 returns-2 : tie.Need-returns-2
 unfolding heldInForm
-returns-2 c = rw (setup (c .before .before), ← c .before .count-of .ensures, lt-leb _ maxPlaces (c .if2 .taken))
+returns-2 c = rw (setup (c .before .before), ← c .before .retired-of .ensures, lt-leb _ 1 (c .if2 .taken))
+
+once : (c : tie.Else2) → leb (retiredOf (c .before .before .before .before .before .before .before .args .table .now)) 1 ≡ true
+once c = rw (c .before .retired-of .ensures) at (le-leb (c .before .retired-of .result) 1 (c .if2 .left))
 
 returns-3 : tie.Need-returns-3
 unfolding heldInForm
 returns-3 c =
+    let k = c .before in
+    rw (setup (k .before .before .before), once (k .before), ← k .count-of .ensures, lt-leb _ maxPlaces (c .if3 .taken))
+
+returns-4 : tie.Need-returns-4
+unfolding heldInForm
+returns-4 c =
     let k = c .before .before in
-    let t = k .before .before .before .before .before .before .args .table .now in
-    let few : leb (countOf t) maxPlaces ≡ true = rw (k .count-of .ensures) at (le-leb (k .count-of .result) maxPlaces (c .before .if2 .left)) in
-    rw (setup (k .before), few) (rw (k .count-of .ensures) at (c .rows-in-form .ensures))
+    let t = k .before .before .before .before .before .before .before .before .args .table .now in
+    let few : leb (countOf t) maxPlaces ≡ true = rw (k .count-of .ensures) at (le-leb (k .count-of .result) maxPlaces (c .before .if3 .left)) in
+    rw (setup (k .before .before .before), once (k .before), few) (rw (k .count-of .ensures) at (c .rows-in-form .ensures))
 
 pub held-in-form-spec : {M : Type 1} → statement M
 held-in-form-spec =
@@ -47,5 +56,7 @@ held-in-form-spec =
     returns
     (λ c κs. search needs)
     returns-2
-    (λ c κs. let n = sites-few _ (sites-lawful _ (setup (c .before .before))) in search needs)
-    returns-3)
+    (λ c κs. search needs)
+    returns-3
+    (λ c κs. let n = sites-few _ (sites-lawful _ (setup (c .before .before .before .before))) in search needs)
+    returns-4)

@@ -17,10 +17,10 @@ use Rattle.base.proofs.Count.{count-same}
 use Rattle.base.proofs.Sets.{mask-has, none-from, ones-members, mask-and}
 use Rattle.block.specs.Limits.{maxReferences}
 use Rattle.table.specs.View.{maxPlaces}
-use Rattle.table.specs.Layout.{siteAt, sequenceAt, markAt, referencesAt, digestAt, rowAt, viewOf}
-use Rattle.table.specs.Rules.{hasDigest, parents, parentRule, rowInForm}
-use Rattle.table.specs.Steps.{rowOf, parentAt, siteBelow, marksClosed}
-use Rattle.table.proofs.Views.{same-refl, rule-reads}
+use Rattle.table.specs.Layout.{retiredOffset, siteAt, sequenceAt, markAt, referencesAt, digestAt, rowAt, viewOf}
+use Rattle.table.specs.Rules.{hasDigest, parents, parentRule, parentInForm, rowInForm}
+use Rattle.table.specs.Steps.{rowWith, parentAt, siteBelow, marksClosed}
+use Rattle.table.proofs.Views.{same-refl, form-rule-reads}
 use Rattle.table.proofs.form.row_in_form.Statement.{statement}
 use Rattle.table.proofs.form.row_in_form.Tie as tie
 
@@ -85,16 +85,19 @@ closed : (c : tie.After-marks-closed) → let d = back2 (back3 (back4 (c .before
     marksClosed (t d) (i d) (referencesAt (t d) (i d)) ≡ c .marks-closed .result
 closed c = rw (← back3 (back4 (c .before)) .before .references-at .ensures) (sym (c .marks-closed .ensures))
 
-rule-row : (t : Bytes) (i : ℕ) → parentRule (viewOf t) i (rowOf (siteAt t i) (sequenceAt t i) (referencesAt t i)) ≡ parentRule (viewOf t) i (rowAt t i)
+rule-row : (t : Bytes) (i : ℕ) → parentInForm (viewOf t) i (rowWith t i (referencesAt t i)) ≡ parentInForm (viewOf t) i (rowAt t i)
 rule-row t i =
-    rule-reads (viewOf t) (viewOf t) i (rowOf (siteAt t i) (sequenceAt t i) (referencesAt t i)) (rowAt t i) (same-refl (viewOf t) i) refl refl (λ j h. refl)
+    form-rule-reads (viewOf t) (viewOf t) i (rowWith t i (referencesAt t i)) (rowAt t i) refl (same-refl (viewOf t) i) refl refl refl (λ j h. refl)
 
 -- a parent is of the row's own site, so of the references those alone count
-rule-own : (t : Bytes) (k site sequence references : ℕ)
-    → parentRule (viewOf t) k (rowOf site sequence (bitAnd references (siteBelow t site k))) ≡ parentRule (viewOf t) k (rowOf site sequence references)
-unfolding parentRule parents
-rule-own t k site sequence references =
-    ap (λ (n : ℕ). eqb sequence 0 || eqb n 1)
+rule-own : (t : Bytes) (i references : ℕ)
+    → parentInForm (viewOf t) i (rowWith t i (bitAnd references (siteBelow t (siteAt t i) i))) ≡ parentInForm (viewOf t) i (rowWith t i references)
+unfolding parentInForm parentRule parents
+rule-own t i references =
+    let site = siteAt t i in
+    let sequence = sequenceAt t i in
+    let k = i in
+    ap (λ (n : ℕ). (eqb sequence 0 || eqb n 1) || ((eqb (getD t retiredOffset 0) 1 && eqb (markAt t i) 1) && eqb n 0))
     (count-same (λ j. inMask (bitAnd references (siteBelow t site k)) j && parentAt t site sequence j) (λ j. inMask references j && parentAt t site sequence j) k
     (λ j h. rw (mask-and references (siteBelow t site k) j, mask-has (λ j. eqb (siteAt t j) site) k j h)
     (asked-twice (inMask references j) (eqb (siteAt t j) site) (eqb (sequenceAt t j + 1) sequence))))
@@ -138,7 +141,7 @@ returns-5 c =
 returns-6 : tie.Need-returns-6
 unfolding rowInForm
 returns-6 c =
-    let b = c .before .before .before in
+    let b = c .before in
     let d = back3 (back4 (back5 b)) in
     let e = back2 d in
     rw (
@@ -149,13 +152,11 @@ returns-6 c =
       new (back5 b),
       closed (b .before) ∙ not-false _ (b .if5 .left),
       ← rule-row (t e) (i e),
-      ← rule-own (t e) (i e) (siteAt (t e) (i e)) (sequenceAt (t e) (i e)) (referencesAt (t e) (i e)),
+      ← rule-own (t e) (i e) (referencesAt (t e) (i e)),
       ← start (e .before) .pre .1 .same,
       ← d .before .references-at .ensures,
-      ← c .before .before .site-at .ensures,
-      ← c .before .sequence-at .ensures,
     )
-    (c .parent-rule .ensures)
+    (c .parent-in-form .ensures)
 
 pub row-in-form-spec : {M : Type 1} → statement M
 row-in-form-spec =
@@ -172,7 +173,5 @@ row-in-form-spec =
     returns-4
     (λ c κs. let m = start (back2 (back3 (back4 c)) .before) .pre .1 .marks in search needs)
     returns-5
-    (λ c κs. search needs)
-    (λ c κs. search needs)
     (λ c κs. search needs)
     returns-6)
