@@ -7,7 +7,7 @@ use Prim.Native.Nat.{ℕ, _-_, _<_}
 use native.Mathlib.Omega.{arith}
 use lib.Dec.{eqb}
 use lib.ListN.{length, drop}
-use borrow.Author.Tests.{eq-eqb, ne-eqb, eqb-true, eqb-false, lt-ltb, le-ltb, ltb-true, ltb-false, not-true}
+use borrow.Author.Tests.{eq-eqb, ne-eqb, eqb-true, eqb-false, lt-ltb, not-true}
 use Rattle.base.specs.Search.{firstBelow, anyBelow}
 use Rattle.base.specs.Bytes.{Bytes}
 use Rattle.base.proofs.Tests.{true-not-false, and-left, and-right}
@@ -15,10 +15,11 @@ use Rattle.base.proofs.Search.{any-true, any-true-at, any-first, first-passes, 
 use Rattle.table.specs.Layout.{markAt, rowAt, viewOf}
 use Rattle.table.specs.Rules.{refersUninterpreted}
 use Rattle.table.specs.Form.{inForm}
-use Rattle.table.specs.Checks.{answerTo}
+use Rattle.table.specs.Checks.{Check, answerTo}
 use Rattle.table.proofs.Checks.{none-refused, past-check, at-check, elsewhere, never-answered, and-then, absent, present}
 use Rattle.interpret.specs.Interpretation.{interpretationChecks, interpretation}
-use Rattle.interpret.specs.Promises.{Whole, Held, Open, Unready, Causes}
+use Rattle.interpret.specs.Promises.{Open, Unready, Causes}
+use Rattle.interpret.proofs.FirstChecks.{past-thirteen, twelve, thirteen}
 
 module _ (t : Bytes) (buffer : List ℕ) (i : ℕ) where
   -- ---- what each check says
@@ -48,30 +49,15 @@ module _ (t : Bytes) (buffer : List ℕ) (i : ℕ) where
 
   -- ---- the checks in their order
 
-  -- the number that the checks after the first k answer
-  abbrev from : ℕ → ℕ
-  from k = answerTo (drop k (interpretationChecks (inForm t) (viewOf t) (length buffer) i)) 0 .refusal
+  -- those after the first three
+  abbrev rest : List Check
+  rest = drop 3 (interpretationChecks (inForm t) (viewOf t) (length buffer) i)
 
-  past-two : (n : ℕ) → 2 ≢ n → (interpretation t buffer i .refusal ≡ n) ↔ ((inForm t ≡ true) × (from 1 ≡ n))
+  past-fourteen : (n : ℕ) → 2 ≢ n → 12 ≢ n → 13 ≢ n → 14 ≢ n → (interpretation t buffer i .refusal ≡ n) ↔ (Open t buffer i × (answerTo (drop 1 rest) 0 .refusal ≡ n))
   unfolding interpretation
-  past-two n a = past-check _ _ _ n (λ _. a)
-
-  past-twelve : (n : ℕ) → 2 ≢ n → 12 ≢ n → (interpretation t buffer i .refusal ≡ n) ↔ (Whole t buffer × (from 2 ≡ n))
-  past-twelve n a b = Iff·trans (and-then (past-two n a) (past-check _ _ _ n (λ _. b))) (
-    λ p. (record { formed = p .0; size = eqb-true _ _ (p .1 .0) }, p .1 .1),
-    λ p. (p .0 .formed, (eq-eqb _ _ (p .0 .size), p .1)),
-  )
-
-  past-thirteen : (n : ℕ) → 2 ≢ n → 12 ≢ n → 13 ≢ n → (interpretation t buffer i .refusal ≡ n) ↔ (Held t buffer i × (from 3 ≡ n))
-  past-thirteen n a b c = Iff·trans (and-then (past-twelve n a b) (past-check _ _ _ n (λ _. c))) (
-    λ p. (record { isWhole = p .0; below = ltb-true _ _ (p .1 .0) }, p .1 .1),
-    λ p. (p .0 .isWhole, (lt-ltb _ _ (p .0 .below), p .1)),
-  )
-
-  past-fourteen : (n : ℕ) → 2 ≢ n → 12 ≢ n → 13 ≢ n → 14 ≢ n → (interpretation t buffer i .refusal ≡ n) ↔ (Open t buffer i × (from 4 ≡ n))
   past-fourteen n a b c d =
       let here = absent _ _ is-marked in
-      Iff·trans (and-then (past-thirteen n a b c) (past-check _ _ _ n (λ _. d))) (
+      Iff·trans (and-then (past-thirteen t buffer i rest n a b c) (past-check _ _ _ n (λ _. d))) (
         λ p. (record { isHeld = p .0; unmarked = here .0 (p .1 .0) }, p .1 .1),
         λ p. (p .0 .isHeld, (here .1 (p .0 .unmarked), p .1)),
       )
@@ -98,14 +84,13 @@ module _ (t : Bytes) (buffer : List ℕ) (i : ℕ) where
       )
 
   pub causes : Causes t buffer i
-  unfolding elsewhere
+  unfolding interpretation elsewhere
   causes =
       record {
-        twelve = and-then (past-two 12 (λ e. omega arith)) (Iff·trans (at-check _ _ _ (never-answered 12 _ _ refl)) (eqb-false _ _, ne-eqb _ _));
-        thirteen = and-then (past-twelve 13 (λ e. omega arith) (λ e. omega arith)) (Iff·trans (at-check _ _ _ (never-answered 13 _ _ refl))
-            (λ e. ltb-false _ _ e, λ h. le-ltb _ _ h));
-        fourteen = and-then (past-thirteen 14 (λ e. omega arith) (λ e. omega arith) (λ e. omega arith)) (Iff·trans (at-check _ _ _ (never-answered 14 _ _ refl))
-            (present _ _ is-marked));
+        twelve = twelve t buffer i rest refl;
+        thirteen = thirteen t buffer i rest refl;
+        fourteen = and-then (past-thirteen t buffer i rest 14 (λ e. omega arith) (λ e. omega arith) (λ e. omega arith))
+            (Iff·trans (at-check _ _ _ (never-answered 14 _ _ refl)) (present _ _ is-marked));
         fifteen = fifteen;
         none = and-then (past-fourteen 0 (λ e. omega arith) (λ e. omega arith) (λ e. omega arith) (λ e. omega arith))
             (Iff·trans (past-check _ _ _ 0 (λ _ q. omega arith)) (Iff·trans (λ p. p .0, λ y. (y, none-refused 0)) (absent _ _ some-unready)));

@@ -8,6 +8,7 @@ mod Turns
 mod Places
 pub mod Parts
 mod Typed
+pub mod FirstChecks
 pub mod Causes
 pub mod Kept
 pub mod Directs

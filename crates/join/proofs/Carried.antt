@@ -4,21 +4,19 @@ use mathlib.Core.List.{[], _∷_, _++_, append-assoc}
 use Prim.Native.Nat.{ℕ, _+_, _^_, _≤_, _<_}
 use native.Mathlib.Omega.{arith}
 use lib.ListN.{length, take, drop, length-append, length-drop}
-use lib.Seq.{take-at, drop-at, drop-drop, length-take-le}
+use lib.Seq.{length-take-le}
 use Rattle.base.specs.Bytes.{Bytes, AllBytes, splice}
-use Rattle.base.specs.Mask.{maskBelow}
-use Rattle.base.specs.Number.{pair}
+use Rattle.base.specs.Mask.{inMask}
 use Rattle.base.specs.Word.{wordSize, wordBytes}
 use Rattle.base.proofs.Sets.{mask-members}
 use Rattle.base.proofs.Splice.{splice-append}
 use Rattle.base.proofs.Word.{length-word}
 use Rattle.block.specs.Limits.{referenceSize}
-use Rattle.table.specs.View.{maxPlaces, Row}
+use Rattle.table.specs.View.{maxPlaces}
 use Rattle.table.specs.Layout.{referencesOffset, requestsOffset, countOffset, rowSize, rowStart, countOf, rowAt, rowBytes, withRow}
-use Rattle.table.specs.Steps.{Place}
-use Rattle.table.proofs.RowBytes.{rowPart, requestsOn, referenceMask}
+use Rattle.table.specs.Steps.{Place, rowWith}
+use Rattle.table.proofs.RowBytes.{rowPart, references-put}
 use Rattle.table.proofs.Laid.{row-laid}
-use Rattle.table.specs.Steps.{rowWith}
 use Rattle.join.specs.Steps.{withReferences}
 
 -- ---- a row written in three parts
@@ -41,40 +39,23 @@ row-written t t₁ t₂ t₃ row front mask rest at references h size ef e₁ em
     behind t t₂ t₃ (a ++ m) (drop requestsOffset row) at (at + requestsOffset) h f₂ (omega arith) (e₃ ∙ ap (splice t₂ (at + requestsOffset)) er)
     ∙ ap (splice t at) (append-assoc a m (drop requestsOffset row))
 
--- ---- the bytes of a row's parts
-
-abbrev head : Row → Bytes
-head r = r .digest ++ (r .site ∷ pair (r .sequence))
-
-module _ (r : Row) (whole : length (r .digest) ≡ referenceSize) where
-  cut : rowBytes r ≡ head r ++ (referenceMask r ++ requestsOn r)
-  unfolding rowBytes
-  cut = sym (append-assoc (r .digest) (r .site ∷ pair (r .sequence)) (referenceMask r ++ requestsOn r))
-
-  head-length : length (head r) ≡ referencesOffset
-  head-length = length-append (r .digest) (r .site ∷ pair (r .sequence)) ∙ omega arith
-
-  front-is : take referencesOffset (rowBytes r) ≡ head r
-  front-is = ap (take referencesOffset) cut ∙ take-at (head r) (referenceMask r ++ requestsOn r) referencesOffset head-length
-
-  rest-is : drop requestsOffset (rowBytes r) ≡ requestsOn r
-  rest-is =
-      sym (drop-drop wordSize referencesOffset (rowBytes r))
-      ∙ ap (drop wordSize) (ap (drop referencesOffset) cut ∙ drop-at (head r) (referenceMask r ++ requestsOn r) referencesOffset head-length)
-      ∙ drop-at (referenceMask r) (requestsOn r) wordSize (length-word wordSize (maskBelow (r .refersTo) maxPlaces))
-
 -- ---- the right's row at the next place
 
 module _ (right : Bytes) (j : ℕ) (all : AllBytes right) (place : Place right j) (references : ℕ) (wide : references < 2 ^ maxPlaces) where
   digest-whole : length (rowAt right j .digest) ≡ referenceSize
   digest-whole = length-take-le referenceSize (drop (rowStart j) right) (omega (arith, length-drop (rowStart j) right, place .size, place .place))
 
+  -- the mask put into the row's bytes
+  put-is : (b : Bytes) → withReferences b references ≡ splice b referencesOffset (wordBytes wordSize references)
+  unfolding splice
+  put-is b = ap (λ (n : ℕ). take referencesOffset b ++ (wordBytes wordSize references ++ drop (referencesOffset + n) b)) (sym (length-word wordSize references))
+
   row-is : withReferences (rowPart right j) references ≡ rowBytes (rowWith right j references)
   row-is =
-      ap (λ (b : Bytes). withReferences b references) (sym (row-laid right all j (omega (arith, place .size, place .place))))
-      ∙ ap₂ (λ (x y : Bytes). x ++ (wordBytes wordSize references ++ y)) (front-is (rowAt right j) digest-whole) (rest-is (rowAt right j) digest-whole)
-      ∙ ap (λ (m : ℕ). head (rowAt right j) ++ (wordBytes wordSize m ++ requestsOn (rowAt right j))) (sym (mask-members maxPlaces references wide))
-      ∙ sym (cut (rowWith right j references) digest-whole)
+      put-is (rowPart right j)
+      ∙ ap₂ (λ (b : Bytes) (m : ℕ). splice b referencesOffset (wordBytes wordSize m)) (sym (row-laid right all j (omega (arith, place .size, place .place))))
+      (sym (mask-members maxPlaces references wide))
+      ∙ references-put (rowAt right j) digest-whole (inMask references)
 
   pub row-put : (t t₁ t₂ row : Bytes) (k : ℕ) → k ≡ countOf t → row ≡ rowPart right j → t₁ ≡ splice t (rowStart k) (withReferences row references)
       → t₂ ≡ splice t₁ countOffset ((k + 1) ∷ []) → t₂ ≡ withRow t (rowWith right j references)

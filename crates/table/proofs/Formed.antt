@@ -1,5 +1,5 @@
 -- What a table in form has. Assumes nothing.
-use mathlib.Core.Path.{_≡_, sym}
+use mathlib.Core.Path.{_≡_, sym, ap, _∙_}
 use mathlib.Core.Bool.{true}
 use Prim.Native.Nat.{ℕ, _<_}
 use native.Mathlib.Omega.{arith}
@@ -8,10 +8,14 @@ use lib.ListN.{length, drop}
 use borrow.Author.Tests.{eq-eqb, eqb-true, ltb-true, ltb-false}
 use Rattle.base.specs.Bytes.{Bytes, allZero}
 use Rattle.base.proofs.Tests.{by-test, and-left, and-right}
+use Rattle.setup.specs.Setup.{Setup}
+use Rattle.table.specs.View.{View}
 use Rattle.table.specs.Layout.{tableSize, rowStart, setupOf, countOf, digestAt, viewOf}
+use Rattle.table.specs.Rules.{heldInForm}
 use Rattle.table.specs.Form.{inForm}
+use Rattle.table.specs.Promises.{Shows}
 use Rattle.table.specs.Steps.{Places}
-use Rattle.table.proofs.Views.{RowForm, row-form, Held, held-of, held-in}
+use Rattle.table.proofs.Views.{same-sym, held-same, RowForm, row-form, Held, held-of, held-in}
 
 pub record Formed (t : Bytes) : Type 0 where
   pub size : length t ≡ tableSize
@@ -45,3 +49,13 @@ one-place t f i j h l e = by-test (ltb i j)
 pub in-formed : (t : Bytes) → Formed t → inForm t ≡ true
 unfolding inForm
 in-formed t f = rw (eq-eqb (length t) tableSize (f .size), held-in (setupOf t) (viewOf t) (f .held), f .zeros)
+
+-- a table that shows a view in form, and zeros behind it, is in form
+pub shows-formed : (s : Setup) (v : View) (t : Bytes) → Shows s v t → Held s v → inForm t ≡ true
+unfolding inForm
+shows-formed s v t w h =
+    let held : heldInForm (setupOf t) (viewOf t) ≡ true =
+    ap (λ (z : Setup). heldInForm z (viewOf t)) (w .setup)
+    ∙ sym (held-same s v (viewOf t) (sym (w .retired)) (sym (w .count)) (same-sym (viewOf t) v (v .held) (w .rows)) (h .fits)) ∙ held-in s v h in
+    let zeros : allZero (drop (rowStart (countOf t)) t) ≡ true = ap (λ (n : ℕ). allZero (drop (rowStart n) t)) (w .count) ∙ w .zeros in
+    rw (eq-eqb (length t) tableSize (w .size), held, zeros)

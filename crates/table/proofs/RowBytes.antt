@@ -1,13 +1,14 @@
--- A row is read from its own 60 bytes, the bytes of a row read to that row, and rows that show the same have the same bytes.
--- Assumes nothing.
+-- A row is read from its own 60 bytes, the bytes of a row read to that row, rows that show the same have the same bytes, and a mask put into
+-- a row's bytes changes its references alone. Assumes nothing.
 use mathlib.Core.Path.{_≡_, refl, sym, ap, ap₂, _∙_, subst}
-use mathlib.Core.List.{List, [], _∷_, _++_}
+use mathlib.Core.Bool.{Bool}
+use mathlib.Core.List.{List, [], _∷_, _++_, append-assoc}
 use Prim.Native.Nat.{ℕ, _+_, _*_, _<_}
 use native.Mathlib.Nat.{add-assoc}
 use native.Mathlib.Omega.{arith}
 use lib.ListN.{length, getD, take, drop, length-append}
 use lib.Seq.{take-at, drop-at, drop-drop, take-take, getD-at, getD-take, getD-drop, drop-append-add, getD-append-add}
-use Rattle.base.specs.Bytes.{Bytes, partAt, parts, joined}
+use Rattle.base.specs.Bytes.{Bytes, partAt, parts, joined, splice}
 use Rattle.base.specs.List.{listBelow}
 use Rattle.base.specs.Mask.{maskBelow, inMask}
 use Rattle.base.specs.Number.{number, numberAt, pair}
@@ -97,6 +98,11 @@ requestsOn r = joined (requestPairs r) ++ (r .mark ∷ [])
 abbrev pub afterDigest : Row → Bytes
 afterDigest r = r .site ∷ (pair (r .sequence) ++ (referenceMask r ++ requestsOn r))
 
+-- the row that refers to the places which pass the test instead
+abbrev pub referring : Row → (ℕ → Bool) → Row
+referring r test =
+    record { digest = r .digest; site = r .site; sequence = r .sequence; refersTo = test; request = r .request; mark = r .mark }
+
 module _ (r : Row) (whole : length (r .digest) ≡ referenceSize) where
   pub length-row : length (rowBytes r) ≡ rowSize
   unfolding rowBytes
@@ -151,6 +157,29 @@ module _ (r : Row) (whole : length (r .digest) ≡ referenceSize) where
         request = request-there;
         mark = on-request (2 * slotCount) ∙ getD-at (joined (requestPairs r)) (r .mark) [] 0 (2 * slotCount) (pairs-length r);
       }
+
+  -- ---- other references
+
+  -- what stands before the references
+  abbrev front : Bytes
+  front = r .digest ++ (r .site ∷ pair (r .sequence))
+
+  cut : (test : ℕ → Bool) → rowBytes (referring r test) ≡ front ++ (referenceMask (referring r test) ++ requestsOn r)
+  unfolding rowBytes
+  cut test = sym (append-assoc (r .digest) (r .site ∷ pair (r .sequence)) (referenceMask (referring r test) ++ requestsOn r))
+
+  front-there : take referencesOffset (rowBytes r) ≡ front
+  front-there =
+      ap (take referencesOffset) (cut (r .refersTo))
+      ∙ take-at front (referenceMask r ++ requestsOn r) referencesOffset (length-append (r .digest) (r .site ∷ pair (r .sequence)) ∙ omega arith)
+
+  pub references-put : (test : ℕ → Bool) → splice (rowBytes r) referencesOffset (wordBytes wordSize (maskBelow test maxPlaces)) ≡ rowBytes (referring r test)
+  unfolding splice
+  references-put test =
+      let mask : Bytes = wordBytes wordSize (maskBelow test maxPlaces) in
+      ap₂ (λ (x y : Bytes). x ++ (mask ++ y)) front-there
+      (ap (λ (n : ℕ). drop (referencesOffset + n) (rowBytes r)) (length-word wordSize (maskBelow test maxPlaces)) ∙ requests-on)
+      ∙ sym (cut test)
 
 -- rows that show the same have the same bytes
 pub row-bytes-same : (r q : Row) → SameRow r q → rowBytes r ≡ rowBytes q

@@ -2,7 +2,6 @@
 use mathlib.Core.Path.{sym, _∙_}
 use borrow.Author.Needs.{needs}
 use borrow.Author.Tests.{not-true, not-false}
-use native.Mathlib.Omega.{arith}
 use Rattle.build.proofs.next.sequence_after.Statement.{statement}
 use Rattle.build.proofs.next.sequence_after.Tie as tie
 
