@@ -1,0 +1,60 @@
+-- What retiring promises beyond its three equations; proofs/Promises.antt shows it.
+use mathlib.Core.Path.{_≡_}
+use mathlib.Core.Bool.{true, false}
+use mathlib.Core.Logic.{_↔_, _≢_}
+use mathlib.Core.List.{List}
+use Prim.Native.Nat.{ℕ, suc, _-_, _<_}
+use lib.ListN.{length, drop}
+use Rattle.base.specs.Bytes.{Bytes}
+use Rattle.table.specs.Layout.{setupOf, countOf, siteAt, sequenceAt, markAt, rowAt, viewOf}
+use Rattle.table.specs.Form.{inForm}
+use Rattle.table.specs.Promises.{Shows}
+use Rattle.interpret.specs.Buffer.{bufferSize, partStart, partOf}
+use Rattle.interpret.specs.Promises.{Whole, Held}
+use Rattle.retire.specs.Retiring.{withoutFirst, retiring, retiredTable, retiredRecords}
+
+-- ---- refusals
+
+-- place i holds an interpreted block of place 0's site, of greater sequence number
+pub record Follows (t : Bytes) (i : ℕ) : Type 0 where
+  pub below : i < countOf t
+  pub site : siteAt t i ≡ siteAt t 0
+  pub marked : markAt t i ≡ 1
+  pub greater : sequenceAt t 0 < sequenceAt t i
+
+-- "It may be retired if it is interpreted, every held block referring to it is interpreted, and its site has a held, interpreted block of
+-- greater sequence number"
+pub record Retirable (t : Bytes) : Type 0 where
+  pub marked : markAt t 0 ≡ 1
+  pub referrers : (i : ℕ) → i < countOf t → rowAt t i .refersTo 0 ≡ true → markAt t i ≡ 1
+  pub follower : (i : ℕ) × Follows t i
+
+-- each refusal comes under its cause and under no other
+pub record Causes (t : Bytes) (buffer : List ℕ) : Type 0 where
+  pub two : (retiring t buffer .refusal ≡ 2) ↔ (inForm t ≡ false)
+  pub twelve : (retiring t buffer .refusal ≡ 12) ↔ ((inForm t ≡ true) × (length buffer ≢ bufferSize))
+  pub thirteen : (retiring t buffer .refusal ≡ 13) ↔ (Whole t buffer × (countOf t ≡ 0))
+  pub twentyNine : (retiring t buffer .refusal ≡ 29) ↔ (Held t buffer 0 × (Retirable t → ⊥))
+  pub none : (retiring t buffer .refusal ≡ 0) ↔ (Held t buffer 0 × Retirable t)
+
+-- ---- what is left
+
+-- the parts of the places 1 to k - 1 stand one place lower, and the buffer from place k - 1 on stays
+pub record Moved (buffer buffer′ : List ℕ) (k : ℕ) : Type 0 where
+  pub size : length buffer′ ≡ length buffer
+  pub lower : (i : ℕ) → i < k - 1 → partOf buffer′ i ≡ partOf buffer (suc i)
+  pub rest : drop (partStart (k - 1)) buffer′ ≡ drop (partStart (k - 1)) buffer
+
+pub record Promises : Type 0 where
+  pub causes : (t : Bytes) (buffer : List ℕ) → Causes t buffer
+  -- a refusal changes nothing
+  pub refused : (t : Bytes) (buffer : List ℕ) → retiring t buffer .refusal ≢ 0 → (retiredTable t buffer ≡ t) × (retiredRecords t buffer ≡ buffer)
+  -- the table shows all places but the first, and the parts go with their places
+  pub shown : (t : Bytes) (buffer : List ℕ) → retiring t buffer .refusal ≡ 0 → Shows (setupOf t) (withoutFirst (viewOf t)) (retiredTable t buffer)
+  pub parts : (t : Bytes) (buffer : List ℕ) → retiring t buffer .refusal ≡ 0 → Moved buffer (retiredRecords t buffer) (countOf t)
+  -- form is kept, and the buffer's length
+  pub kept : (t : Bytes) (buffer : List ℕ) → inForm t ≡ true → inForm (retiredTable t buffer) ≡ true
+  pub sized : (t : Bytes) (buffer : List ℕ) → length (retiredRecords t buffer) ≡ length buffer
+  -- a campaign can go on: where every place is interpreted, and the site of place 0 has a later block, it is retired
+  pub goesOn : (t : Bytes) (buffer : List ℕ) → Whole t buffer → ((i : ℕ) → i < countOf t → markAt t i ≡ 1)
+      → (i : ℕ) → i < countOf t → siteAt t i ≡ siteAt t 0 → sequenceAt t 0 < sequenceAt t i → retiring t buffer .refusal ≡ 0
