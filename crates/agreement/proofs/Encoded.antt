@@ -13,28 +13,50 @@ use Rattle.base.specs.Bytes.{Bytes}
 use Rattle.base.specs.Word.{wordAt}
 use Rattle.base.proofs.Tests.{by-test, and-left, and-right}
 use Rattle.agreement.specs.Ledger.{Call}
-use Rattle.agreement.specs.Encoding.{admissionByte, interpretationByte, admissionHeader, interpretationSize, admissionFirst, interpretationFirst, firstSize, firstCall, firstCalls, callsIn}
+use Rattle.agreement.specs.Encoding.{admissionByte, interpretationByte, retiringByte, admissionHeader, interpretationSize, retiringSize, admissionFirst, interpretationFirst, retiringFirst, firstSize, firstCall, firstCalls, callsIn}
 use Rattle.agreement.specs.Steps.{Whole}
+
+and-none : (t : Bool) → (t && false) ≡ false
+and-none true = refl
+and-none false = refl
 
 module _ (b : Bytes) where
   -- ---- the ways out of the code that reads it
 
-  pub way-short : length b < interpretationSize → 0 ≡ firstSize b
+  pub way-empty : length b < retiringSize → 0 ≡ firstSize b
   unfolding firstSize
-  way-short h =
-      rw (lt-leb admissionHeader (length b) (omega arith), lt-leb interpretationSize (length b) h, and-none (eqb (getD b 0 0) admissionByte), and-none (eqb (getD b 0 0) interpretationByte))
-    where
-      and-none : (t : Bool) → (t && false) ≡ false
-      and-none true = refl
-      and-none false = refl
+  way-empty h =
+      rw (
+        lt-leb admissionHeader (length b) (omega arith),
+        lt-leb interpretationSize (length b) (omega arith),
+        lt-leb retiringSize (length b) h,
+        and-none (eqb (getD b 0 0) admissionByte),
+        and-none (eqb (getD b 0 0) interpretationByte),
+        and-none (eqb (getD b 0 0) retiringByte),
+      )
+
+  pub way-retiring : retiringSize ≤ length b → getD b 0 0 ≡ retiringByte → retiringSize ≡ firstSize b
+  unfolding firstSize
+  way-retiring h e = rw (e, le-leb retiringSize (length b) h)
+
+  pub way-short : getD b 0 0 ≢ retiringByte → length b < interpretationSize → 0 ≡ firstSize b
+  unfolding firstSize
+  way-short n h =
+      rw (
+        lt-leb admissionHeader (length b) (omega arith),
+        lt-leb interpretationSize (length b) h,
+        ne-eqb (getD b 0 0) retiringByte n,
+        and-none (eqb (getD b 0 0) admissionByte),
+        and-none (eqb (getD b 0 0) interpretationByte),
+      )
 
   pub way-interpretation : interpretationSize ≤ length b → getD b 0 0 ≡ interpretationByte → interpretationSize ≡ firstSize b
   unfolding firstSize
   way-interpretation h e = rw (e, le-leb interpretationSize (length b) h)
 
-  pub way-other : getD b 0 0 ≢ interpretationByte → getD b 0 0 ≢ admissionByte → 0 ≡ firstSize b
+  pub way-other : getD b 0 0 ≢ retiringByte → getD b 0 0 ≢ interpretationByte → getD b 0 0 ≢ admissionByte → 0 ≡ firstSize b
   unfolding firstSize
-  way-other n m = rw (ne-eqb (getD b 0 0) admissionByte m, ne-eqb (getD b 0 0) interpretationByte n)
+  way-other o n m = rw (ne-eqb (getD b 0 0) admissionByte m, ne-eqb (getD b 0 0) interpretationByte n, ne-eqb (getD b 0 0) retiringByte o)
 
   module _ (e : getD b 0 0 ≡ admissionByte) where
     pub way-cut : length b < admissionHeader → 0 ≡ firstSize b
@@ -57,28 +79,28 @@ module _ (b : Bytes) where
   unfolding firstSize
   size-within = by-test (admissionFirst b)
       (λ y. rw y (leb-true (admissionHeader + wordAt b 2) (length b) (search (and-right, y))))
-      (λ n. by-test (interpretationFirst b) (λ y. rw (n, y) (leb-true interpretationSize (length b) (search (and-right, y)))) (λ m. rw (n, m) (omega arith)))
+      (λ n. by-test (interpretationFirst b) (λ y. rw (n, y) (leb-true interpretationSize (length b) (search (and-right, y))))
+      (λ m. by-test (retiringFirst b) (λ y. rw (n, m, y) (leb-true retiringSize (length b) (search (and-right, y)))) (λ o. rw (n, m, o) (omega arith))))
 
-  none-first : admissionFirst b ≡ false → interpretationFirst b ≡ false → firstSize b ≡ 0
+  none-first : admissionFirst b ≡ false → interpretationFirst b ≡ false → retiringFirst b ≡ false → firstSize b ≡ 0
   unfolding firstSize
-  none-first n m = rw (n, m)
+  none-first n m o = rw (n, m, o)
 
   pub first-whole : firstSize b ≢ 0 → Whole b
   first-whole some = by-test (admissionFirst b)
       (λ y.
       let header : admissionHeader ≤ length b = leb-true admissionHeader (length b) (search (and-left, and-right, y)) in
-      record { word = omega arith; block = λ _. leb-true (admissionHeader + wordAt b 2) (length b) (search (and-right, y)) })
+      record { some = omega arith; word = λ _. omega arith; block = λ _. leb-true (admissionHeader + wordAt b 2) (length b) (search (and-right, y)) })
       (λ n. by-test (interpretationFirst b)
       (λ y.
       let first : getD b 0 0 ≡ interpretationByte = eqb-true (getD b 0 0) interpretationByte (search (and-left, y)) in
-      record { word = leb-true interpretationSize (length b) (search (and-right, y)); block = λ e. absurd (omega arith) })
-      (λ m. absurd (some (none-first n m))))
-
-  pub size-least : firstSize b ≢ 0 → interpretationSize ≤ firstSize b
-  unfolding firstSize
-  size-least some = by-test (admissionFirst b)
-      (λ y. rw y (omega arith))
-      (λ n. by-test (interpretationFirst b) (λ y. rw (n, y) (omega arith)) (λ m. absurd (some (none-first n m))))
+      let word : interpretationSize ≤ length b = leb-true interpretationSize (length b) (search (and-right, y)) in
+      record { some = omega arith; word = λ _. word; block = λ e. absurd (omega arith) })
+      (λ m. by-test (retiringFirst b)
+      (λ y.
+      let first : getD b 0 0 ≡ retiringByte = eqb-true (getD b 0 0) retiringByte (search (and-left, y)) in
+      record { some = leb-true retiringSize (length b) (search (and-right, y)); word = λ e. absurd (omega arith); block = λ e. absurd (omega arith) })
+      (λ o. absurd (some (none-first n m o)))))
 
 -- ---- the list is the call at the front and the calls behind it
 

@@ -13,9 +13,10 @@ use Rattle.block.specs.declared.Answer.{Answer}
 use Rattle.sha256.specs.Sha256.{sha256}
 use Rattle.admission.specs.Admission.{admission, admitted}
 use Rattle.interpret.specs.Interpretation.{interpretation, marked, recorded}
-use Rattle.agreement.specs.Ledger.{Call, admit, interpret}
+use Rattle.retire.specs.Retiring.{retiring, retiredTable, retiredRecords}
+use Rattle.agreement.specs.Ledger.{Call, admit, interpret, retire}
 use Rattle.agreement.specs.Run.{Site, siteAnswer, siteStep}
-use Rattle.agreement.specs.Encoding.{admissionByte, admissionHeader, firstCall}
+use Rattle.agreement.specs.Encoding.{admissionByte, interpretationByte, admissionHeader, firstCall}
 
 module _ (t : Bytes) (records : List ℕ) (b : Bytes) where
   abbrev site : Site
@@ -42,9 +43,14 @@ module _ (t : Bytes) (records : List ℕ) (b : Bytes) where
       ran (admit (take (wordAt b 2) (drop admissionHeader b)) (getD b 1 0)) (rw (eq-eqb (getD b 0 0) admissionByte e)) r t′ records
       (p ∙ ap (λ (x : Bytes). admission sha256 t x (getD b 1 0)) its) (q ∙ ap (λ (x : Bytes). admitted sha256 t x (getD b 1 0)) its) refl
 
-  pub ran-interpretation : getD b 0 0 ≢ admissionByte → (n : ℕ) → n ≡ wordAt b 1 → (r : Answer) (t′ : Bytes) (records′ : List ℕ)
+  pub ran-interpretation : getD b 0 0 ≡ interpretationByte → (n : ℕ) → n ≡ wordAt b 1 → (r : Answer) (t′ : Bytes) (records′ : List ℕ)
       → r ≡ interpretation t records n → t′ ≡ marked t records n → records′ ≡ recorded t records n → Ran r t′ records′
   unfolding siteAnswer siteStep firstCall
   ran-interpretation e n w r t′ records′ p q s =
-      ran (interpret (wordAt b 1)) (rw (ne-eqb (getD b 0 0) admissionByte e)) r t′ records′
+      ran (interpret (wordAt b 1)) (rw e) r t′ records′
       (p ∙ ap (interpretation t records) w) (q ∙ ap (marked t records) w) (s ∙ ap (recorded t records) w)
+
+  pub ran-retiring : getD b 0 0 ≢ admissionByte → getD b 0 0 ≢ interpretationByte → (r : Answer) (t′ : Bytes) (records′ : List ℕ)
+      → r ≡ retiring t records → t′ ≡ retiredTable t records → records′ ≡ retiredRecords t records → Ran r t′ records′
+  unfolding siteAnswer siteStep firstCall
+  ran-retiring n m = ran retire (rw (ne-eqb (getD b 0 0) admissionByte n, ne-eqb (getD b 0 0) interpretationByte m))

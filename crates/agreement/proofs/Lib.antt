@@ -14,6 +14,7 @@ pub mod NewHistory
 pub mod PlaceHistories
 pub mod AdmissionStep
 pub mod InterpretationStep
+pub mod RetiringStep
 pub mod Runs
 pub mod Growth
 pub mod Standing

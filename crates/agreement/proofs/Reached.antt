@@ -1,6 +1,6 @@
--- What every site that calls reached has: its table's rows stand as their bytes and show the blocks of its ledger, all of which the reader
+-- What every site has that calls reached and that has retired nothing: its table's rows stand as their bytes and show the blocks of its ledger, all of which the reader
 -- accepts; and the part of each marked place is what interpreting it now would write. Assumes nothing.
-use mathlib.Core.Path.{_≡_, refl, sym, ap, _∙_}
+use mathlib.Core.Path.{_≡_, refl, sym, ap, _∙_, subst}
 use mathlib.Core.Bool.{true}
 use mathlib.Core.Logic.{_≢_, inl, inr}
 use mathlib.Core.List.{List, [], _∷_, List·Memᴰ}
@@ -21,28 +21,29 @@ use Rattle.block.proofs.Accepted.{reading-accepted}
 use Rattle.block.specs.declared.Answer.{Answer}
 use Rattle.setup.specs.Setup.{Setup, lawful}
 use Rattle.table.specs.View.{maxPlaces}
-use Rattle.table.specs.Layout.{setupOf, countOf, digestAt, siteAt, sequenceAt, requestAt, markAt, rowAt, viewOf, withMark}
+use Rattle.table.specs.Layout.{setupOf, retiredOf, countOf, digestAt, siteAt, sequenceAt, requestAt, markAt, rowAt, viewOf, withMark}
 use Rattle.table.specs.Form.{inForm}
 use Rattle.table.specs.Promises.{Grown, Marked}
 use Rattle.table.proofs.Views.{RowForm}
-use Rattle.table.proofs.Formed.{formed-of, formed-row}
+use Rattle.table.proofs.Formed.{formed-of, formed-row, formed-parent}
 use Rattle.table.proofs.Canonical.{Canonical, row-canonical, mark-canonical}
 use Rattle.admission.specs.Admission.{lists, rowFor, admission, admitted}
 use Rattle.admission.proofs.Promises.{promises}
 use Rattle.admission.proofs.Listed.{lists-member, member-lists}
 use Rattle.interpret.specs.Buffer.{partStart, partSize, partOf}
-use Rattle.interpret.specs.Interpretation.{written, interpretation, marked, recorded}
+use Rattle.interpret.specs.Interpretation.{written, interpretation}
 use Rattle.interpret.proofs.Causes.{causes}
 use Rattle.interpret.proofs.Parts.{part-written, part-other}
 use Rattle.interpret.proofs.Directs.{written-kept}
-use Rattle.interpret.proofs.Kept.{here, low, whole, is-marked, written-length}
-use Rattle.agreement.specs.Ledger.{Call, admit, interpret, Ledger, empty, taken, ledgerAnswer, ledgerStep, ledgerAfter}
+use Rattle.interpret.proofs.Kept.{here, low, whole, is-marked, written-length, marked-passed, recorded-passed}
+use Rattle.agreement.specs.Ledger.{Call, admit, interpret, retire, Ledger, empty, taken, retiredMark, ledgerStep, ledgerAfter}
 use Rattle.agreement.specs.Run.{Site, started, siteAnswer, siteStep, siteAfter}
 use Rattle.agreement.specs.Promises.{ledgerOf, siteWith}
-use Rattle.agreement.proofs.Tied.{Tied, answers-same}
+use Rattle.agreement.proofs.Tied.{Tied}
 use Rattle.agreement.proofs.Standing.{Standing, standing, one-history-each, unretired-clear}
 use Rattle.agreement.proofs.Ancestry.{refers-back, referred-held}
-use Rattle.agreement.proofs.Runs.{Together, step-together}
+use Rattle.agreement.proofs.Runs.{Together, passed, refused, site-stays, step-together}
+use Rattle.agreement.proofs.Growth.{some-retired, after-unretired}
 use Rattle.agreement.proofs.Theorem.{run}
 
 -- the part of a marked place is what interpreting it now would write
@@ -52,7 +53,7 @@ Fixed s t b = (i : ℕ) → i < countOf t → markAt t i ≡ 1 → partOf b i �
 module _ (digest : Bytes → Bytes) (sized : (b : Bytes) → length (digest b) ≡ referenceSize) (s : Setup) where
   -- ---- the parts of marked places
 
-  module _ (x : Site) (f : inForm (x .table) ≡ true) (set : setupOf (x .table) ≡ s) (c : Canonical (x .table)) (k : Fixed s (x .table) (x .records)) where
+  module _ (x : Site) (f : inForm (x .table) ≡ true) (unretired : retiredOf (x .table) ≡ 0) (set : setupOf (x .table) ≡ s) (c : Canonical (x .table)) (k : Fixed s (x .table) (x .records)) where
     abbrev t : Bytes
     t = x .table
 
@@ -69,8 +70,7 @@ module _ (digest : Bytes → Bytes) (sized : (b : Bytes) → length (digest b) �
     admits-fixed b verdict e i h m = elim (eq-or-lt-of-le le) [
       | inl q ↦ absurd (omega (arith, g .here .mark, ap (λ (n : ℕ). markAt t′ n) q))
       | inr l ↦ let old = k i l (g .below i l .mark ∙ m) in
-          let r = formed-row t f i l in
-          old ∙ written-kept s t t′ (x .records) (x .records) i (omega (arith, few)) (r .parent) (g .below i l .site) (g .below i l .sequence) (g .below i l .request)
+          old ∙ written-kept s t t′ (x .records) (x .records) i (omega (arith, few)) (formed-parent t f unretired i l) (g .below i l .site) (g .below i l .sequence) (g .below i l .request)
           (λ j a. g .below i l .refersTo j (omega (arith, few)))
           (λ j a y. let d = g .below j (omega arith) in (d .site, d .sequence, refl))
     ]
@@ -114,7 +114,7 @@ module _ (digest : Bytes → Bytes) (sized : (b : Bytes) → length (digest b) �
 
         -- what is written at j is the same before and after, where j refers to no changed part
         written-is : ((p : ℕ) → p < j → rowAt t j .refersTo p ≡ true → p ≢ i) → written s (viewOf t) (x .records) j ≡ written s (viewOf (withMark t i)) after j
-        written-is other = written-kept s t (withMark t i) (x .records) after j (omega (arith, below, few)) (r .parent) (sym (a .rows j .site)) (sym (a .rows j .sequence))
+        written-is other = written-kept s t (withMark t i) (x .records) after j (omega (arith, below, few)) (formed-parent t f unretired j below) (sym (a .rows j .site)) (sym (a .rows j .sequence))
             (λ slot l. sym (a .rows j .request slot l)) (λ p l. sym (a .rows j .refersTo p (omega (arith, below, few))))
             (λ p l y. (sym (a .rows p .site), sym (a .rows p .sequence), sym (part-other (x .records) new i new-length fits p (other p l y))))
 
@@ -133,82 +133,88 @@ module _ (digest : Bytes → Bytes) (sized : (b : Bytes) → length (digest b) �
             unmarked : markAt t i ≢ 1
             unmarked = causes t (x .records) i .none .0 e .0 .unmarked
 
-    -- ---- one call
-
-    call-canonical : (c : Call) → Canonical (siteStep digest x c .table)
-    unfolding siteStep admitted marked
-    call-canonical (admit b verdict) = by-test (eqb (admission digest t b verdict .refusal) 0)
-        (λ y. admits-canonical b verdict (eqb-true _ 0 y))
-        (λ n. rw n c)
-    call-canonical (interpret i) = by-test (eqb (interpretation t (x .records) i .refusal) 0)
-        (λ y. rw y (interprets-canonical i (eqb-true _ 0 y)))
-        (λ n. rw n c)
-
-    call-fixed : (c : Call) → Fixed s (siteStep digest x c .table) (siteStep digest x c .records)
-    unfolding siteStep admitted marked recorded
-    call-fixed (admit b verdict) = by-test (eqb (admission digest t b verdict .refusal) 0)
-        (λ y. admits-fixed b verdict (eqb-true _ 0 y))
-        (λ n. rw n k)
-    call-fixed (interpret i) = by-test (eqb (interpretation t (x .records) i .refusal) 0)
-        (λ y. rw y (interprets-fixed i (eqb-true _ 0 y)))
-        (λ n. rw n k)
-
   -- ---- what calls reach
-
-  abbrev Accepted : Ledger → Type 0
-  Accepted l = (p : ℕ) → p < l .held → reading (l .block p) ≡ Block (fieldsOf (l .block p))
 
   pub record Reached (size : ℕ) (l : Ledger) (x : Site) : Type 0 where
     pub together : Together digest sized s size l x
+    pub unretired : l .retired ≡ []
     pub canonical : Canonical (x .table)
     pub fixed : Fixed s (x .table) (x .records)
     pub accepted : (p : ℕ) → p < l .held → reading (l .block p) ≡ Block (fieldsOf (l .block p))
 
-  module _ (size : ℕ) where
-    call-accepted : (l : Ledger) (x : Site) → Reached size l x → (c : Call) → Accepted (ledgerStep digest s size l c)
-    unfolding ledgerStep taken siteAnswer
-    call-accepted l x r (admit b verdict) = by-test (eqb (ledgerAnswer digest s size l (admit b verdict) .refusal) 0)
-        (λ y. rw y (λ p h. by-test (eqb p (l .held))
-        (λ z. rw z (taken-read (eqb-true _ 0 y)))
-        (λ z. rw z (r .accepted p (omega (arith, eqb-false p (l .held) z))))))
-        (λ n. rw n (r .accepted))
+  module _ (size : ℕ) (l : Ledger) (x : Site) (r : Reached size l x) where
+    abbrev tied : Tied digest s size l x
+    tied = r .together .tied
+
+    none : retiredOf (x .table) ≡ 0
+    none = tied .retired ∙ ap retiredMark (r .unretired)
+
+    -- a call that passes and retires nothing
+
+    pass-canonical : (c : Call) → siteAnswer digest x c .refusal ≡ 0 → taken l c .retired ≡ [] → Canonical (siteStep digest x c .table)
+    unfolding siteAnswer siteStep taken
+    pass-canonical (admit b verdict) e o = admits-canonical x (tied .formed) none (tied .setup) (r .canonical) (r .fixed) b verdict e
+    pass-canonical (interpret i) e o = rw (marked-passed (x .table) (x .records) i e) (interprets-canonical x (tied .formed) none (tied .setup) (r .canonical) (r .fixed) i e)
+    pass-canonical retire e o = absurd (some-retired (l .block 0) (l .retired) o)
+
+    pass-fixed : (c : Call) → siteAnswer digest x c .refusal ≡ 0 → taken l c .retired ≡ [] → Fixed s (siteStep digest x c .table) (siteStep digest x c .records)
+    unfolding siteAnswer siteStep taken
+    pass-fixed (admit b verdict) e o = admits-fixed x (tied .formed) none (tied .setup) (r .canonical) (r .fixed) b verdict e
+    pass-fixed (interpret i) e o =
+        rw (marked-passed (x .table) (x .records) i e, recorded-passed (x .table) (x .records) i e)
+        (interprets-fixed x (tied .formed) none (tied .setup) (r .canonical) (r .fixed) i e)
+    pass-fixed retire e o = absurd (some-retired (l .block 0) (l .retired) o)
+
+    pass-accepted : (c : Call) → siteAnswer digest x c .refusal ≡ 0 → taken l c .retired ≡ []
+        → (p : ℕ) → p < taken l c .held → reading (taken l c .block p) ≡ Block (fieldsOf (taken l c .block p))
+    unfolding siteAnswer taken
+    pass-accepted (admit b verdict) e o p h = by-test (eqb p (l .held))
+        (λ y. rw y (promises digest sized .causes (x .table) b verdict .none .0 e .0 .linked .isNew .readable .accepted))
+        (λ n. rw n (r .accepted p (omega (arith, eqb-false p (l .held) n))))
+    pass-accepted (interpret i) e o p h = r .accepted p h
+    pass-accepted retire e o p h = absurd (some-retired (l .block 0) (l .retired) o)
+
+    call-reached : (c : Call) → ledgerStep digest s size l c .retired ≡ [] → Reached size (ledgerStep digest s size l c) (siteStep digest x c)
+    call-reached c o = by-test (eqb (siteAnswer digest x c .refusal) 0) (λ y. pass (eqb-true _ 0 y)) (λ n. stay (eqb-false _ 0 n))
       where
-        taken-read : ledgerAnswer digest s size l (admit b verdict) .refusal ≡ 0 → reading b ≡ Block (fieldsOf b)
-        taken-read e =
-            let z : admission digest (x .table) b verdict .refusal ≡ 0 = ap (λ (a : Answer). a .refusal) (answers-same digest s size l x (r .together .tied) (admit b verdict)) ∙ e in
-            promises digest sized .causes (x .table) b verdict .none .0 z .0 .linked .isNew .readable .accepted
-    call-accepted l x r (interpret i) = by-test (eqb (ledgerAnswer digest s size l (interpret i) .refusal) 0)
-        (λ y. rw y (r .accepted))
-        (λ n. rw n (r .accepted))
+        pass : siteAnswer digest x c .refusal ≡ 0 → Reached size (ledgerStep digest s size l c) (siteStep digest x c)
+        pass e =
+            let q : ledgerStep digest s size l c ≡ taken l c = passed digest sized s size l x (r .together) c e in
+            let z : taken l c .retired ≡ [] = ap (λ (m : Ledger). m .retired) (sym q) ∙ o in
+            subst (λ (m : Ledger). Reached size m (siteStep digest x c)) (sym q) (record {
+              together = subst (λ (m : Ledger). Together digest sized s size m (siteStep digest x c)) q (step-together digest sized s size l x (r .together) c);
+              unretired = z;
+              canonical = pass-canonical c e z;
+              fixed = pass-fixed c e z;
+              accepted = pass-accepted c e z;
+            })
 
-    call-reached : (l : Ledger) (x : Site) → Reached size l x → (c : Call) → Reached size (ledgerStep digest s size l c) (siteStep digest x c)
-    call-reached l x r c =
-        let t = r .together .tied in
-        record {
-          together = step-together digest sized s size l x (r .together) c;
-          canonical = call-canonical x (t .formed) (t .setup) (r .canonical) (r .fixed) c;
-          fixed = call-fixed x (t .formed) (t .setup) (r .canonical) (r .fixed) c;
-          accepted = call-accepted l x r c;
-        }
+        stay : siteAnswer digest x c .refusal ≢ 0 → Reached size (ledgerStep digest s size l c) (siteStep digest x c)
+        stay n = rw (refused digest sized s size l x (r .together) c n, site-stays digest sized s size l x (r .together) c n) r
 
-    calls-reached : (l : Ledger) (x : Site) → Reached size l x → (cs : List Call) → Reached size (ledgerAfter digest s size l cs) (siteAfter digest x cs)
-    unfolding ledgerAfter siteAfter
-    calls-reached l x r [] = r
-    calls-reached l x r (c ∷ cs) = calls-reached (ledgerStep digest s size l c) (siteStep digest x c) (call-reached l x r c) cs
+  calls-reached : (size : ℕ) (l : Ledger) (x : Site) → Reached size l x → (cs : List Call) → ledgerAfter digest s size l cs .retired ≡ []
+      → Reached size (ledgerAfter digest s size l cs) (siteAfter digest x cs)
+  unfolding ledgerAfter siteAfter
+  calls-reached size l x r [] o = r
+  calls-reached size l x r (c ∷ cs) o =
+      calls-reached size (ledgerStep digest s size l c) (siteStep digest x c)
+      (call-reached size l x r c (after-unretired digest s size (ledgerStep digest s size l c) cs o)) cs o
 
-  pub started-reached : lawful s ≡ true → (buffer : List ℕ) → Reached (length buffer) empty (started s buffer)
+  started-reached : lawful s ≡ true → (buffer : List ℕ) → Reached (length buffer) empty (started s buffer)
   unfolding ledgerAfter siteAfter
   started-reached law buffer =
       let t : Together digest sized s (length buffer) empty (started s buffer) = run digest sized s law buffer [] in
       record {
         together = t;
+        unretired = refl;
         canonical = λ i h. absurd (omega (arith, t .tied .count));
         fixed = λ i h. absurd (omega (arith, t .tied .count));
         accepted = λ p h. absurd (omega arith);
       }
 
-  pub reached : lawful s ≡ true → (buffer : List ℕ) (calls : List Call) → Reached (length buffer) (ledgerOf digest s buffer calls) (siteWith digest s buffer calls)
-  reached law buffer calls = calls-reached (length buffer) empty (started s buffer) (started-reached law buffer) calls
+  pub reached : lawful s ≡ true → (buffer : List ℕ) (calls : List Call) → ledgerOf digest s buffer calls .retired ≡ []
+      → Reached (length buffer) (ledgerOf digest s buffer calls) (siteWith digest s buffer calls)
+  reached law buffer calls o = calls-reached (length buffer) empty (started s buffer) (started-reached law buffer) calls o
 
 -- ---- the blocks of a table
 
@@ -223,26 +229,26 @@ pub record Rows (digest : Bytes → Bytes) (t : Bytes) (block : ℕ → Bytes) :
   pub accepted : (p : ℕ) → p < countOf t → reading (block p) ≡ Block (fieldsOf (block p))
 
 module _ (digest : Bytes → Bytes) (sized : (b : Bytes) → length (digest b) ≡ referenceSize) (s : Setup) (size : ℕ) (l : Ledger) (x : Site)
-    (r : Reached digest sized s size l x) (none : l .retired ≡ []) where
-  abbrev tied : Tied digest s size l x
-  tied = r .together .tied
+    (r : Reached digest sized s size l x) where
+  abbrev ties : Tied digest s size l x
+  ties = r .together .tied
 
   stand : Standing digest l (x .table)
   stand = standing digest sized s size l x (r .together)
 
   linked-at : (p : ℕ) → p < countOf (x .table) → (d : Bytes) → List·Memᴰ d (referencesOf (l .block p)) → (q : ℕ) × (q < countOf (x .table)) × (digestAt (x .table) q ≡ d)
   linked-at p h d m =
-      let one = one-history-each digest sized s size l x (r .together) (unretired-clear digest sized s size l x (r .together) none) in
+      let one = one-history-each digest sized s size l x (r .together) (unretired-clear digest sized s size l x (r .together) (r .unretired)) in
       let c = referred-held digest (l .blocks) (refers-back digest (l .blocks) one) (l .block p) (stand .among p (stand .held p h)) d m in
-      let q = stand .allPlaced none (c .0) (c .1) in
-      (q .0, stand .counted (q .0) (q .1), tied .rows (q .0) (stand .counted (q .0) (q .1)) .digest ∙ ap digest (sym (q .2)) ∙ c .2)
+      let q = stand .allPlaced (r .unretired) (c .0) (c .1) in
+      (q .0, stand .counted (q .0) (q .1), ties .rows (q .0) (stand .counted (q .0) (q .1)) .digest ∙ ap digest (sym (q .2)) ∙ c .2)
 
   -- what a place refers to is what its block lists
   refers-is : (p q : ℕ) → p < countOf (x .table) → q < countOf (x .table) → rowAt (x .table) p .refersTo q ≡ lists (l .block p) (digestAt (x .table) q)
   refers-is p q h k =
       same-tests _ _
-      (λ y. ap (lists (l .block p)) (tied .rows q k .digest) ∙ member-lists (l .block p) shape _ (stand .lists p q (stand .held p h) (stand .held q k) y))
-      (λ y. stand .refers none p q (stand .held p h) (stand .held q k) (lists-member (l .block p) shape _ (ap (lists (l .block p)) (sym (tied .rows q k .digest)) ∙ y)))
+      (λ y. ap (lists (l .block p)) (ties .rows q k .digest) ∙ member-lists (l .block p) shape _ (stand .lists p q (stand .held p h) (stand .held q k) y))
+      (λ y. stand .refers (r .unretired) p q (stand .held p h) (stand .held q k) (lists-member (l .block p) shape _ (ap (lists (l .block p)) (sym (ties .rows q k .digest)) ∙ y)))
     where
       shape : Shaped (l .block p)
       shape = reading-accepted (l .block p) (fieldsOf (l .block p)) (r .accepted p (stand .held p h)) .accepted .shape
@@ -250,10 +256,10 @@ module _ (digest : Bytes → Bytes) (sized : (b : Bytes) → length (digest b) �
   pub reached-rows : Rows digest (x .table) (l .block)
   reached-rows =
       record {
-        digests = λ p h. tied .rows p h .digest;
-        sites = λ p h. tied .rows p h .site;
-        sequences = λ p h. tied .rows p h .sequence;
-        requests = λ p h. tied .rows p h .request;
+        digests = λ p h. ties .rows p h .digest;
+        sites = λ p h. ties .rows p h .site;
+        sequences = λ p h. ties .rows p h .sequence;
+        requests = λ p h. ties .rows p h .request;
         refers = refers-is;
         linked = linked-at;
         accepted = λ p h. r .accepted p (stand .held p h);

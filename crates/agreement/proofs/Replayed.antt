@@ -2,7 +2,7 @@
 use mathlib.Core.Path.{_≡_, refl, sym, ap, _∙_}
 use mathlib.Core.Logic.{_≢_}
 use mathlib.Core.List.{List, [], _∷_}
-use Prim.Native.Nat.{ℕ, suc, _+_, _*_, _≤_}
+use Prim.Native.Nat.{ℕ, suc, _+_, _≤_}
 use native.Mathlib.Numerals.{add-one}
 use native.Mathlib.Omega.{arith}
 use lib.ListN.{length, drop, length-drop}
@@ -13,13 +13,13 @@ use Rattle.block.specs.declared.Answer.{Answer}
 use Rattle.sha256.specs.Sha256.{sha256}
 use Rattle.agreement.specs.Ledger.{Call}
 use Rattle.agreement.specs.Run.{Site, siteAnswer, siteStep, siteAfter, siteAnswers}
-use Rattle.agreement.specs.Encoding.{interpretationSize, firstSize, firstCall, callsIn}
-use Rattle.agreement.proofs.Encoded.{size-within, size-least, calls-none, calls-more}
+use Rattle.agreement.specs.Encoding.{firstSize, firstCall, callsIn}
+use Rattle.agreement.proofs.Encoded.{size-within, calls-none, calls-more}
 
 pub record Running (calls : Bytes) (x₀ : Site) (answers₀ : List ℕ) (x : Site) (answers : List ℕ) (count at size : ℕ) : Type 0 where
   pub within : at ≤ length calls
-  -- each call took so many bytes at least
-  pub counted : interpretationSize * count ≤ at
+  -- each call took a byte at least
+  pub counted : count ≤ at
   pub first : size ≡ firstSize (drop at calls)
   pub site : siteAfter sha256 x (callsIn (drop at calls)) ≡ siteAfter sha256 x₀ (callsIn calls)
   pub put : putAnswers answers count (siteAnswers sha256 x (callsIn (drop at calls))) ≡ putAnswers answers₀ 0 (siteAnswers sha256 x₀ (callsIn calls))
@@ -71,7 +71,7 @@ module _ (calls : Bytes) (x₀ : Site) (answers₀ : List ℕ) (x : Site) (answe
         let a′ : answer ≡ siteAnswer sha256 x (firstCall left) = a ∙ ap (λ (z : Bytes). siteAnswer sha256 x (firstCall z)) here in
         record {
           within = fits;
-          counted = omega (arith, r .counted, r .first, size-least left (λ z. some (r .first ∙ z)));
+          counted = omega (arith, r .counted, some);
           first = f ∙ ap firstSize there;
           site = ap (λ (y : Site). siteAfter sha256 y (callsIn (drop (at + size) calls))) x′ ∙ sym (ap (siteAfter sha256 x) more) ∙ r .site;
           put = rw (add-one count, p, a′, x′) (sym (ap (λ (cs : List Call). putAnswers answers count (siteAnswers sha256 x cs)) more) ∙ r .put);

@@ -21,12 +21,12 @@ use Rattle.block.specs.Steps.{Shaped}
 use Rattle.block.proofs.Accepted.{reading-accepted}
 use Rattle.setup.specs.Setup.{Setup, lawful}
 use Rattle.table.specs.View.{maxPlaces, Row, interpreted, View, SameRow}
-use Rattle.table.specs.Layout.{setupOf, countOf, digestAt, markAt, rowAt, viewOf, withMark}
+use Rattle.table.specs.Layout.{setupOf, retiredOf, countOf, digestAt, markAt, rowAt, viewOf, withMark}
 use Rattle.table.specs.Rules.{parents, parentRule}
 use Rattle.table.specs.Form.{inForm}
 use Rattle.table.specs.Promises.{Grown, Marked}
 use Rattle.table.proofs.Views.{row-sym, row-trans, rule-reads, RowForm}
-use Rattle.table.proofs.Formed.{formed-of, formed-row}
+use Rattle.table.proofs.Formed.{formed-of, formed-row, formed-parent}
 use Rattle.table.proofs.Canonical.{Canonical, tables-equal}
 use Rattle.admission.specs.Admission.{lists, rowFor, admission, admitted}
 use Rattle.admission.specs.Promises.{DigestHeld, ReferenceMissing, ParentRule, Parented}
@@ -39,11 +39,14 @@ use Rattle.interpret.proofs.Causes.{causes}
 use Rattle.interpret.proofs.Parts.{part-written, part-other}
 use Rattle.interpret.proofs.Directs.{written-kept}
 use Rattle.interpret.proofs.Kept.{is-marked, marked-passed, recorded-passed}
-use Rattle.agreement.specs.Ledger.{Call, admit, interpret, Ledger, empty, taken, ledgerAnswer, ledgerStep, ledgerAfter}
+use Rattle.agreement.specs.Ledger.{Call, admit, interpret, retire, Ledger, empty, taken, retiredMark, ledgerAnswer, ledgerStep, ledgerAfter}
 use Rattle.agreement.specs.Run.{Site, started, siteStep, siteAfter}
 use Rattle.agreement.specs.Promises.{ledgerOf, siteWith}
+use Rattle.agreement.proofs.Tied.{Tied}
 use Rattle.agreement.proofs.Runs.{after-append}
-use Rattle.agreement.proofs.Reached.{Fixed, Reached, reached, Rows}
+use Rattle.agreement.proofs.Growth.{isRetiring, after-plain}
+use Rattle.agreement.proofs.Theorem.{run}
+use Rattle.agreement.proofs.Reached.{Fixed, reached, Rows}
 
 -- a row with another mark
 abbrev withMarkOf : ℕ → Row → Row
@@ -51,7 +54,7 @@ withMarkOf m r = record { digest = r .digest; site = r .site; sequence = r .sequ
 
 -- what the parent rule reads has no mark
 abbrev unmarked : Bytes → View
-unmarked t = record { held = countOf t; row = λ p. withMarkOf 0 (rowAt t p) }
+unmarked t = record { retired = retiredOf t; held = countOf t; row = λ p. withMarkOf 0 (rowAt t p) }
 
 rule-unmarked : (t : Bytes) (k : ℕ) (r : Row) → parentRule (unmarked t) k r ≡ parentRule (viewOf t) k r
 unfolding parentRule parents
@@ -83,6 +86,9 @@ module _ (digest : Bytes → Bytes) (s : Setup) (size : ℕ) where
   step-blocks l (interpret i) b k = by-test (eqb (ledgerAnswer digest s size l (interpret i) .refusal) 0)
       (λ y. inl (rw y at k))
       (λ z. inl (rw z at k))
+  step-blocks l retire b k = by-test (eqb (ledgerAnswer digest s size l retire .refusal) 0)
+      (λ y. inl (rw y at k))
+      (λ z. inl (rw z at k))
 
   after-blocks : (l : Ledger) (cs : List Call) (b : Bytes) → List·Memᴰ b (ledgerAfter digest s size l cs .blocks)
       → List·Memᴰ b (l .blocks) ⊎ ((verdict : ℕ) × List·Memᴰ (admit b verdict) cs)
@@ -98,10 +104,12 @@ module _ (digest : Bytes → Bytes) (s : Setup) (size : ℕ) where
 abbrev isAdmission : Call → Bool
 isAdmission (admit b verdict) = true
 isAdmission (interpret i) = false
+isAdmission retire = false
 
 abbrev bytesOf : Call → Bytes
 bytesOf (admit b verdict) = b
 bytesOf (interpret i) = []
+bytesOf retire = []
 
 admitting-from : (block : ℕ → Bytes) (k : ℕ) (b : Bytes) (verdict : ℕ) → List·Memᴰ (admit b verdict) (admitting block k) → (i : ℕ) × (i < k) × (b ≡ block i)
 unfolding admitting
@@ -123,8 +131,30 @@ interpreting-none t (suc k) b verdict m = elim (List·Memᴰ·append-cases (inte
     last true o = true-not-false refl (ap isAdmission (List·Memᴰ·eq-of-singleton o))
     last false o = List·Memᴰ·not-nil o
 
+-- none of them is a retiring
+
+admitting-plain : (block : ℕ → Bytes) (k : ℕ) (c : Call) → List·Memᴰ c (admitting block k) → isRetiring c ≡ false
+unfolding admitting
+admitting-plain block zero c m = absurd (List·Memᴰ·not-nil m)
+admitting-plain block (suc k) c m = elim (List·Memᴰ·append-cases (admitting block k) m) [
+  | inl o ↦ admitting-plain block k c o
+  | inr o ↦ ap isRetiring (List·Memᴰ·eq-of-singleton o)
+]
+
+interpreting-plain : (t : Bytes) (k : ℕ) (c : Call) → List·Memᴰ c (interpreting t k) → isRetiring c ≡ false
+unfolding interpreting
+interpreting-plain t zero c m = absurd (List·Memᴰ·not-nil m)
+interpreting-plain t (suc k) c m = elim (List·Memᴰ·append-cases (interpreting t k) m) [
+  | inl o ↦ interpreting-plain t k c o
+  | inr o ↦ last (interpreted (rowAt t k)) o
+]
+  where
+    last : (z : Bool) → List·Memᴰ c (cond z (interpret k ∷ []) []) → isRetiring c ≡ false
+    last true o = ap isRetiring (List·Memᴰ·eq-of-singleton o)
+    last false o = absurd (List·Memᴰ·not-nil o)
+
 module _ (digest : Bytes → Bytes) (sized : (b : Bytes) → length (digest b) ≡ referenceSize) (s : Setup) (law : lawful s ≡ true)
-    (t : Bytes) (f : inForm t ≡ true) (set : setupOf t ≡ s) (block : ℕ → Bytes) (rows : Rows digest t block) (buffer : List ℕ) where
+    (t : Bytes) (f : inForm t ≡ true) (unretired : retiredOf t ≡ 0) (set : setupOf t ≡ s) (block : ℕ → Bytes) (rows : Rows digest t block) (buffer : List ℕ) where
   abbrev n : ℕ
   n = countOf t
 
@@ -174,7 +204,7 @@ module _ (digest : Bytes → Bytes) (sized : (b : Bytes) → length (digest b) �
     parent =
         ap (λ (m : ℕ). parentRule (viewOf u) m (rowFor digest (viewOf u) b)) (a .count)
         ∙ rule-reads (viewOf u) (unmarked t) k (rowFor digest (viewOf u) b) (rowAt t k) (a .same) (sym (rows .sites k here)) (sym (rows .sequences k here)) refers-is
-        ∙ rule-unmarked t k (rowAt t k) ∙ row .parent
+        ∙ rule-unmarked t k (rowAt t k) ∙ formed-parent t f unretired k here
 
     parented : Parented digest u b 1
     parented =
@@ -231,19 +261,19 @@ module _ (digest : Bytes → Bytes) (sized : (b : Bytes) → length (digest b) �
           records = a .records;
         }
 
-  kept : (calls : List Call) → Reached digest sized s (length buffer) (ledgerOf digest s buffer calls) (siteWith digest s buffer calls)
-  kept calls = reached digest sized s law buffer calls
+  ties : (calls : List Call) → Tied digest s (length buffer) (ledgerOf digest s buffer calls) (siteWith digest s buffer calls)
+  ties calls = run digest sized s law buffer calls .tied
 
   admitting-all : (k : ℕ) → k ≤ n → Admitting k (admittedTo k)
   unfolding admitting siteAfter ledgerAfter
   admitting-all zero h =
       record {
-        count = kept [] .together .tied .count;
+        count = ties [] .count;
         same = λ p l. absurd (omega arith);
         records = refl;
       }
   admitting-all (suc k) h =
-      let tied = kept (admitting block k) .together .tied in
+      let tied = ties (admitting block k) in
       subst (Admitting (suc k)) (sym (after-append digest (started s buffer) (admitting block k) (admit (block k) 1 ∷ [])))
       (admitted-next k h (admittedTo k) (tied .formed) (tied .setup) (admitting-all k (omega arith)))
 
@@ -283,6 +313,9 @@ module _ (digest : Bytes → Bytes) (sized : (b : Bytes) → length (digest b) �
 
     abbrev callsTo : ℕ → List Call
     callsTo k = admitting block n ++ interpreting t k
+
+    calls-plain : (k : ℕ) (c : Call) → List·Memᴰ c (callsTo k) → isRetiring c ≡ false
+    calls-plain k c m = elim (List·Memᴰ·append-cases (admitting block n) m) [ inl o ↦ admitting-plain block n c o | inr o ↦ interpreting-plain t k c o ]
 
     record Interpreting (k : ℕ) (x : Site) : Type 0 where
       count : countOf (x .table) ≡ n
@@ -326,7 +359,7 @@ module _ (digest : Bytes → Bytes) (sized : (b : Bytes) → length (digest b) �
         writes : written (setupOf w) (viewOf w) (x .records) k ≡ partOf records k
         writes =
             ap (λ (z : Setup). written z (viewOf w) (x .records) k) setup
-            ∙ sym (written-kept s t w records (x .records) k (omega (arith, few)) (rowT .parent) (sym (a .same k here .site)) (sym (a .same k here .sequence))
+            ∙ sym (written-kept s t w records (x .records) k (omega (arith, few)) (formed-parent t f unretired k here) (sym (a .same k here .site)) (sym (a .same k here .sequence))
             (λ slot h. sym (a .same k here .request slot h)) (λ j h. sym (a .same k here .refersTo j (omega (arith, few))))
             (λ j h y. let e = a .same j (omega arith) in
             (sym (e .site), sym (e .sequence), sym (ap (λ (b : List ℕ). partOf b j) (a .is) ∙ restored-part k (omega arith) j h (rowT .closed m j h y)))))
@@ -406,7 +439,7 @@ module _ (digest : Bytes → Bytes) (sized : (b : Bytes) → length (digest b) �
           is = a .records;
         })
     interpreting-all (suc k) h =
-        let tied = kept (callsTo k) .together .tied in
+        let tied = ties (callsTo k) in
         let a = interpreting-all k (omega arith) in
         by-test (interpreted (rowAt t k))
         (λ y. subst (Interpreting (suc k))
@@ -424,10 +457,11 @@ module _ (digest : Bytes → Bytes) (sized : (b : Bytes) → length (digest b) �
 
     table-is : interpretedTo n .table ≡ t
     table-is =
-        let r = kept (callsTo n) in
+        let r = reached digest sized s law buffer (callsTo n) (after-plain digest s (length buffer) empty (callsTo n) (calls-plain n)) in
         let tied = r .together .tied in
         let a = interpreting-all n (omega arith) in
-        tables-equal (interpretedTo n .table) t (tied .formed) f (r .canonical) all (tied .setup ∙ sym set) (a .count)
+        tables-equal (interpretedTo n .table) t (tied .formed) f (r .canonical) all (tied .setup ∙ sym set)
+        (tied .retired ∙ ap retiredMark (r .unretired) ∙ sym unretired) (a .count)
         (λ p h. let l : p < n = omega (arith, a .count) in
         subst (λ (m : ℕ). SameRow (rowAt (interpretedTo n .table) p) (withMarkOf m (rowAt t p))) (ap (λ (z : Bool). cond z (markAt t p) 0) (lt-ltb p n l)) (a .same p l))
 

@@ -27,14 +27,16 @@ use Rattle.interpret.specs.Buffer.{partSize, partStart, partOf}
 use Rattle.interpret.specs.Interpretation.{written, interpretationChecks, interpretation, marked, recorded}
 use Rattle.interpret.proofs.Parts.{numbers-length, part-written, part-other}
 use Rattle.interpret.proofs.Kept.{whole, low, marked-passed, recorded-passed}
+use Rattle.retire.specs.Retiring.{retiringChecks, retiring, retiredTable, retiredRecords}
 use Rattle.agreement.specs.History.{History, slotRecord, meaning}
 use Rattle.agreement.specs.Ancestry.{historyOf}
-use Rattle.agreement.specs.Ledger.{Call, admit, interpret, Ledger, taken, viewIn, ledgerAnswer, ledgerStep, ledgerAfter, ledgerAnswers}
+use Rattle.agreement.specs.Ledger.{Call, admit, interpret, retire, Ledger, taken, viewIn, ledgerAnswer, ledgerStep, ledgerAfter, ledgerAnswers}
 use Rattle.agreement.specs.Run.{Site, siteAnswer, siteStep, siteAfter, siteAnswers}
-use Rattle.agreement.proofs.Tied.{Tied, ledger-formed, answers-same, admitted-tied, interpreted-tied}
+use Rattle.agreement.proofs.Tied.{Tied, ledger-formed, answers-same, admitted-tied, interpreted-tied, retired-tied}
 use Rattle.agreement.proofs.PlaceHistories.{PlaceHistories}
 use Rattle.agreement.proofs.AdmissionStep.{admits}
 use Rattle.agreement.proofs.InterpretationStep.{records-sized, interprets}
+use Rattle.agreement.proofs.RetiringStep.{retires}
 
 -- a list of calls, then another
 pub after-append : (digest : Bytes → Bytes) (x : Site) (cs ds : List Call) → siteAfter digest x (cs ++ ds) ≡ siteAfter digest (siteAfter digest x cs) ds
@@ -67,6 +69,10 @@ admission-not-two digest s v b verdict value f y e =
 interpretation-not-two : (v : View) (size i : ℕ) (f : Bool) → f ≡ true → answerTo (interpretationChecks f v size i) 0 .refusal ≢ 2
 unfolding elsewhere
 interpretation-not-two v size i f y e = never-answered 2 _ 0 refl (past-check _ _ _ 2 (λ n. true-not-false y n) .0 e .1)
+
+retiring-not-two : (v : View) (size : ℕ) (f : Bool) → f ≡ true → answerTo (retiringChecks f v size) 0 .refusal ≢ 2
+unfolding elsewhere
+retiring-not-two v size f y e = never-answered 2 _ 0 refl (past-check _ _ _ 2 (λ n. true-not-false y n) .0 e .1)
 
 -- ---- one call
 
@@ -102,6 +108,11 @@ module _ (digest : Bytes → Bytes) (sized : (b : Bytes) → length (digest b) �
           known = interprets digest s size l x (t .tied) (t .known) i e _;
         })
 
+    retiring-together : retiring (x .table) (x .records) .refusal ≡ 0
+        → Together (taken l retire) (record { table = retiredTable (x .table) (x .records); records = retiredRecords (x .table) (x .records) })
+    retiring-together e =
+        record { tied = retired-tied digest s size l x (t .tied) e; known = retires digest s size l x (t .tied) (t .known) e _ }
+
     -- what the call does to the ledger, and what a refused call does to the site
     pub passed : (c : Call) → siteAnswer digest x c .refusal ≡ 0 → ledgerStep digest s size l c ≡ taken l c
     unfolding ledgerStep
@@ -111,20 +122,22 @@ module _ (digest : Bytes → Bytes) (sized : (b : Bytes) → length (digest b) �
     unfolding ledgerStep
     refused c n = rw (ne-eqb (ledgerAnswer digest s size l c .refusal) 0 (λ z. n (ap (λ (a : Answer). a .refusal) (same c) ∙ z)))
 
-    left : (c : Call) → siteAnswer digest x c .refusal ≢ 0 → siteStep digest x c ≡ x
-    unfolding siteAnswer siteStep admitted marked recorded
-    left (admit b verdict) n = rw (ne-eqb (admission digest (x .table) b verdict .refusal) 0 n)
-    left (interpret i) n = rw (ne-eqb (interpretation (x .table) (x .records) i .refusal) 0 n)
+    pub site-stays : (c : Call) → siteAnswer digest x c .refusal ≢ 0 → siteStep digest x c ≡ x
+    unfolding siteAnswer siteStep admitted marked recorded retiredTable retiredRecords
+    site-stays (admit b verdict) n = rw (ne-eqb (admission digest (x .table) b verdict .refusal) 0 n)
+    site-stays (interpret i) n = rw (ne-eqb (interpretation (x .table) (x .records) i .refusal) 0 n)
+    site-stays retire n = rw (ne-eqb (retiring (x .table) (x .records) .refusal) 0 n)
 
     pass : (c : Call) → siteAnswer digest x c .refusal ≡ 0 → Together (taken l c) (siteStep digest x c)
     unfolding siteAnswer siteStep
     pass (admit b verdict) e = admission-together b verdict e
     pass (interpret i) e = interpretation-together i e
+    pass retire e = retiring-together e
 
     pub step-together : (c : Call) → Together (ledgerStep digest s size l c) (siteStep digest x c)
     step-together c = by-test (eqb (siteAnswer digest x c .refusal) 0)
         (λ y. let e : siteAnswer digest x c .refusal ≡ 0 = eqb-true _ 0 y in rw (passed c e) (pass c e))
-        (λ n. let e : siteAnswer digest x c .refusal ≢ 0 = eqb-false _ 0 n in rw (refused c e, left c e) t)
+        (λ n. let e : siteAnswer digest x c .refusal ≢ 0 = eqb-false _ 0 n in rw (refused c e, site-stays c e) t)
 
     -- the table is in form, so 2 is no answer
     pub never-two : (c : Call) → siteAnswer digest x c .refusal ≢ 2
@@ -133,6 +146,8 @@ module _ (digest : Bytes → Bytes) (sized : (b : Bytes) → length (digest b) �
         admission-not-two digest s (viewIn digest l) b verdict (l .held) _ (ledger-formed digest s size l x (t .tied)) (ap (λ (a : Answer). a .refusal) (sym (same (admit b verdict))) ∙ e)
     never-two (interpret i) e =
         interpretation-not-two (viewIn digest l) size i _ (ledger-formed digest s size l x (t .tied)) (ap (λ (a : Answer). a .refusal) (sym (same (interpret i))) ∙ e)
+    never-two retire e =
+        retiring-not-two (viewIn digest l) size _ (ledger-formed digest s size l x (t .tied)) (ap (λ (a : Answer). a .refusal) (sym (same retire)) ∙ e)
 
   -- ---- a list of calls
 

@@ -1,4 +1,4 @@
--- The checks of the two calls read of a view only what is held: two views that agree there give one answer. Assumes nothing.
+-- The checks of the calls read of a view only what is held: two views that agree there give one answer. Assumes nothing.
 use mathlib.Core.Path.{_≡_, refl, ap, ap₂, _∙_}
 use mathlib.Core.Bool.{Bool, true, false, not, _&&_}
 use mathlib.Core.List.{List, [], _∷_}
@@ -20,6 +20,7 @@ use Rattle.table.proofs.Views.{place-same, rule-reads}
 use Rattle.admission.specs.Admission.{lists, missing, rowFor, admissionChecks}
 use Rattle.interpret.specs.Buffer.{bufferSize}
 use Rattle.interpret.specs.Interpretation.{interpretationChecks}
+use Rattle.retire.specs.Retiring.{waitsForFirst, followsFirst, retirable, retiringChecks}
 
 -- where a check fails, those after it are not made
 cut : (c : Check) (cs ds : List Check) (value : ℕ) → c .holds ≡ false → answerTo (c ∷ cs) value ≡ answerTo (c ∷ ds) value
@@ -84,3 +85,25 @@ module _ (v w : View) (n : v .held ≡ w .held) (e : SameBelow v w (v .held)) (f
         ∷ check 14 (not (interpreted (w .row i))) 0
         ∷ check 15 (not (anyBelow (refersUninterpreted w (w .row i)) i)) (firstBelow (refersUninterpreted w (w .row i)) i)
         ∷ []) 0)
+
+  -- ---- retiring
+
+  retirable-same : 0 < v .held → retirable v ≡ retirable w
+  unfolding retirable
+  retirable-same h =
+      ap₂ _&&_ (ap (λ (m : ℕ). eqb m 1) (e 0 h .mark))
+      (ap₂ _&&_ (ap not (any-same (waitsForFirst v) (waitsForFirst w) (v .held)
+      (λ i l. ap₂ (λ (x : Bool) (m : ℕ). x && not (eqb m 1)) (e i l .refersTo 0 (omega arith)) (e i l .mark)) ∙ ap (anyBelow (waitsForFirst w)) n))
+      (any-same (followsFirst v) (followsFirst w) (v .held) (λ i l. rw (e i l .site, e 0 h .site, e i l .mark, e 0 h .sequence, e i l .sequence))
+      ∙ ap (anyBelow (followsFirst w)) n))
+
+  pub retiring-same : (size : ℕ) → answerTo (retiringChecks f v size) 0 ≡ answerTo (retiringChecks g w size) 0
+  retiring-same size =
+      rest-same _ _ _ 0 (λ _. rest-same _ _ _ 0 (λ _. rest-same _ _ _ 0 (λ y.
+      ap (λ (b : Bool). answerTo (check 29 b 0 ∷ []) 0) (retirable-same (ltb-true 0 (v .held) y)))))
+      ∙ (λ k. answerTo (
+      check 2 (formed k) 0
+      ∷ check 12 (eqb size bufferSize) 0
+      ∷ check 13 (ltb 0 (n k)) 0
+      ∷ check 29 (retirable w) 0
+      ∷ []) 0)

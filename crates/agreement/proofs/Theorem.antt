@@ -59,6 +59,7 @@ module _ (digest : Bytes → Bytes) (sized : (b : Bytes) → length (digest b) �
         tied = record {
           formed = e .formed;
           setup = e .setup;
+          retired = e .retired;
           count = e .count;
           rows = λ i h. absurd (omega (arith, e .count));
           sized = refl;
@@ -119,6 +120,7 @@ module _ (digest : Bytes → Bytes) (sized : (b : Bytes) → length (digest b) �
     site-keeps =
         record {
           setup = t .tied .setup;
+          retired = t .tied .retired;
           count = t .tied .count;
           rows = λ i h. t .tied .rows i (omega (arith, t .tied .count));
           rest = ap (λ (k : ℕ). allZero (drop (rowStart k) (x .table))) (sym (t .tied .count)) ∙ formed-of (x .table) (t .tied .formed) .zeros;

@@ -16,25 +16,43 @@ use Rattle.base.proofs.Members.{newest, newest-same}
 use Rattle.block.specs.Layout.{siteOf, sequenceOf, requestFor}
 use Rattle.setup.specs.Setup.{Setup}
 use Rattle.table.specs.View.{maxPlaces, Row, View, SameRow, markedIf, SameBelow}
-use Rattle.table.specs.Layout.{setupOf, countOf, digestAt, rowAt, viewOf, withMark}
+use Rattle.table.specs.Layout.{setupOf, retiredOf, countOf, digestAt, rowAt, viewOf, withMark}
 use Rattle.table.specs.Rules.{heldInForm}
 use Rattle.table.specs.Form.{inForm}
 use Rattle.table.specs.Checks.{answerTo}
-use Rattle.table.specs.Promises.{Grown, Marked}
+use Rattle.table.specs.Promises.{Grown, Marked, Shows}
 use Rattle.table.proofs.Views.{row-trans, row-sym, held-same, held-in}
 use Rattle.table.proofs.Formed.{formed-of}
 use Rattle.admission.specs.Admission.{lists, rowFor, admissionChecks, admission}
 use Rattle.interpret.specs.Interpretation.{interpretationChecks, interpretation}
 use Rattle.interpret.proofs.Kept.{is-marked, still-formed}
-use Rattle.agreement.specs.Ledger.{Call, admit, interpret, Ledger, taken, viewIn, ledgerAnswer}
+use Rattle.retire.specs.Retiring.{movedRow, withoutFirst, retiringChecks, retiring, retiredTable, retiredRecords}
+use Rattle.retire.proofs.Promises.{promises as retiring-promises}
+use Rattle.agreement.specs.Ledger.{Call, admit, interpret, retire, Ledger, taken, retiredMark, viewIn, ledgerAnswer}
 use Rattle.agreement.specs.Run.{Site, siteAnswer}
-use Rattle.agreement.proofs.Same.{admission-same, interpretation-same}
+use Rattle.agreement.proofs.Same.{admission-same, interpretation-same, retiring-same}
+
+-- the first of the values stands last
+newest-first : {A : Type 0} (f : ℕ → A) (k : ℕ) (rest : List A) → newest f (suc k) ++ rest ≡ newest (λ i. f (suc i)) k ++ (f 0 ∷ rest)
+unfolding newest
+newest-first f zero rest = refl
+newest-first {A} f (suc k) rest = ap (λ (l : List A). f (suc k) ∷ l) (newest-first f k rest)
+
+pub newest-all : {A : Type 0} (f : ℕ → A) (k : ℕ) (rest : List A) → 0 < k → newest f k ++ rest ≡ newest (λ i. f (suc i)) (k - 1) ++ (f 0 ∷ rest)
+newest-all {A} f k rest h =
+    let n : k ≡ suc (k - 1) = omega arith in
+    ap (λ (m : ℕ). newest f m ++ rest) n ∙ newest-first f (k - 1) rest
+
+and-false : (t : Bool) → (t && false) ≡ false
+and-false true = refl
+and-false false = refl
 
 module _ (digest : Bytes → Bytes) where
-  -- the table shows what the ledger does; and the blocks that count are those at the places and the retired ones
+  -- the table shows what the ledger does; and the blocks ever admitted are those at the places and the retired ones
   pub record Tied (s : Setup) (size : ℕ) (l : Ledger) (x : Site) : Type 0 where
     pub formed : inForm (x .table) ≡ true
     pub setup : setupOf (x .table) ≡ s
+    pub retired : retiredOf (x .table) ≡ retiredMark (l .retired)
     pub count : countOf (x .table) ≡ l .held
     pub rows : SameBelow (viewOf (x .table)) (viewIn digest l) (countOf (x .table))
     pub sized : length (x .records) ≡ size
@@ -50,20 +68,23 @@ module _ (digest : Bytes → Bytes) where
     -- the ledger's places are in form too
     pub ledger-formed : heldInForm s (viewIn digest l) ≡ true
     ledger-formed =
-        sym (held-same s (viewOf table) (viewIn digest l) (t .count) (t .rows) few)
+        sym (held-same s (viewOf table) (viewIn digest l) (t .retired) (t .count) (t .rows) few)
         ∙ rw (← (t .setup)) (held-in (setupOf table) (viewOf table) (formed-of table (t .formed) .held))
 
     abbrev both : inForm table ≡ heldInForm s (viewIn digest l)
     both = t .formed ∙ sym ledger-formed
 
     pub answers-same : (c : Call) → siteAnswer digest x c ≡ ledgerAnswer digest s size l c
-    unfolding siteAnswer ledgerAnswer admission interpretation
+    unfolding siteAnswer ledgerAnswer admission interpretation retiring
     answers-same (admit b verdict) =
         admission-same (viewOf table) (viewIn digest l) (t .count) (t .rows) (inForm table) (heldInForm s (viewIn digest l)) both digest b (setupOf table) verdict
         ∙ ap (λ (z : Setup). answerTo (admissionChecks digest (heldInForm s (viewIn digest l)) z (viewIn digest l) b verdict) (l .held)) (t .setup)
     answers-same (interpret i) =
         interpretation-same (viewOf table) (viewIn digest l) (t .count) (t .rows) (inForm table) (heldInForm s (viewIn digest l)) both few (length (x .records)) i
         ∙ ap (λ (n : ℕ). answerTo (interpretationChecks (heldInForm s (viewIn digest l)) (viewIn digest l) n i) 0) (t .sized)
+    answers-same retire =
+        retiring-same (viewOf table) (viewIn digest l) (t .count) (t .rows) (inForm table) (heldInForm s (viewIn digest l)) both (length (x .records))
+        ∙ ap (λ (n : ℕ). answerTo (retiringChecks (heldInForm s (viewIn digest l)) (viewIn digest l) n) 0) (t .sized)
 
     -- ---- an admission that passes
 
@@ -149,6 +170,7 @@ module _ (digest : Bytes → Bytes) where
             record {
               formed = f;
               setup = g .setup ∙ t .setup;
+              retired = g .retired ∙ t .retired;
               count = g .count ∙ ap suc (t .count);
               rows = rows-after;
               sized = t .sized;
@@ -184,8 +206,66 @@ module _ (digest : Bytes → Bytes) where
           record {
             formed = still-formed table (x .records) i e;
             setup = set .setup ∙ t .setup;
+            retired = set .retired ∙ t .retired;
             count = set .count ∙ t .count;
             rows = marks-after;
             sized = n;
             stand = t .stand;
+          }
+
+    -- ---- a retiring that passes
+
+    module _ (e : retiring table (x .records) .refusal ≡ 0) where
+      abbrev left : Bytes
+      left = retiredTable table (x .records)
+
+      shows : Shows (setupOf table) (withoutFirst (viewOf table)) left
+      shows = retiring-promises .shown table (x .records) e
+
+      pub some-held : 0 < l .held
+      some-held = omega (arith, retiring-promises .causes table (x .records) .none .0 e .0 .below, t .count)
+
+      -- a place refers to the same blocks as before, but for the one that left
+      pub refers-moved : (i j : ℕ) → suc i < l .held
+          → (ltb (suc j) maxPlaces && viewIn digest l .row (suc i) .refersTo (suc j)) ≡ viewIn digest (taken l retire) .row i .refersTo j
+      unfolding taken
+      refers-moved i j h = by-test (ltb j i)
+          (λ y. let k : j < i = ltb-true j i y in rw (y, lt-ltb (suc j) (suc i) (omega arith), lt-ltb (suc j) maxPlaces (omega (arith, few, t .count))))
+          (λ n. let k : i ≤ j = ltb-false j i n in rw (n, le-ltb (suc j) (suc i) (omega arith), and-false (ltb (suc j) maxPlaces)))
+
+      moved-row : (i : ℕ) → suc i < l .held → SameRow (movedRow (rowAt table (suc i))) (viewIn digest (taken l retire) .row i)
+      unfolding taken
+      moved-row i h =
+          let r = t .rows (suc i) (omega (arith, t .count)) in
+          record {
+            digest = r .digest;
+            site = r .site;
+            sequence = r .sequence;
+            refersTo = λ j k. by-test (ltb (suc j) maxPlaces)
+                (λ y. ap (λ (z : Bool). ltb (suc j) maxPlaces && z) (r .refersTo (suc j) (ltb-true (suc j) maxPlaces y)) ∙ refers-moved i j h)
+                (λ n. rw n (sym (rw n at (sym (refers-moved i j h)))));
+            request = r .request;
+            mark = r .mark;
+          }
+
+      rows-left : SameBelow (viewOf left) (viewIn digest (taken l retire)) (countOf left)
+      rows-left i h =
+          let k : i < countOf table - 1 = omega (arith, shows .count) in
+          row-trans (rowAt left i) (movedRow (rowAt table (suc i))) (viewIn digest (taken l retire) .row i) (shows .rows i k) (moved-row i (omega (arith, t .count)))
+
+      blocks-left : taken l retire .blocks ≡ newest (taken l retire .block) (taken l retire .held) ++ taken l retire .retired
+      unfolding taken
+      blocks-left = t .stand ∙ newest-all (l .block) (l .held) (l .retired) some-held
+
+      pub retired-tied : Tied s size (taken l retire) (record { table = left; records = retiredRecords table (x .records) })
+      unfolding taken
+      retired-tied =
+          record {
+            formed = retiring-promises .kept table (x .records) (t .formed);
+            setup = shows .setup ∙ t .setup;
+            retired = shows .retired;
+            count = shows .count ∙ ap (λ (k : ℕ). k - 1) (t .count);
+            rows = rows-left;
+            sized = retiring-promises .sized table (x .records) ∙ t .sized;
+            stand = blocks-left;
           }

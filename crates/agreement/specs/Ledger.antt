@@ -2,7 +2,7 @@
 -- the calls, over a view of its own places and marks that is computed from the blocks' bytes.
 use mathlib.Core.Bool.{cond, _&&_}
 use mathlib.Core.List.{List, [], _∷_}
-use Prim.Native.Nat.{ℕ, suc}
+use Prim.Native.Nat.{ℕ, suc, _-_}
 use lib.Dec.{eqb, ltb}
 use Rattle.base.specs.Bytes.{Bytes}
 use Rattle.block.specs.Layout.{siteOf, sequenceOf, requestFor}
@@ -13,11 +13,13 @@ use Rattle.table.specs.Rules.{heldInForm}
 use Rattle.table.specs.Checks.{answerTo}
 use Rattle.admission.specs.Admission.{lists, admissionChecks}
 use Rattle.interpret.specs.Interpretation.{interpretationChecks}
+use Rattle.retire.specs.Retiring.{retiringChecks}
 
--- "bytes and verdict of an admission, place of an interpretation"
+-- "bytes and verdict of an admission, place of an interpretation"; a retiring has nothing to tell
 pub data Call : Type 0 where
   admit : Bytes → ℕ → Call
   interpret : ℕ → Call
+  retire : Call
 
 pub record Ledger : Type 0 where
   -- the blocks ever admitted, the newest first
@@ -45,12 +47,28 @@ taken l (admit b verdict) =
     }
 taken l (interpret place) =
     record { blocks = l .blocks; retired = l .retired; held = l .held; block = l .block; mark = λ i. cond (eqb i place) 1 (l .mark i) }
+-- "the ledger then keeps the block and its mark, without a place, and moves the other places down"
+taken l retire =
+    record {
+      blocks = l .blocks;
+      retired = l .block 0 ∷ l .retired;
+      held = l .held - 1;
+      block = λ i. l .block (suc i);
+      mark = λ i. l .mark (suc i);
+    }
+
+-- whether something was retired, as a table keeps it
+abbrev pub retiredMark : List Bytes → ℕ
+retiredMark [] = 0
+retiredMark (b ∷ bs) = 1
 
 module _ (digest : Bytes → Bytes) where
-  -- what the ledger shows of each place, from the bytes of its blocks: it refers to the lower places whose digests its block lists
+  -- what the ledger shows of each place, from the bytes of its blocks: it refers to the lower places whose digests its block lists. A block
+  -- that is admitted again after it was retired stands above those that referred to it, and they do not refer to it any more
   abbrev pub viewIn : Ledger → View
   viewIn l =
       record {
+        retired = retiredMark (l .retired);
         held = l .held;
         row = λ i. record {
           digest = digest (l .block i);
@@ -67,6 +85,7 @@ module _ (digest : Bytes → Bytes) where
     unfoldable pub ledgerAnswer : Ledger → Call → Answer
     ledgerAnswer l (admit b verdict) = answerTo (admissionChecks digest (heldInForm s (viewIn l)) s (viewIn l) b verdict) (l .held)
     ledgerAnswer l (interpret place) = answerTo (interpretationChecks (heldInForm s (viewIn l)) (viewIn l) size place) 0
+    ledgerAnswer l retire = answerTo (retiringChecks (heldInForm s (viewIn l)) (viewIn l) size) 0
 
     -- "a refused call changes nothing"
     unfoldable pub ledgerStep : Ledger → Call → Ledger

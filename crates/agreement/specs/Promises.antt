@@ -15,11 +15,11 @@ use Rattle.block.specs.declared.Answer.{Answer}
 use Rattle.setup.specs.Setup.{Setup, ownerOf, faults}
 use Rattle.broadcast.specs.Record.{recordSize}
 use Rattle.table.specs.View.{SameBelow}
-use Rattle.table.specs.Layout.{rowStart, setupOf, countOf, viewOf}
+use Rattle.table.specs.Layout.{rowStart, setupOf, retiredOf, countOf, viewOf}
 use Rattle.interpret.specs.Buffer.{partOf}
 use Rattle.agreement.specs.History.{History, blockOf, children, Ancestor, meaning}
 use Rattle.agreement.specs.Ancestry.{historyOf, AncestorIn}
-use Rattle.agreement.specs.Ledger.{Call, Ledger, empty, viewIn, ledgerAfter, ledgerAnswers}
+use Rattle.agreement.specs.Ledger.{Call, Ledger, empty, retiredMark, viewIn, ledgerAfter, ledgerAnswers}
 use Rattle.agreement.specs.Run.{Site, started, siteAfter, siteAnswers}
 
 -- "A site forked if it has two different blocks of one sequence number"
@@ -86,8 +86,9 @@ module _ (digest : Bytes → Bytes) where
 
   -- one site, told by its ledger
   pub record SiteKeeps (s : Setup) (l : Ledger) (x : Site) : Type 0 where
-    -- setup, count and all six fields of every place are the ledger's, and all bytes from the count on are zero
+    -- setup, whether something was retired, count and all six fields of every place are the ledger's, and all bytes from the count on are zero
     pub setup : setupOf (x .table) ≡ s
+    pub retired : retiredOf (x .table) ≡ retiredMark (l .retired)
     pub count : countOf (x .table) ≡ l .held
     pub rows : SameBelow (viewOf (x .table)) (viewIn digest l) (l .held)
     pub rest : allZero (drop (rowStart (l .held)) (x .table)) ≡ true

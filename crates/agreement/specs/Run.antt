@@ -1,5 +1,5 @@
 -- A site's run: "A call gets the table and buffer that the last one left; nobody else writes them". Each step is what the contracts of
--- `admit` and `interpret` say; `digest` is SHA-256 there.
+-- `admit`, `interpret` and `retire` say; `digest` is SHA-256 there.
 use mathlib.Core.List.{List, [], _∷_}
 use Prim.Native.Nat.{ℕ}
 use Rattle.base.specs.Bytes.{Bytes}
@@ -8,7 +8,8 @@ use Rattle.setup.specs.Setup.{Setup}
 use Rattle.table.specs.Fresh.{freshTable}
 use Rattle.admission.specs.Admission.{admission, admitted}
 use Rattle.interpret.specs.Interpretation.{interpretation, marked, recorded}
-use Rattle.agreement.specs.Ledger.{Call, admit, interpret}
+use Rattle.retire.specs.Retiring.{retiring, retiredTable, retiredRecords}
+use Rattle.agreement.specs.Ledger.{Call, admit, interpret, retire}
 
 pub record Site : Type 0 where
   pub table : Bytes
@@ -22,11 +23,13 @@ module _ (digest : Bytes → Bytes) where
   unfoldable pub siteAnswer : Site → Call → Answer
   siteAnswer x (admit b verdict) = admission digest (x .table) b verdict
   siteAnswer x (interpret place) = interpretation (x .table) (x .records) place
+  siteAnswer x retire = retiring (x .table) (x .records)
 
   unfoldable pub siteStep : Site → Call → Site
   siteStep x (admit b verdict) = record { table = admitted digest (x .table) b verdict; records = x .records }
   siteStep x (interpret place) =
       record { table = marked (x .table) (x .records) place; records = recorded (x .table) (x .records) place }
+  siteStep x retire = record { table = retiredTable (x .table) (x .records); records = retiredRecords (x .table) (x .records) }
 
   -- the table and the buffer that a list of calls leaves, and the answer of each call
   unfoldable pub siteAfter : Site → List Call → Site

@@ -13,9 +13,13 @@ const ADMISSION: u8 = 0;
 
 const INTERPRETATION: u8 = 1;
 
+const RETIRING: u8 = 2;
+
 const ADMISSION_HEADER: usize = 2 + base::WORD_SIZE;
 
 const INTERPRETATION_SIZE: usize = 1 + base::WORD_SIZE;
+
+const RETIRING_SIZE: usize = 1;
 
 // The number of the eight bytes from an index on.
 fn word_at(calls: &[u8], at: usize) -> usize
@@ -29,6 +33,12 @@ fn word_at(calls: &[u8], at: usize) -> usize
 pub fn first_size(calls: &[u8]) -> usize
     ensures { λ r. ⌜ r ≡ firstSize (now (calls .entry)) ⌝ }
 {
+    if calls.len() < RETIRING_SIZE {
+        return 0;
+    }
+    if calls[0] == RETIRING {
+        return RETIRING_SIZE;
+    }
     if calls.len() < INTERPRETATION_SIZE {
         return 0;
     }
@@ -63,5 +73,8 @@ pub fn run_first(table: &mut [u8], records: &mut [u16], calls: &[u8]) -> Answer
             calls[1],
         );
     }
-    interpret::interpret(table, word_at(calls, 1), records)
+    if calls[0] == INTERPRETATION {
+        return interpret::interpret(table, word_at(calls, 1), records);
+    }
+    retire::retire(table, records)
 }

@@ -11,6 +11,7 @@ ghost use Rattle.table.specs.Form.{inForm};
 ghost use Rattle.table.specs.Fresh.{freshAnswer, freshIn};
 ghost use Rattle.admission.specs.Admission.{admission, admitted};
 ghost use Rattle.interpret.specs.Interpretation.{interpretation, marked, recorded};
+ghost use Rattle.retire.specs.Retiring.{retiring, retiredTable, retiredRecords};
 ghost use Rattle.watch.specs.Forks.{forks};
 ghost use Rattle.watch.specs.Ancestors.{ancestors};
 ghost use Rattle.build.specs.Building.{building, built};
@@ -54,6 +55,16 @@ pub extern "C" fn gt_interpret(table: &mut [u8], place: usize, records: &mut [u1
     ensures { λ _. ⌜ now (records .exit) ≡ recorded (now (table .entry)) (now (records .entry)) place ⌝ }
 {
     interpret::interpret(table, place, records)
+}
+
+// Place 0 leaves, and the others move down.
+#[no_mangle]
+pub extern "C" fn gt_retire(table: &mut [u8], records: &mut [u16]) -> Answer
+    ensures { λ r. ⌜ r ≡ retiring (now (table .entry)) (now (records .entry)) ⌝ }
+    ensures { λ _. ⌜ now (table .exit) ≡ retiredTable (now (table .entry)) (now (records .entry)) ⌝ }
+    ensures { λ _. ⌜ now (records .exit) ≡ retiredRecords (now (table .entry)) (now (records .entry)) ⌝ }
+{
+    retire::retire(table, records)
 }
 
 // The sites that forked.

@@ -15,7 +15,7 @@ use Rattle.block.specs.Limits.{blockSize}
 use Rattle.block.specs.Layout.{siteOf}
 use Rattle.table.specs.Fresh.{freshTable}
 use Rattle.build.specs.Building.{building, built}
-use Rattle.agreement.specs.Ledger.{Call, admit, interpret, Ledger}
+use Rattle.agreement.specs.Ledger.{Call, admit, interpret, retire, Ledger}
 use Rattle.agreement.specs.Run.{Site, started, siteAnswer, siteStep}
 use Rattle.agreement.specs.Promises.{NoCollision}
 use Rattle.arrival.specs.Full.{BlockBy}
@@ -56,6 +56,7 @@ module _ (p : ℕ) (requests output : Bytes) where
   allKept x [] = true
   allKept x (admit b verdict ∷ cs) = kept x b verdict && allKept (siteStep toy x (admit b verdict)) cs
   allKept x (interpret place ∷ cs) = allKept (siteStep toy x (interpret place)) cs
+  allKept x (retire ∷ cs) = allKept (siteStep toy x retire) cs
 
   is-built : (x : Site) (b : Bytes) (verdict : ℕ) → kept x b verdict ≡ true → OwnIsBuilt toy p x (admit b verdict)
   unfolding writes admittedOwn kept OwnIsBuilt
@@ -70,6 +71,7 @@ module _ (p : ℕ) (requests output : Bytes) where
   by-rule x (admit b verdict ∷ cs) e =
       (is-built x b verdict (and-left (kept x b verdict) _ e), by-rule _ cs (and-right (kept x b verdict) _ e))
   by-rule x (interpret place ∷ cs) e = (tt, by-rule _ cs e)
+  by-rule x (retire ∷ cs) e = (tt, by-rule _ cs e)
 
 own-by-rule : BuildsByRule toy 1 (started (sites 4) zeros) (callsOf ownTurns)
 unfolding openedWatch freshTable firstBuilt nextBuilt ownTurns writes admittedOwn kept allKept

@@ -12,12 +12,17 @@ order =
       listBeforeRequest = (refl, refl);
       requestBeforeFork = (refl, refl);
       forkBeforeOutput = (refl, refl);
+      forkBeforeEnd = (refl, refl);
+      endBeforeOutput = (refl, refl);
     }
 
 pub building : BuildingCases
 unfolding openedWatch
 building =
     record {
+      lastSequence = refl;
+      pastLast = refl;
+      pastLastOther = refl;
       eightRequests = refl;
       nineRequests = refl;
       exact = refl;

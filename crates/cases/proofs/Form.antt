@@ -28,4 +28,11 @@ form =
       noParent = refl;
       parentOfHigherSequence = refl;
       twoParents = refl;
+      retiredEmpty = refl;
+      retiredFour = refl;
+      retiredTwo = refl;
+      missingParent = refl;
+      missingUninterpreted = refl;
+      missingUnretired = refl;
+      retiredTwoParents = refl;
     }

@@ -124,6 +124,10 @@ order =
       leftSizeBeforeSetup = (refl, refl);
       rightSizeBeforeSetup = (refl, refl);
       thirdSizeBeforeSetup = (refl, refl);
+      sizeBeforeRetired = (refl, refl);
+      sizeBeforeRightRetired = (refl, refl);
+      retiredBeforeSetup = (refl, refl);
+      rightRetiredBeforeSetup = (refl, refl);
       setupBeforeClash = (refl, refl);
       clashBeforeFull = clash-before-full;
     }

@@ -18,3 +18,4 @@ pub mod Builders
 pub mod Shelf
 pub mod Arrivals
 pub mod Joins
+pub mod Retiring

@@ -12,13 +12,14 @@ use Rattle.block.specs.Reading.{wellShaped, reading}
 use Rattle.setup.specs.Setup.{lawfulSites, ownersBelow, lawful, faults, echoQuorum, readyAmplification, readyQuorum}
 use Rattle.broadcast.specs.Process.{madeOf, support, onlyIf, readyOnEchoes, readyOnReadies, deliverOnReadies, takeSend, takeEcho, takeReady, take, receive, receiveAll, request}
 use Rattle.table.specs.Layout.{rowBytes, layout, withRow}
-use Rattle.table.specs.Rules.{parents, parentRule, rowInForm, heldInForm}
+use Rattle.table.specs.Rules.{parents, parentRule, parentInForm, rowInForm, heldInForm}
 use Rattle.table.specs.Form.{inForm}
 use Rattle.table.specs.Fresh.{emptyTable}
 use Rattle.table.specs.Checks.{answerTo}
 use Rattle.admission.specs.Admission.{admission, admitted}
 use Rattle.interpret.specs.Slot.{parentState, insert, insertIf, numbers, messagesOf, messages, interpretSlot}
 use Rattle.interpret.specs.Interpretation.{interpretation}
+use Rattle.retire.specs.Retiring.{retirable, retiring}
 use Rattle.watch.specs.Forks.{forkedIn, forks}
 use Rattle.watch.specs.Ancestors.{reached, ancestors}
 use Rattle.build.specs.Building.{greatestBelow, nextSequence, picked, nextContent, wellListed, buildingFrom, builtFrom}
@@ -49,7 +50,7 @@ openedBlocks = true
 unfoldable pub openedLedger : Bool
 unfolding openedBlocks firstBelow anyBelow allBelow countBelow maskBelow listBelow sameBytes parts countedRequest wellShaped reading lawfulSites
     ownersBelow lawful faults echoQuorum readyAmplification readyQuorum ones onesIn madeOf support onlyIf readyOnEchoes readyOnReadies
-    deliverOnReadies takeSend takeEcho takeReady take receive receiveAll request parents parentRule answerTo parentState insert insertIf numbers
+    deliverOnReadies takeSend takeEcho takeReady take receive receiveAll request parents parentRule retirable answerTo parentState insert insertIf numbers
     messagesOf messages interpretSlot taken slotRecord directs found gather find historyOf fresh arriving claimed answerInForm told ledgerFrom
     allMarked madeBy firstTurns secondTurns thirteen
 openedLedger = true
@@ -57,8 +58,8 @@ openedLedger = true
 -- what a table's answers are computed by
 unfoldable pub openedTable : Bool
 unfolding openedBlocks firstBelow anyBelow allBelow countBelow maskBelow listBelow sameBytes allZero parts splice word wordBytes countedRequest
-    wellShaped reading lawfulSites ownersBelow lawful rowBytes layout withRow parents parentRule rowInForm heldInForm inForm emptyTable answerTo
-    admission admitted interpretation siteAnswer siteStep siteAfter siteAnswers tableAfter answers fresh unlawful four holding
+    wellShaped reading lawfulSites ownersBelow lawful rowBytes layout withRow parents parentRule parentInForm rowInForm heldInForm inForm emptyTable answerTo
+    admission admitted interpretation retirable retiring siteAnswer siteStep siteAfter siteAnswers tableAfter answers fresh unlawful four holding
 openedTable = true
 
 -- what the watch and building answer to a table is computed by

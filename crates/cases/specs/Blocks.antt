@@ -92,4 +92,4 @@ four = tableAfter toy fresh (good first ∷ good fork ∷ good third ∷ good fo
 
 -- the first k of the numbered blocks, written down at once: 64 admissions one after the other would be slow to evaluate
 unfoldable pub holding : ℕ → Bytes
-holding k = layout (sites 4) (record { held = k; row = λ i. rowFor toy nothing (numbered i) })
+holding k = layout (sites 4) (record { retired = 0; held = k; row = λ i. rowFor toy nothing (numbered i) })

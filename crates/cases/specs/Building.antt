@@ -1,5 +1,6 @@
 -- Building: document 01, "Building", on the tables of the cases.
 use mathlib.Core.Path.{_≡_}
+use mathlib.Core.Bool.{false}
 use mathlib.Core.List.{[], _∷_, _++_}
 use Prim.Native.Nat.{ℕ, _+_}
 use lib.ListN.{replicate}
@@ -7,12 +8,12 @@ use Rattle.base.specs.Bytes.{Bytes}
 use Rattle.base.specs.List.{listBelow}
 use Rattle.block.specs.Limits.{blockSize, maxReferences, maxRequestListSize}
 use Rattle.block.specs.Layout.{referencesOf}
-use Rattle.table.specs.Layout.{siteOffset, rowStart, viewOf}
+use Rattle.table.specs.Layout.{siteOffset, rowStart, viewOf, layout}
 use Rattle.table.specs.Checks.{success, refused}
 use Rattle.watch.specs.Forks.{everywhere}
 use Rattle.build.specs.Building.{nextBlock, building, built}
 use Rattle.cases.specs.Toy.{toy, request, block}
-use Rattle.cases.specs.Blocks.{fresh, unlawful, first, fork, third, fourth, numbered, four, holding}
+use Rattle.cases.specs.Blocks.{sites, fresh, unlawful, first, fork, third, fourth, numbered, four, holding}
 use Rattle.cases.specs.Form.{changed, referring}
 
 -- the bytes of a request
@@ -23,7 +24,15 @@ asking slot number = slot ∷ 0 ∷ number ∷ []
 abbrev pub room : ℕ → Bytes
 room size = replicate size 9
 
--- "Checks 2, 4, 3, 6, 16, 17": a row for each two neighbours. Of the two calls the first has both causes and gets the earlier number; in the
+-- a table that has retired something and holds k blocks of site 0, all interpreted, of this sequence number
+abbrev pub numberedTo : ℕ → ℕ → Bytes
+numberedTo k sequence = layout (sites 4) (record {
+  retired = 1;
+  held = k;
+  row = λ i. record { digest = toy (numbered i); site = 0; sequence = sequence; refersTo = λ j. false; request = λ slot. 0; mark = 1 };
+})
+
+-- "Checks 2, 4, 3, 6, 16, 17", and 30 "straight after 16": a row for each two neighbours. Of the two calls the first has both causes and gets the earlier number; in the
 -- second only the earlier cause is mended, and it gets the later number.
 pub record BuildingOrderCases : Type 0 where
   -- 2, 4: site 4, on a table of three sites, and on one of four
@@ -37,8 +46,16 @@ pub record BuildingOrderCases : Type 0 where
       (building four 0 (asking 0 1 ++ asking 1 0) [] ≡ refused 6 1) × (building four 0 (asking 0 1 ++ asking 1 1) [] ≡ refused 16 0)
   -- 16, 17: no output, by a site that forked, then by one that did not
   pub forkBeforeOutput : (building four 0 [] [] ≡ refused 16 0) × (building four 3 [] [] ≡ refused 17 (blockSize 1 0))
+  -- 16, 30: two blocks of sequence number 65,535, then one
+  pub forkBeforeEnd : (building (numberedTo 2 65535) 0 [] [] ≡ refused 16 0) × (building (numberedTo 1 65535) 0 [] [] ≡ refused 30 0)
+  -- 30, 17: no output, after 65,535, then after 65,534
+  pub endBeforeOutput : (building (numberedTo 1 65535) 0 [] [] ≡ refused 30 0) × (building (numberedTo 1 65534) 0 [] [] ≡ refused 17 (blockSize 1 0))
 
 pub record BuildingCases : Type 0 where
+  -- 65,535 is the last sequence number
+  pub lastSequence : built (numberedTo 1 65534) 0 [] (room 37) ≡ block 0 65535 (toy (numbered 0) ∷ []) []
+  pub pastLast : building (numberedTo 1 65535) 0 [] (room 37) ≡ refused 30 0
+  pub pastLastOther : building (numberedTo 1 65535) 1 [] (room 37) ≡ success 37
   -- "request list over 24 bytes"
   pub eightRequests : building fresh 3 (asking 0 1 ++ asking 1 1 ++ asking 2 1 ++ asking 3 1 ++ asking 4 1 ++ asking 5 1 ++ asking 6 1 ++ asking 7 1) (room 29)
       ≡ success 29

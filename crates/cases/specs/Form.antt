@@ -6,9 +6,9 @@ use Prim.Native.Nat.{ℕ, _+_, _-_, _^_}
 use lib.ListN.{take}
 use Rattle.base.specs.Bytes.{Bytes, splice}
 use Rattle.base.specs.Word.{wordSize, wordBytes}
-use Rattle.table.specs.Layout.{ownersOffset, countOffset, siteOffset, sequenceOffset, referencesOffset, markOffset, rowStart, tableSize, digestAt}
+use Rattle.table.specs.Layout.{ownersOffset, retiredOffset, countOffset, siteOffset, sequenceOffset, referencesOffset, markOffset, rowStart, tableSize, digestAt}
 use Rattle.table.specs.Form.{inForm}
-use Rattle.cases.specs.Blocks.{four, holding}
+use Rattle.cases.specs.Blocks.{fresh, four, holding}
 
 -- the table with one byte changed
 abbrev pub changed : Bytes → ℕ → ℕ → Bytes
@@ -21,6 +21,18 @@ referring t i mask = splice t (rowStart i + referencesOffset) (wordBytes wordSiz
 -- the table with a place marked
 abbrev pub marked : Bytes → ℕ → ℕ → Bytes
 marked t i mark = changed t (rowStart i + markOffset) mark
+
+-- a table that has retired something
+abbrev pub retiredSome : Bytes → Bytes
+retiredSome t = changed t retiredOffset 1
+
+-- `four` with site 3's blocks one sequence number higher: the first of them, at place 2, has no parent
+abbrev pub lacking : Bytes
+lacking = changed (changed four (rowStart 2 + sequenceOffset + 1) 1) (rowStart 3 + sequenceOffset + 1) 2
+
+-- `four` with all four places marked, and place 3 after both forks
+abbrev pub twoParented : Bytes
+twoParented = marked (marked (marked (marked (changed (referring four 3 7) (rowStart 3 + siteOffset) 0) 0 1) 1 1) 2 1) 3 1
 
 -- `four` holds two forks of site 0 at places 0 and 1, a block of site 3 that refers to place 1 at place 2, and the one after it, which
 -- refers to places 0 and 2, at place 3
@@ -57,3 +69,12 @@ pub record FormCases : Type 0 where
   pub noParent : inForm (changed four (rowStart 2 + sequenceOffset + 1) 1) ≡ false
   pub parentOfHigherSequence : inForm (changed four (rowStart 3 + sequenceOffset + 1) 2) ≡ false
   pub twoParents : inForm (changed (referring four 3 7) (rowStart 3 + siteOffset) 0) ≡ false
+  -- "A table keeps whether it has retired anything": it may, whatever it holds; and there is no third answer
+  pub retiredEmpty : inForm (retiredSome fresh) ≡ true
+  pub retiredFour : inForm (retiredSome four) ≡ true
+  pub retiredTwo : inForm (changed four retiredOffset 2) ≡ false
+  -- "form allows a missing parent for interpreted places of such a table": interpreted; not interpreted; nothing retired; two parents
+  pub missingParent : inForm (retiredSome (marked (marked lacking 1 1) 2 1)) ≡ true
+  pub missingUninterpreted : inForm (retiredSome (marked lacking 1 1)) ≡ false
+  pub missingUnretired : inForm (marked (marked lacking 1 1) 2 1) ≡ false
+  pub retiredTwoParents : inForm (retiredSome twoParented) ≡ false

@@ -22,7 +22,7 @@ use Rattle.join.specs.Join.{joinAnswer, joined, copied}
 use Rattle.cases.specs.Toy.{toy, block}
 use Rattle.cases.specs.Run.{good, zeros}
 use Rattle.cases.specs.Blocks.{sites, fresh, first, fork, second, both, stranger, third, fourth, numbered, four, holding}
-use Rattle.cases.specs.Form.{changed, referring, marked}
+use Rattle.cases.specs.Form.{changed, referring, marked, retiredSome}
 use Rattle.cases.specs.Arrivals.{tableOf}
 
 -- ---- calls
@@ -141,7 +141,7 @@ rightSite = siteWith toy (sites 4) rightRecords (good fork ∷ interpret 0 ∷ g
 
 -- ---- cases
 
--- "in that order after 2 and 12": a row for each two neighbours of 2, 12, 23, 24, 25. The first call has both causes and gets the earlier number;
+-- "in that order after 2 and 12": a row for each two neighbours of 2, 12, 31, 23, 24, 25, "31 .. when joining, before 23". The first call has both causes and gets the earlier number;
 -- in the second only the earlier cause is mended, and it gets the later number.
 pub record JoinOrderCases : Type 0 where
   -- nothing is right
@@ -166,6 +166,20 @@ pub record JoinOrderCases : Type 0 where
   pub thirdSizeBeforeSetup :
       (lending fresh otherOwner bufferSize bufferSize 0 ≡ refused 12 0)
       × (lending fresh otherOwner bufferSize bufferSize bufferSize ≡ refused 23 0)
+  -- 12, 31: the left has retired something, then the right
+  pub sizeBeforeRetired :
+      (lending (retiredSome fresh) fresh bufferSize bufferSize (bufferSize - 1) ≡ refused 12 0)
+      × (lending (retiredSome fresh) fresh bufferSize bufferSize bufferSize ≡ refused 31 0)
+  pub sizeBeforeRightRetired :
+      (lending fresh (retiredSome fresh) (bufferSize - 1) bufferSize bufferSize ≡ refused 12 0)
+      × (lending fresh (retiredSome fresh) bufferSize bufferSize bufferSize ≡ refused 31 0)
+  -- 31, 23: tables of different owners, one of which has retired something, then neither
+  pub retiredBeforeSetup :
+      (joining (retiredSome fresh) otherOwner ≡ refused 31 0)
+      × (joining fresh otherOwner ≡ refused 23 0)
+  pub rightRetiredBeforeSetup :
+      (joining fresh (retiredSome otherOwner) ≡ refused 31 0)
+      × (joining fresh otherOwner ≡ refused 23 0)
   -- 23, 24: a block of another site, in a table of another owner, then of the same
   pub setupBeforeClash :
       (joining four (changed otherSite ownersOffset 1) ≡ refused 23 0)

@@ -1,4 +1,4 @@
--- Cases of document 01's rules and of requests Three's and Eight's: how they are written down, how they are run, and what each gives.
+-- Cases of document 01's rules and of those of requests Three, Eight and Eleven: how they are written down, how they are run, and what each gives.
 pub mod Toy
 pub mod Run
 pub mod Blocks
@@ -16,3 +16,4 @@ pub mod Builders
 pub mod Shelf
 pub mod Arrivals
 pub mod Joins
+pub mod Retiring

@@ -25,8 +25,8 @@ use Rattle.table.specs.Layout.{rowStart, setupOf, retiredOf, countOf, digestAt,
 use Rattle.table.specs.Rules.{hasDigest, placeOf, parentRow, parents, parentRule}
 use Rattle.table.specs.Form.{inForm}
 use Rattle.table.specs.Promises.{Grown, Marked}
-use Rattle.table.proofs.Views.{RowForm, form-row, form-rule, rule-formed}
-use Rattle.table.proofs.Formed.{formed-of, formed-row, one-place, in-formed}
+use Rattle.table.proofs.Views.{RowForm, form-row, rule-formed}
+use Rattle.table.proofs.Formed.{formed-of, formed-row, formed-parent, one-place, in-formed}
 use Rattle.table.proofs.Canonical.{Canonical, row-canonical, mark-canonical}
 use Rattle.table.proofs.Put.{grown, grown-formed}
 use Rattle.table.proofs.Marked.{marked, marked-formed}
@@ -413,7 +413,7 @@ module _ (left right : Bytes) (both : Joinable left right) where
 
       parent-new : parentRule (viewOf t′) c (rowAt t′ c) ≡ true
       unfolding parentRule parents
-      parent-new = elim (or-cases (eqb (sequenceAt right k) 0) _ (sym (form-rule w k (rowAt right k) (both .rightRetired)) ∙ row .parent)) [
+      parent-new = elim (or-cases (eqb (sequenceAt right k) 0) _ (formed-parent right g (both .rightRetired) k below)) [
         | inl z ↦ let o : eqb (sequenceAt t′ c) 0 ≡ true = ap (λ (y : ℕ). eqb y 0) (gr .here .sequence) ∙ z in rw o
         | inr z ↦ by-test (eqb (sequenceAt t′ c) 0) (λ y. rw y) (λ y. rw (y, one-parent (eqb-true _ 1 z)))
       ]

@@ -15,7 +15,7 @@ use Rattle.setup.specs.Setup.{Setup}
 use Rattle.table.specs.View.{maxPlaces, View}
 use Rattle.table.specs.Layout.{countOf, digestAt, siteAt, sequenceAt, markAt, rowAt, viewOf}
 use Rattle.table.specs.Form.{inForm}
-use Rattle.table.proofs.Formed.{formed-of, formed-row, one-place}
+use Rattle.table.proofs.Formed.{formed-of, formed-row, formed-parent, one-place}
 use Rattle.interpret.specs.Buffer.{partOf}
 use Rattle.interpret.specs.Interpretation.{written}
 use Rattle.interpret.proofs.Directs.{Stands, written-same, written-kept}
@@ -140,7 +140,7 @@ module _ (left right : Bytes) (leftRecords rightRecords third : List ℕ) (p : P
         both =
             fixedLeft q (o .below) (o .mark)
             ∙ written-same s (viewOf left) w leftRecords rightRecords q j (sym (old .site) ∙ its .site) (sym (old .sequence) ∙ its .sequence)
-            (λ slot k. sym (old .request slot k) ∙ its .request slot k) there back (formed-row left leftFormed q (o .below) .parent)
+            (λ slot k. sym (old .request slot k) ∙ its .request slot k) there back (formed-parent left leftFormed (p .joinable .leftRetired) q (o .below))
             ∙ sym (fixedRight j h mark)
 
       right-here : part q ≡ partOf rightRecords j
@@ -177,7 +177,7 @@ module _ (left right : Bytes) (leftRecords rightRecords third : List ℕ) (p : P
         let row = formed-row left leftFormed q (o .below) in
         let u = whole .kept q (o .below) in
         o .is ∙ fixedLeft q (o .below) (o .mark)
-        ∙ written-kept s left t leftRecords records q (omega (arith, few)) (row .parent) (sym (u .site)) (sym (u .sequence)) (λ slot l. sym (u .request slot l))
+        ∙ written-kept s left t leftRecords records q (omega (arith, few)) (formed-parent left leftFormed (p .joinable .leftRetired) q (o .below)) (sym (u .site)) (sym (u .sequence)) (λ slot l. sym (u .request slot l))
         (λ a l. sym (u .refersTo a (omega (arith, few))))
         (λ a l y. let la : a < n = omega (arith, o .below) in
         let v = whole .kept a la in
@@ -229,7 +229,7 @@ module _ (left right : Bytes) (leftRecords rightRecords third : List ℕ) (p : P
       right-fixed =
           o .is ∙ fixedRight j (o .below) (o .mark)
           ∙ written-same s w (viewOf t) rightRecords records j q (sym (carried-here .site)) (sym (carried-here .sequence)) (λ slot l. sym (carried-here .request slot l))
-          to-result to-right (formed-row right rightFormed j (o .below) .parent)
+          to-result to-right (formed-parent right rightFormed (p .joinable .rightRetired) j (o .below))
 
     pub joined-fixed : Fixed s t records
     joined-fixed q h y = records-part q h y ∙ elim (source q h) [

@@ -2,7 +2,7 @@
 use mathlib.Core.Path.{_≡_, sym, ap, _∙_, subst}
 use mathlib.Core.Bool.{true}
 use mathlib.Core.Logic.{_⊎_, _↔_}
-use mathlib.Core.List.{List, [], _++_, List·Memᴰ, Memᴰ·append-left, Memᴰ·append-right, Memᴰ·cast}
+use mathlib.Core.List.{List, _++_, List·Memᴰ, Memᴰ·append-left, Memᴰ·append-right, Memᴰ·cast}
 use Prim.Native.Nat.{ℕ, _<_}
 use native.Mathlib.Omega.{arith}
 use lib.Dec.{ltb}
@@ -14,7 +14,7 @@ use Rattle.sha256.specs.Sha256.{sha256}
 use Rattle.sha256.proofs.Laws.{sha256-length}
 use Rattle.block.specs.Limits.{referenceSize}
 use Rattle.setup.specs.Setup.{Setup, lawful}
-use Rattle.table.specs.Layout.{setupOf, countOf}
+use Rattle.table.specs.Layout.{setupOf, retiredOf, countOf}
 use Rattle.table.proofs.Canonical.{Canonical}
 use Rattle.interpret.specs.Buffer.{bufferSize}
 use Rattle.agreement.specs.Ledger.{Call, Ledger}
@@ -22,7 +22,8 @@ use Rattle.agreement.specs.Run.{Site, started, siteAfter}
 use Rattle.agreement.specs.Promises.{ledgerOf, siteWith}
 use Rattle.agreement.proofs.Standing.{Standing, standing}
 use Rattle.agreement.proofs.Runs.{after-append}
-use Rattle.agreement.proofs.Theorem.{promised}
+use Rattle.agreement.proofs.Growth.{none-retired}
+use Rattle.agreement.proofs.Theorem.{run, promised}
 use Rattle.agreement.proofs.Reached.{Fixed, Reached, reached, Rows, reached-rows}
 use Rattle.agreement.proofs.Retraced.{callsOf, retraced, calls-among}
 use Rattle.arrival.proofs.Theorem as arrival
@@ -40,7 +41,7 @@ use Rattle.joined.proofs.Agreed.{agreed}
 module _ (digest : Bytes → Bytes) (sized : (b : Bytes) → length (digest b) ≡ referenceSize) where
   -- two sites that calls reached, joined
   module _ (s z : Setup) (law : lawful s ≡ true) (size₁ size₂ : ℕ) (l₁ l₂ : Ledger) (x y : Site)
-      (r₁ : Reached digest sized s size₁ l₁ x) (r₂ : Reached digest sized z size₂ l₂ y) (none₁ : l₁ .retired ≡ []) (none₂ : l₂ .retired ≡ []) (third : List ℕ) (e : CanJoin x y third) where
+      (r₁ : Reached digest sized s size₁ l₁ x) (r₂ : Reached digest sized z size₂ l₂ y) (third : List ℕ) (e : CanJoin x y third) where
     p : Passed (x .table) (y .table) (x .records) (y .records) third
     p = passes (x .table) (y .table) (x .records) (y .records) third e
 
@@ -66,10 +67,10 @@ module _ (digest : Bytes → Bytes) (sized : (b : Bytes) → length (digest b) �
     one-setup = sym (r₂ .together .tied .setup) ∙ sym (p .joinable .setup) ∙ r₁ .together .tied .setup
 
     rows₁ : Rows digest (x .table) (l₁ .block)
-    rows₁ = reached-rows digest sized s size₁ l₁ x r₁ none₁
+    rows₁ = reached-rows digest sized s size₁ l₁ x r₁
 
     rows₂ : Rows digest (y .table) (l₂ .block)
-    rows₂ = reached-rows digest sized z size₂ l₂ y r₂ none₂
+    rows₂ = reached-rows digest sized z size₂ l₂ y r₂
 
     abbrev block : ℕ → Bytes
     block = blockOf digest (x .table) (y .table) (x .records) (y .records) third p (l₁ .block) (l₂ .block) rows₁ rows₂
@@ -90,7 +91,7 @@ module _ (digest : Bytes → Bytes) (sized : (b : Bytes) → length (digest b) �
     size = records-length (x .table) (y .table) (x .records) (y .records) third p
 
     abbrev calls : List Call
-    calls = callsOf digest sized s law t (all .formed) set block rows third canonical records fixed size (p .size)
+    calls = callsOf digest sized s law t (all .formed) (all .retired) set block rows third canonical records fixed size (p .size)
 
     -- what joining leaves
     result-is : _≡_ {A = Site} (record { table = t; records = records }) (joinOf x y third)
@@ -105,7 +106,7 @@ module _ (digest : Bytes → Bytes) (sized : (b : Bytes) → length (digest b) �
 
     reaches : siteWith digest s third calls ≡ joinOf x y third
     reaches =
-        retraced digest sized s law t (all .formed) set block rows third canonical records fixed size (p .size)
+        retraced digest sized s law t (all .formed) (all .retired) set block rows third canonical records fixed size (p .size)
         ∙ ap (λ (b : List ℕ). record { table = t; records = b }) (restored-is (x .table) (y .table) (x .records) (y .records) third p c (omega arith)) ∙ result-is
 
     -- what is admitted
@@ -124,22 +125,31 @@ module _ (digest : Bytes → Bytes) (sized : (b : Bytes) → length (digest b) �
 
     among : (b : Bytes) → List·Memᴰ b (ledgerOf digest s third calls .blocks) → List·Memᴰ b (l₁ .blocks ++ l₂ .blocks)
     among b m =
-        let w = calls-among digest sized s law t (all .formed) set block rows third canonical records fixed size (p .size) b m in
+        let w = calls-among digest sized s law t (all .formed) (all .retired) set block rows third canonical records fixed size (p .size) b m in
         Memᴰ·cast (w .2) (block-among (w .0) (w .1))
 
     reachable : Reachable digest s third (l₁ .blocks ++ l₂ .blocks) (joinOf x y third)
     reachable = record { calls = calls; reaches = reaches; among = among }
 
+  -- a site whose table says so has retired nothing
+  unretired-reached : (s : Setup) → lawful s ≡ true → (buffer : List ℕ) (calls : List Call) → retiredOf (siteWith digest s buffer calls .table) ≡ 0
+      → Reached digest sized s (length buffer) (ledgerOf digest s buffer calls) (siteWith digest s buffer calls)
+  unretired-reached s law buffer calls e =
+      reached digest sized s law buffer calls (none-retired (ledgerOf digest s buffer calls .retired) (sym (run digest sized s law buffer calls .tied .retired) ∙ e))
+
   pub covered : (s z : Setup) → lawful s ≡ true → lawful z ≡ true → (buffer₁ buffer₂ third : List ℕ) (calls₁ calls₂ : List Call)
       → CanJoin (left digest s z buffer₁ buffer₂ third calls₁ calls₂) (right digest s z buffer₁ buffer₂ third calls₁ calls₂) third
       → Covered digest s z buffer₁ buffer₂ third calls₁ calls₂
   covered s z law other buffer₁ buffer₂ third calls₁ calls₂ e =
+      let joins = passes _ _ _ _ third e .joinable in
+      let r₁ = unretired-reached s law buffer₁ calls₁ (joins .leftRetired) in
+      let r₂ = unretired-reached z other buffer₂ calls₂ (joins .rightRetired) in
       let r = reachable s z law (length buffer₁) (length buffer₂) (ledgerOf digest s buffer₁ calls₁) (ledgerOf digest z buffer₂ calls₂)
-      (siteWith digest s buffer₁ calls₁) (siteWith digest z buffer₂ calls₂) (reached digest sized s law buffer₁ calls₁) (reached digest sized z other buffer₂ calls₂) third e in
+      (siteWith digest s buffer₁ calls₁) (siteWith digest z buffer₂ calls₂) r₁ r₂ third e in
       record {
         reachable = r;
         delivered = shows s z law (length buffer₁) (length buffer₂) (ledgerOf digest s buffer₁ calls₁) (ledgerOf digest z buffer₂ calls₂)
-            (siteWith digest s buffer₁ calls₁) (siteWith digest z buffer₂ calls₂) (reached digest sized s law buffer₁ calls₁) (reached digest sized z other buffer₂ calls₂) third e;
+            (siteWith digest s buffer₁ calls₁) (siteWith digest z buffer₂ calls₂) r₁ r₂ third e;
         goesOn = λ more. after-append digest (started s third) (r .calls) more ∙ ap (λ (x : Site). siteAfter digest x more) (r .reaches);
         promised = λ more buffer₃ calls₃. promised digest sized s law third buffer₃ (r .calls ++ more) calls₃;
         arrives = λ more. arrival.arrival digest sized s law third (r .calls ++ more);

@@ -3,8 +3,8 @@
 use mathlib.Core.Path.{_≡_, refl, sym, ap, _∙_}
 use mathlib.Core.Bool.{Bool, cond}
 use mathlib.Core.Logic.{inl, inr}
-use mathlib.Core.List.{List, [], _∷_, _++_, List·Memᴰ}
-use Prim.Native.Nat.{ℕ, _+_, _*_}
+use mathlib.Core.List.{List, [], _∷_, _++_, List·Memᴰ, List·Memᴰ·head, List·Memᴰ·tail}
+use Prim.Native.Nat.{ℕ, zero, suc, _+_, _*_}
 use native.Mathlib.Omega.{arith}
 use lib.Dec.{eqb}
 use lib.ListN.{length, getD}
@@ -16,7 +16,7 @@ use Rattle.setup.specs.Setup.{Setup}
 use Rattle.broadcast.specs.Record.{recordSize}
 use Rattle.agreement.specs.History.{History, meaning}
 use Rattle.agreement.specs.Ancestry.{historyOf}
-use Rattle.agreement.specs.Ledger.{Call, admit, interpret, Ledger, taken, ledgerAnswer, ledgerStep, ledgerAfter}
+use Rattle.agreement.specs.Ledger.{Call, admit, interpret, retire, Ledger, taken, ledgerAnswer, ledgerStep, ledgerAfter}
 use Rattle.agreement.specs.Run.{Site, siteStep}
 use Rattle.agreement.specs.Promises.{InterpretedBlock, deliveredEntry, NoCollision, Delivered}
 use Rattle.agreement.proofs.Ancestry.{history-agree}
@@ -40,6 +40,9 @@ module _ (digest : Bytes → Bytes) (sized : (b : Bytes) → length (digest b) �
   interpreted-stays l (admit a verdict) b (inr m) = inr m
   interpreted-stays l (interpret place) b (inl (i, w, e)) = inl (i, record { below = w .below; mark = by-test (eqb i place) (λ y. rw y) (λ n. rw n (w .mark)) }, e)
   interpreted-stays l (interpret place) b (inr m) = inr m
+  interpreted-stays l retire b (inl (zero, w, e)) = inr (List·Memᴰ·head e)
+  interpreted-stays l retire b (inl (suc i, w, e)) = inl (i, record { below = omega (arith, w .below); mark = w .mark }, e)
+  interpreted-stays l retire b (inr m) = inr (List·Memᴰ·tail m)
 
   module _ (l : Ledger) (x : Site) (t : Together digest sized s size l x) (c : Call) where
     abbrev l′ : Ledger

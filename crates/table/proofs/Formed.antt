@@ -10,12 +10,12 @@ use Rattle.base.specs.Bytes.{Bytes, allZero}
 use Rattle.base.proofs.Tests.{by-test, and-left, and-right}
 use Rattle.setup.specs.Setup.{Setup}
 use Rattle.table.specs.View.{View}
-use Rattle.table.specs.Layout.{tableSize, rowStart, setupOf, countOf, digestAt, viewOf}
-use Rattle.table.specs.Rules.{heldInForm}
+use Rattle.table.specs.Layout.{tableSize, rowStart, setupOf, retiredOf, countOf, digestAt, rowAt, viewOf}
+use Rattle.table.specs.Rules.{parentRule, heldInForm}
 use Rattle.table.specs.Form.{inForm}
 use Rattle.table.specs.Promises.{Shows}
 use Rattle.table.specs.Steps.{Places}
-use Rattle.table.proofs.Views.{same-sym, held-same, RowForm, row-form, Held, held-of, held-in}
+use Rattle.table.proofs.Views.{same-sym, held-same, form-rule, RowForm, row-form, Held, held-of, held-in}
 
 pub record Formed (t : Bytes) : Type 0 where
   pub size : length t ≡ tableSize
@@ -37,6 +37,10 @@ formed-places t e = let f = formed-of t e in record { size = f .size; bound = f 
 
 pub formed-row : (t : Bytes) → inForm t ≡ true → (i : ℕ) → i < countOf t → RowForm (setupOf t) (viewOf t) i
 formed-row t f i h = row-form (setupOf t) (viewOf t) i (formed-of t f .held .rows i h)
+
+-- where nothing has been retired, each place has its parent
+pub formed-parent : (t : Bytes) → inForm t ≡ true → retiredOf t ≡ 0 → (i : ℕ) → i < countOf t → parentRule (viewOf t) i (rowAt t i) ≡ true
+formed-parent t f none i h = sym (form-rule (viewOf t) i (rowAt t i) none) ∙ formed-row t f i h .parent
 
 -- a digest stands at one place
 pub one-place : (t : Bytes) → inForm t ≡ true → (i j : ℕ) → i < countOf t → j < countOf t → digestAt t i ≡ digestAt t j → i ≡ j

@@ -48,9 +48,6 @@ run-first-requires c κs =
     let l = c .before .before .before .before .loop in
     rw (rest-part _ (l .at)) (first-whole _ (λ z. c .before .before .before .loop-test .taken (l .inv .first ∙ z)))
 
-put-answer-requires : tie.Need-put-answer-requires Inv-loop μ-loop
-put-answer-requires c κs = let t = turn (c .before .before .before .before .before) in let w = within t in let i = t .before .loop .inv in search needs
-
 add-count : tie.Need-add-count Inv-loop μ-loop
 add-count c = let w = within (turn (ran c)) in let i = turn (ran c) .before .loop .inv in search needs
 
@@ -108,7 +105,7 @@ replay-spec =
     part-run-first-start
     part-run-first-end
     run-first-requires
-    put-answer-requires
+    (λ c κs. search needs)
     add-count
     add-at
     sub-first-size

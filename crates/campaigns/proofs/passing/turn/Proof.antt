@@ -134,11 +134,6 @@ block-at-requires c κs =
 take-out-requires : tie.Need-take-out-requires
 take-out-requires c κs = let q = start-of (tried-of (c .before)) .pre in (q .passable .laid, q .below)
 
-put-answer-requires : tie.Need-put-answer-requires
-put-answer-requires c κs =
-    let q = start-of (tried-of (not-nine (c .before .before .before .before))) .pre in
-    omega (arith, q .passable .few, q .below)
-
 add-ended : (c : tie.After-struct-known2) → let q = start-of (tried-of (not-nine (taken-of (put-of c)))) in q .args .p .ended ≤ 16
 add-ended c = let q = start-of (tried-of (not-nine (taken-of (put-of c)))) in omega (arith, q .pre .passable .few)
 
@@ -193,7 +188,7 @@ turn-spec =
     returns-2
     take-out-requires
     (λ c κs. search needs)
-    put-answer-requires
+    (λ c κs. search needs)
     (λ c. let l = add-ended (c .before) in search needs)
     (λ c. search needs)
     (λ c. search needs)

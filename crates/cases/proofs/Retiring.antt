@@ -1,0 +1,135 @@
+-- The cases of retiring, by computing: what is long is compared by a test, which is fast. Assumes nothing.
+use mathlib.Core.Path.{_≡_, refl, sym, ap, _∙_}
+use mathlib.Core.Bool.{Bool, true}
+use mathlib.Core.Logic.{inr}
+use mathlib.Core.List.{List, []}
+use Prim.Native.Nat.{ℕ, _<_}
+use native.Mathlib.Omega.{arith}
+use lib.ListN.{length}
+use Rattle.base.specs.Bytes.{Bytes, sameBytes}
+use Rattle.base.specs.List.{listBelow, someIn, passing}
+use Rattle.base.proofs.Bytes.{same-equal}
+use Rattle.base.proofs.List.{list-same}
+use Rattle.broadcast.specs.declared.Sent.{Sent}
+use Rattle.broadcast.specs.declared.SlotRecord.{SlotRecord}
+use Rattle.interpret.specs.Buffer.{recordIn}
+use Rattle.retire.specs.Retiring.{movedBytes, moveDown, movedParts, retiredTable, retiredRecords}
+use Rattle.agreement.specs.History.{slotRecord}
+use Rattle.agreement.specs.Ledger.{Ledger, empty}
+use Rattle.agreement.specs.Promises.{forked, RetiredClear, historyAt, ledgerOf}
+use Rattle.agreement.proofs.Theorem.{promised}
+use Rattle.cases.specs.Toy.{toy}
+use Rattle.cases.specs.Run.{Turn, callsOf, answersOf, ledgerLeft, siteLeft, zeros}
+use Rattle.cases.specs.Blocks.{sites, four}
+use Rattle.cases.specs.Arrivals.{tableOf}
+use Rattle.cases.specs.Joins.{rising}
+use Rattle.cases.specs.Retiring.{RetiringOrderCases, afterFork, RetirableCases, lastOne, threeMarked, pairOf, rowsLeft, numbers, twins, LeftCases, afterwards, AfterwardsCases, forkRetired, ForkRetiredCases, inRound, makes, roundOf, rounds, GoingOnCases}
+use Rattle.cases.proofs.Toy.{toyDigest}
+use Rattle.cases.proofs.Opened.{openedLedger, openedTable, openedWatch}
+use Rattle.cases.proofs.Told.{told, session, ledgerFrom, ledger-left, allMarked, marked-interpreted, whole, record-told}
+use Rattle.cases.proofs.Premises.{lawful-setup, collision, no-collision}
+
+-- what retiring is computed by
+unfoldable openedRetiring : Bool
+unfolding openedWatch movedBytes moveDown movedParts retiredTable retiredRecords tableOf rising afterFork lastOne threeMarked pairOf rowsLeft numbers twins
+openedRetiring = true
+
+unfoldable openedTurns : Bool
+unfolding openedLedger someIn passing forked collision afterFork afterwards forkRetired inRound makes roundOf rounds
+openedTurns = true
+
+pub order : RetiringOrderCases
+unfolding openedRetiring
+order =
+    record {
+      formBeforeSize = (refl, refl);
+      formBeforePlace = (refl, refl);
+      formBeforeRetirable = (refl, refl);
+      sizeBeforePlace = (refl, refl);
+      sizeBeforeRetirable = (refl, refl);
+    }
+
+pub retirableCases : RetirableCases
+unfolding openedTurns
+retirableCases =
+    record {
+      notInterpreted = session (sites 4) _ refl refl;
+      referrerNot = session (sites 4) _ refl refl;
+      noLater = session (sites 4) _ refl refl;
+    }
+
+pub leftCases : LeftCases
+unfolding openedRetiring
+leftCases =
+    record {
+      table = same-equal _ _ refl;
+      records = same-equal _ _ refl;
+      refusedTable = refl;
+      refusedRecords = refl;
+      named = refl;
+      notNamed = refl;
+    }
+
+-- ---- ledgers
+
+module _ (turns : List Turn) (e : told (sites 4) empty (callsOf turns) (answersOf turns) ≡ answersOf turns) where
+  -- what holds of the ledger computed holds of the ledger
+  is-left : ledgerLeft (sites 4) turns ≡ ledgerFrom turns
+  is-left = ledger-left (sites 4) turns lawful-setup e
+
+pub afterwardsCases : AfterwardsCases
+unfolding openedTurns
+afterwardsCases =
+    record {
+      taken = session (sites 4) afterwards refl refl;
+      retiredBlocks = ap (λ (l : Ledger). l .retired) (is-left afterwards refl);
+      blocks = ap (λ (l : Ledger). l .blocks) (is-left afterwards refl);
+      notAgain = rw (is-left afterwards refl) refl;
+      newly = rw (is-left afterwards refl) refl;
+    }
+
+pub forkRetiredCases : ForkRetiredCases
+unfolding openedTurns
+forkRetiredCases =
+    record {
+      taken = session (sites 4) forkRetired refl refl;
+      stillForked = ap (λ (l : Ledger). forked (l .blocks) 0) (is-left forkRetired refl);
+    }
+
+-- ---- the campaign that goes on
+
+module _ (turns : List Turn) (e : told (sites 4) empty (callsOf turns) (answersOf turns) ≡ answersOf turns)
+    (safe : collision (ledgerFrom turns .blocks) ≡ false) (marks : allMarked (ledgerFrom turns) 4 ≡ true) where
+  -- no two of its blocks share a digest, and so no retired one shares its own
+  clear : RetiredClear toy (ledgerLeft (sites 4) turns)
+  clear a b m n =
+      rw (is-left turns e) (no-collision (ledgerFrom turns .blocks) safe) a b
+      (promised toy (toyDigest .size) (sites 4) lawful-setup zeros [] (callsOf turns) [] .first .placed a .1 (inr m)) n
+
+  record-is : (i : ℕ) → i < 4 → recordIn (siteLeft (sites 4) turns .records) i 0 ≡ slotRecord (sites 4) 0 (historyAt toy (ledgerFrom turns) i)
+  unfolding ledgerFrom
+  record-is i h =
+      record-told (sites 4) lawful-setup zeros (whole 0) (callsOf turns) (answersOf turns) e clear i 0 (omega arith)
+      (marked-interpreted (ledgerFrom turns) 4 marks i h)
+
+rounds-told : (r : ℕ) → Type 0
+rounds-told r = told (sites 4) empty (callsOf (rounds r)) (answersOf (rounds r)) ≡ answersOf (rounds r)
+
+four-told : rounds-told 4
+unfolding openedTurns rounds-told
+four-told = refl
+
+three-told : rounds-told 3
+unfolding openedTurns rounds-told
+three-told = refl
+
+pub goingOnCases : GoingOnCases
+unfolding openedTurns
+goingOnCases =
+    record {
+      taken = session (sites 4) (rounds 4) lawful-setup four-told;
+      held = ap (λ (l : Ledger). l .held) (is-left (rounds 4) four-told);
+      retiredCount = ap (λ (l : Ledger). length (l .retired)) (is-left (rounds 4) four-told);
+      stillDelivered = list-same _ _ 4 (λ i h. ap (λ (x : SlotRecord). x .sent .delivered) (record-is (rounds 4) four-told refl refl i h));
+      delivering = list-same _ _ 4 (λ i h. ap (λ (x : SlotRecord). x .made) (record-is (rounds 3) three-told refl refl i h));
+    }
