@@ -1,26 +1,30 @@
 -- The cases of retiring, by computing: what is long is compared by a test, which is fast. Assumes nothing.
 use mathlib.Core.Path.{_≡_, refl, sym, ap, _∙_}
-use mathlib.Core.Bool.{Bool, true}
+use mathlib.Core.Bool.{Bool, true, false}
 use mathlib.Core.Logic.{inr}
-use mathlib.Core.List.{List, []}
+use mathlib.Core.List.{List, [], _++_}
 use Prim.Native.Nat.{ℕ, _<_}
 use native.Mathlib.Omega.{arith}
-use lib.ListN.{length}
+use lib.Dec.{eqb}
+use lib.ListN.{length, drop}
 use Rattle.base.specs.Bytes.{Bytes, sameBytes}
 use Rattle.base.specs.List.{listBelow, someIn, passing}
 use Rattle.base.proofs.Bytes.{same-equal}
 use Rattle.base.proofs.List.{list-same}
 use Rattle.broadcast.specs.declared.Sent.{Sent}
 use Rattle.broadcast.specs.declared.SlotRecord.{SlotRecord}
-use Rattle.interpret.specs.Buffer.{recordIn}
-use Rattle.retire.specs.Retiring.{movedBytes, moveDown, movedParts, retiredTable, retiredRecords}
+use Rattle.table.specs.Layout.{layout}
+use Rattle.interpret.specs.Buffer.{partStart, partOf, recordIn}
+use Rattle.retire.specs.Retiring.{movedBytes, moveDown, movedParts, retiring, retiredTable, retiredRecords}
+use Rattle.watch.specs.Forks.{forks}
 use Rattle.agreement.specs.History.{slotRecord}
-use Rattle.agreement.specs.Ledger.{Ledger, empty}
-use Rattle.agreement.specs.Promises.{forked, RetiredClear, historyAt, ledgerOf}
+use Rattle.agreement.specs.Ledger.{Ledger, empty, viewIn}
+use Rattle.agreement.specs.Promises.{forked, NoCollision, RetiredClear, historyAt}
 use Rattle.agreement.proofs.Theorem.{promised}
 use Rattle.cases.specs.Toy.{toy}
 use Rattle.cases.specs.Run.{Turn, callsOf, answersOf, ledgerLeft, siteLeft, zeros}
 use Rattle.cases.specs.Blocks.{sites, four}
+use Rattle.cases.specs.Watch.{naming}
 use Rattle.cases.specs.Arrivals.{tableOf}
 use Rattle.cases.specs.Joins.{rising}
 use Rattle.cases.specs.Retiring.{RetiringOrderCases, afterFork, RetirableCases, lastOne, threeMarked, pairOf, rowsLeft, numbers, twins, LeftCases, afterwards, AfterwardsCases, forkRetired, ForkRetiredCases, inRound, makes, roundOf, rounds, GoingOnCases}
@@ -58,16 +62,37 @@ retirableCases =
       noLater = session (sites 4) _ refl refl;
     }
 
+table-left : retiredTable threeMarked numbers ≡ layout (sites 4) (record { retired = 1; held = 3; row = rowsLeft })
+unfolding openedRetiring
+table-left = same-equal (retiredTable threeMarked numbers) (layout (sites 4) (record { retired = 1; held = 3; row = rowsLeft })) refl
+
+records-left : retiredRecords threeMarked numbers ≡ partOf numbers 1 ++ (partOf numbers 2 ++ (partOf numbers 3 ++ drop (partStart 3) numbers))
+unfolding openedRetiring
+records-left = same-equal (retiredRecords threeMarked numbers) (partOf numbers 1 ++ (partOf numbers 2 ++ (partOf numbers 3 ++ drop (partStart 3) numbers))) refl
+
+-- a table and a buffer stay where a number is answered
+stays : (t : Bytes) → eqb (retiring t numbers .refusal) 0 ≡ false → (retiredTable t numbers ≡ t) × (retiredRecords t numbers ≡ numbers)
+unfolding retiredTable retiredRecords
+stays t e = (rw e, rw e)
+
+four-stays : (retiredTable four numbers ≡ four) × (retiredRecords four numbers ≡ numbers)
+unfolding openedRetiring
+four-stays = stays four refl
+
+twin-left : forks (retiredTable twins numbers) ≡ naming 0 0 true
+unfolding openedRetiring
+twin-left = refl
+
 pub leftCases : LeftCases
 unfolding openedRetiring
 leftCases =
     record {
-      table = same-equal _ _ refl;
-      records = same-equal _ _ refl;
-      refusedTable = refl;
-      refusedRecords = refl;
+      table = table-left;
+      records = records-left;
+      refusedTable = four-stays .0;
+      refusedRecords = four-stays .1;
       named = refl;
-      notNamed = refl;
+      notNamed = twin-left;
     }
 
 -- ---- ledgers
@@ -84,8 +109,8 @@ afterwardsCases =
       taken = session (sites 4) afterwards refl refl;
       retiredBlocks = ap (λ (l : Ledger). l .retired) (is-left afterwards refl);
       blocks = ap (λ (l : Ledger). l .blocks) (is-left afterwards refl);
-      notAgain = rw (is-left afterwards refl) refl;
-      newly = rw (is-left afterwards refl) refl;
+      notAgain = ap (λ (l : Ledger). viewIn toy l .row 0 .refersTo 1) (is-left afterwards refl);
+      newly = ap (λ (l : Ledger). viewIn toy l .row 2 .refersTo 1) (is-left afterwards refl);
     }
 
 pub forkRetiredCases : ForkRetiredCases
@@ -103,8 +128,8 @@ module _ (turns : List Turn) (e : told (sites 4) empty (callsOf turns) (answersO
   -- no two of its blocks share a digest, and so no retired one shares its own
   clear : RetiredClear toy (ledgerLeft (sites 4) turns)
   clear a b m n =
-      rw (is-left turns e) (no-collision (ledgerFrom turns .blocks) safe) a b
-      (promised toy (toyDigest .size) (sites 4) lawful-setup zeros [] (callsOf turns) [] .first .placed a .1 (inr m)) n
+      let none : NoCollision toy (ledgerLeft (sites 4) turns .blocks) = rw (is-left turns e) (no-collision (ledgerFrom turns .blocks) safe) in
+      none a b (promised toy (toyDigest .size) (sites 4) lawful-setup zeros [] (callsOf turns) [] .first .placed a .1 (inr m)) n
 
   record-is : (i : ℕ) → i < 4 → recordIn (siteLeft (sites 4) turns .records) i 0 ≡ slotRecord (sites 4) 0 (historyAt toy (ledgerFrom turns) i)
   unfolding ledgerFrom
@@ -112,15 +137,15 @@ module _ (turns : List Turn) (e : told (sites 4) empty (callsOf turns) (answersO
       record-told (sites 4) lawful-setup zeros (whole 0) (callsOf turns) (answersOf turns) e clear i 0 (omega arith)
       (marked-interpreted (ledgerFrom turns) 4 marks i h)
 
-rounds-told : (r : ℕ) → Type 0
+abbrev rounds-told : (r : ℕ) → Type 0
 rounds-told r = told (sites 4) empty (callsOf (rounds r)) (answersOf (rounds r)) ≡ answersOf (rounds r)
 
 four-told : rounds-told 4
-unfolding openedTurns rounds-told
+unfolding openedTurns
 four-told = refl
 
 three-told : rounds-told 3
-unfolding openedTurns rounds-told
+unfolding openedTurns
 three-told = refl
 
 pub goingOnCases : GoingOnCases
