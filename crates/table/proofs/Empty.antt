@@ -17,7 +17,7 @@ use Rattle.table.specs.Layout.{ownersOffset, retiredOffset, countOffset,
 use Rattle.table.specs.Fresh.{emptyTable}
 use Rattle.table.proofs.Formed.{Formed}
 
--- a site count, eight owners, no block, and n zeros
+-- a site count, eight owners, nothing retired, no block, and n zeros
 module _ (sites : ℕ) (owners : Bytes) (eight : length owners ≡ slotCount) (n : ℕ) where
   abbrev bare : Bytes
   bare = sites ∷ (owners ++ (0 ∷ 0 ∷ replicate n 0))
