@@ -3,13 +3,13 @@
 use mathlib.Core.Path.{_≡_, refl, sym, ap, _∙_, subst}
 use mathlib.Core.Logic.{_⊎_, inl, inr}
 use mathlib.Core.Bool.{true}
-use mathlib.Core.List.{List, [], _∷_, map, List·Memᴰ, List·Memᴰ·head, List·Memᴰ·tail, List·Memᴰ·not-nil, List·Memᴰ·cases-cons, Memᴰ·map, Memᴰ·of-map, Memᴰ·cast}
+use mathlib.Core.List.{List, [], _∷_, map, List·Memᴰ, List·Memᴰ·tail, List·Memᴰ·not-nil, List·Memᴰ·cases-cons, Memᴰ·map, Memᴰ·of-map, Memᴰ·cast}
 use Rattle.base.specs.Bytes.{Bytes}
 use Rattle.block.specs.Layout.{sequenceOf, referencesOf}
 use Rattle.agreement.specs.History.{History, blockOf, children, isParentOf, Ancestor}
 use Rattle.agreement.specs.Ancestry.{historyOf, AncestorIn}
 use Rattle.agreement.specs.Promises.{NoCollision}
-use Rattle.agreement.proofs.Admissions.{digestOf, Parented, Listed, Admitted, InTurn, Safe, admitted-in, child-in, child-listed, ancestor-in, one-history, is-history}
+use Rattle.agreement.proofs.Admissions.{digestOf, Listed, Admitted, InTurn, Safe, admitted-in, child-in, child-listed, ancestor-in, one-history, is-history}
 
 module _ (digest : Bytes → Bytes) where
   -- ---- one history for each block

@@ -1,7 +1,7 @@
 -- The call at the front of an encoded list: when there is one, and that the list is that call and those of the bytes behind it.
 -- Assumes nothing.
 use mathlib.Core.Path.{_≡_, refl, sym, ap, _∙_}
-use mathlib.Core.Bool.{Bool, true, false, _&&_}
+use mathlib.Core.Bool.{false}
 use mathlib.Core.Logic.{_≢_}
 use mathlib.Core.List.{List, [], _∷_}
 use Prim.Native.Nat.{ℕ, zero, suc, _+_, _-_, _≤_, _<_}
@@ -11,14 +11,10 @@ use lib.ListN.{length, getD, drop, length-drop}
 use borrow.Author.Tests.{eq-eqb, ne-eqb, eqb-true, eqb-false, le-leb, lt-leb, leb-true}
 use Rattle.base.specs.Bytes.{Bytes}
 use Rattle.base.specs.Word.{wordAt}
-use Rattle.base.proofs.Tests.{by-test, and-left, and-right}
+use Rattle.base.proofs.Tests.{by-test, and-left, and-right, and-false}
 use Rattle.agreement.specs.Ledger.{Call}
 use Rattle.agreement.specs.Encoding.{admissionByte, interpretationByte, retiringByte, admissionHeader, interpretationSize, retiringSize, admissionFirst, interpretationFirst, retiringFirst, firstSize, firstCall, firstCalls, callsIn}
 use Rattle.agreement.specs.Steps.{Whole}
-
-and-none : (t : Bool) → (t && false) ≡ false
-and-none true = refl
-and-none false = refl
 
 module _ (b : Bytes) where
   -- ---- the ways out of the code that reads it
@@ -30,9 +26,9 @@ module _ (b : Bytes) where
         lt-leb admissionHeader (length b) (omega arith),
         lt-leb interpretationSize (length b) (omega arith),
         lt-leb retiringSize (length b) h,
-        and-none (eqb (getD b 0 0) admissionByte),
-        and-none (eqb (getD b 0 0) interpretationByte),
-        and-none (eqb (getD b 0 0) retiringByte),
+        and-false (eqb (getD b 0 0) admissionByte),
+        and-false (eqb (getD b 0 0) interpretationByte),
+        and-false (eqb (getD b 0 0) retiringByte),
       )
 
   pub way-retiring : retiringSize ≤ length b → getD b 0 0 ≡ retiringByte → retiringSize ≡ firstSize b
@@ -46,8 +42,8 @@ module _ (b : Bytes) where
         lt-leb admissionHeader (length b) (omega arith),
         lt-leb interpretationSize (length b) h,
         ne-eqb (getD b 0 0) retiringByte n,
-        and-none (eqb (getD b 0 0) admissionByte),
-        and-none (eqb (getD b 0 0) interpretationByte),
+        and-false (eqb (getD b 0 0) admissionByte),
+        and-false (eqb (getD b 0 0) interpretationByte),
       )
 
   pub way-interpretation : interpretationSize ≤ length b → getD b 0 0 ≡ interpretationByte → interpretationSize ≡ firstSize b

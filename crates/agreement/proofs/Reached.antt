@@ -9,7 +9,7 @@ use native.Mathlib.Nat.{eq-or-lt-of-le}
 use native.Mathlib.Omega.{arith}
 use lib.Dec.{eqb}
 use lib.ListN.{length}
-use borrow.Author.Tests.{eqb-true, eqb-false, lt-ltb}
+use borrow.Author.Tests.{eqb-true, eqb-false}
 use Rattle.base.specs.Bytes.{Bytes, splice}
 use Rattle.base.proofs.Tests.{by-test, same-tests}
 use Rattle.block.specs.Limits.{referenceSize, slotCount}
@@ -18,7 +18,6 @@ use Rattle.block.specs.Reading.{reading, fieldsOf}
 use Rattle.block.specs.declared.Reading.the-variants.{Block}
 use Rattle.block.specs.Steps.{Shaped}
 use Rattle.block.proofs.Accepted.{reading-accepted}
-use Rattle.block.specs.declared.Answer.{Answer}
 use Rattle.setup.specs.Setup.{Setup, lawful}
 use Rattle.table.specs.View.{maxPlaces}
 use Rattle.table.specs.Layout.{setupOf, retiredOf, countOf, digestAt, siteAt, sequenceAt, requestAt, markAt, rowAt, viewOf, withMark}

@@ -3,14 +3,14 @@ use mathlib.Core.Path.{_≡_, sym, ap₂, _∙_, subst}
 use mathlib.Core.Bool.{true}
 use mathlib.Core.Logic.{_≢_}
 use mathlib.Core.List.{List, _∷_, _++_, List·Memᴰ}
-use Prim.Native.Nat.{ℕ, zero, suc, _-_, _≤_, _<_}
+use Prim.Native.Nat.{ℕ, zero, suc, _-_, _<_}
 use native.Mathlib.Nat.{le-of-suc-le-suc}
 use native.Mathlib.Omega.{arith}
 use lib.Dec.{ltb}
 use borrow.Author.Tests.{lt-ltb}
 use Rattle.base.specs.Bytes.{Bytes}
 use Rattle.base.proofs.Tests.{and-right}
-use Rattle.base.proofs.Members.{newest}
+use Rattle.base.proofs.Members.{newest, newest-all}
 use Rattle.setup.specs.Setup.{Setup}
 use Rattle.table.specs.View.{maxPlaces}
 use Rattle.table.specs.Layout.{countOf, rowAt}
@@ -21,7 +21,7 @@ use Rattle.agreement.specs.History.{History, children}
 use Rattle.agreement.specs.Ledger.{retire, Ledger, taken, viewIn}
 use Rattle.agreement.specs.Run.{Site}
 use Rattle.agreement.proofs.Admissions.{InTurn}
-use Rattle.agreement.proofs.Tied.{newest-all, Tied, few, some-held, refers-moved}
+use Rattle.agreement.proofs.Tied.{Tied, few, some-held, refers-moved}
 use Rattle.agreement.proofs.PlaceHistories.{PlaceHistories}
 
 module _ (digest : Bytes → Bytes) (s : Setup) (size : ℕ) (l : Ledger) (x : Site) (t : Tied digest s size l x) (g : PlaceHistories digest s l x)

@@ -1,16 +1,15 @@
 -- Each call keeps site and ledger together, and so does every list of calls, from the empty table of a lawful setup on. Assumes nothing.
 use mathlib.Core.Path.{_≡_, refl, sym, ap, ap₂, _∙_, subst}
-use mathlib.Core.Bool.{Bool, true, cond}
+use mathlib.Core.Bool.{Bool, true}
 use mathlib.Core.Logic.{_≢_, inl, inr}
 use mathlib.Core.List.{List, [], _∷_, _++_, List·Memᴰ, List·Memᴰ·not-nil, List·Memᴰ·cases-cons}
-use Prim.Native.Nat.{ℕ, suc, _+_, _≤_, _<_}
+use Prim.Native.Nat.{ℕ, _+_}
 use native.Mathlib.Omega.{arith}
 use lib.Dec.{eqb}
 use lib.ListN.{length}
 use borrow.Author.Tests.{eqb-true, eqb-false, eq-eqb, ne-eqb}
-use Rattle.base.specs.Bytes.{Bytes, splice}
+use Rattle.base.specs.Bytes.{Bytes}
 use Rattle.base.proofs.Tests.{by-test, true-not-false}
-use Rattle.base.proofs.Splice.{length-splice}
 use Rattle.block.specs.Limits.{referenceSize}
 use Rattle.block.specs.Reading.{reading, answerOf}
 use Rattle.block.specs.declared.Answer.{Answer}
@@ -18,18 +17,14 @@ use Rattle.block.specs.declared.Reading.{Reading}
 use Rattle.block.specs.declared.Reading.the-variants.{Block, Misshapen, BadRequest, RepeatedReference}
 use Rattle.setup.specs.Setup.{Setup}
 use Rattle.table.specs.View.{View}
-use Rattle.table.specs.Layout.{setupOf, viewOf, withMark}
 use Rattle.table.specs.Checks.{Check, answerTo}
 use Rattle.table.proofs.Checks.{past-check, elsewhere, never-answered}
 use Rattle.admission.specs.Admission.{heldChecks, admissionChecks, admission, admitted}
 use Rattle.admission.proofs.Promises.{promises}
-use Rattle.interpret.specs.Buffer.{partSize, partStart, partOf}
-use Rattle.interpret.specs.Interpretation.{written, interpretationChecks, interpretation, marked, recorded}
-use Rattle.interpret.proofs.Parts.{numbers-length, part-written, part-other}
-use Rattle.interpret.proofs.Kept.{whole, low, marked-passed, recorded-passed}
+use Rattle.interpret.specs.Interpretation.{interpretationChecks, interpretation, marked, recorded}
+use Rattle.interpret.proofs.Kept.{marked-passed, recorded-passed}
 use Rattle.retire.specs.Retiring.{retiringChecks, retiring, retiredTable, retiredRecords}
-use Rattle.agreement.specs.History.{History, slotRecord, meaning}
-use Rattle.agreement.specs.Ancestry.{historyOf}
+use Rattle.agreement.specs.History.{meaning}
 use Rattle.agreement.specs.Ledger.{Call, admit, interpret, retire, Ledger, taken, viewIn, ledgerAnswer, ledgerStep, ledgerAfter, ledgerAnswers}
 use Rattle.agreement.specs.Run.{Site, siteAnswer, siteStep, siteAfter, siteAnswers}
 use Rattle.agreement.proofs.Tied.{Tied, ledger-formed, answers-same, admitted-tied, interpreted-tied, retired-tied}

@@ -3,7 +3,7 @@
 use mathlib.Core.Path.{_≡_, refl, sym, ap, ap₂, _∙_, subst}
 use mathlib.Core.Bool.{true, _&&_}
 use mathlib.Core.Logic.{_⊎_, _↔_, inl, inr}
-use mathlib.Core.List.{List, [], _∷_, _++_, map, List·Memᴰ, List·Memᴰ·head, List·Memᴰ·not-nil, List·Memᴰ·append-cases, Memᴰ·append-left, Memᴰ·append-right, Memᴰ·cast, Memᴰ·map, Memᴰ·of-map}
+use mathlib.Core.List.{List, [], _++_, map, List·Memᴰ, List·Memᴰ·not-nil, List·Memᴰ·append-cases, Memᴰ·append-left, Memᴰ·append-right, Memᴰ·cast, Memᴰ·map, Memᴰ·of-map}
 use Prim.Native.Nat.{ℕ, zero, suc, _<_}
 use native.Mathlib.Nat.{eq-or-lt-of-le, le-of-suc-le-suc}
 use native.Mathlib.Omega.{arith}
@@ -12,13 +12,13 @@ use lib.ListN.{length}
 use borrow.Author.Tests.{lt-ltb}
 use Rattle.base.specs.Bytes.{Bytes}
 use Rattle.base.proofs.Tests.{and-right}
-use Rattle.base.proofs.Members.{newest, newest-has, newest-from, newest-same}
+use Rattle.base.proofs.Members.{newest, newest-has, newest-from, newest-same, map-newest}
 use Rattle.block.specs.Limits.{referenceSize}
 use Rattle.block.specs.Layout.{referencesOf}
 use Rattle.block.specs.Steps.{Shaped}
 use Rattle.setup.specs.Setup.{Setup}
 use Rattle.table.specs.View.{maxPlaces}
-use Rattle.table.specs.Layout.{setupOf, countOf, digestAt, rowAt, viewOf}
+use Rattle.table.specs.Layout.{setupOf, countOf, rowAt, viewOf}
 use Rattle.table.proofs.Views.{RowForm}
 use Rattle.table.proofs.Formed.{formed-of, formed-row, one-place}
 use Rattle.admission.specs.Admission.{lists}
@@ -32,11 +32,6 @@ use Rattle.agreement.proofs.Admissions.{digestOf, Admitted, InTurn, adm
 use Rattle.agreement.proofs.Ancestry.{OneHistory, history-is}
 use Rattle.agreement.proofs.PlaceHistories.{histories, history-in}
 use Rattle.agreement.proofs.Runs.{Together}
-
-map-newest : {A B : Type 0} (f : A → B) (g : ℕ → A) (k : ℕ) (rest : List A) → map f (newest g k ++ rest) ≡ newest (λ i. f (g i)) k ++ map f rest
-unfolding newest
-map-newest f g zero rest = refl
-map-newest {B = B} f g (suc k) rest = ap (λ (l : List B). f (g k) ∷ l) (map-newest f g k rest)
 
 -- what was checked of the history at a place, among those of the lower places
 turn-at : (digest : Bytes → Bytes) (f : ℕ → History) (k : ℕ) (rest : List History) → InTurn digest (newest f k ++ rest) → (i : ℕ) → i < k

@@ -1,21 +1,21 @@
 -- A site's table and its ledger: as long as both are fed the same calls, they show the same and answer the same. Nothing is asked of digests,
 -- and a block may have come before. Assumes nothing.
 use mathlib.Core.Path.{_≡_, refl, sym, ap, ap₂, _∙_, subst}
-use mathlib.Core.Bool.{Bool, true, false, cond, _&&_}
+use mathlib.Core.Bool.{Bool, true, cond, _&&_}
 use mathlib.Core.Logic.{inl, inr}
-use mathlib.Core.List.{List, [], _∷_, _++_, List·Memᴰ}
-use Prim.Native.Nat.{ℕ, zero, suc, _-_, _≤_, _<_}
+use mathlib.Core.List.{List, _∷_, _++_}
+use Prim.Native.Nat.{ℕ, suc, _-_, _≤_, _<_}
 use native.Mathlib.Nat.{eq-or-lt-of-le}
 use native.Mathlib.Omega.{arith}
 use lib.Dec.{eqb, ltb}
-use lib.ListN.{length, drop}
+use lib.ListN.{length}
 use borrow.Author.Tests.{eq-eqb, ne-eqb, lt-ltb, le-ltb, ltb-true, ltb-false}
 use Rattle.base.specs.Bytes.{Bytes}
-use Rattle.base.proofs.Tests.{by-test}
-use Rattle.base.proofs.Members.{newest, newest-same}
+use Rattle.base.proofs.Tests.{by-test, and-false}
+use Rattle.base.proofs.Members.{newest, newest-same, newest-all}
 use Rattle.block.specs.Layout.{siteOf, sequenceOf, requestFor}
 use Rattle.setup.specs.Setup.{Setup}
-use Rattle.table.specs.View.{maxPlaces, Row, View, SameRow, markedIf, SameBelow}
+use Rattle.table.specs.View.{maxPlaces, Row, SameRow, markedIf, SameBelow}
 use Rattle.table.specs.Layout.{setupOf, retiredOf, countOf, digestAt, rowAt, viewOf, withMark}
 use Rattle.table.specs.Rules.{heldInForm}
 use Rattle.table.specs.Form.{inForm}
@@ -31,21 +31,6 @@ use Rattle.retire.proofs.Promises.{promises as retiring-promises}
 use Rattle.agreement.specs.Ledger.{Call, admit, interpret, retire, Ledger, taken, retiredMark, viewIn, ledgerAnswer}
 use Rattle.agreement.specs.Run.{Site, siteAnswer}
 use Rattle.agreement.proofs.Same.{admission-same, interpretation-same, retiring-same}
-
--- the first of the values stands last
-newest-first : {A : Type 0} (f : ℕ → A) (k : ℕ) (rest : List A) → newest f (suc k) ++ rest ≡ newest (λ i. f (suc i)) k ++ (f 0 ∷ rest)
-unfolding newest
-newest-first f zero rest = refl
-newest-first {A} f (suc k) rest = ap (λ (l : List A). f (suc k) ∷ l) (newest-first f k rest)
-
-pub newest-all : {A : Type 0} (f : ℕ → A) (k : ℕ) (rest : List A) → 0 < k → newest f k ++ rest ≡ newest (λ i. f (suc i)) (k - 1) ++ (f 0 ∷ rest)
-newest-all {A} f k rest h =
-    let n : k ≡ suc (k - 1) = omega arith in
-    ap (λ (m : ℕ). newest f m ++ rest) n ∙ newest-first f (k - 1) rest
-
-and-false : (t : Bool) → (t && false) ≡ false
-and-false true = refl
-and-false false = refl
 
 module _ (digest : Bytes → Bytes) where
   -- the table shows what the ledger does; and the blocks ever admitted are those at the places and the retired ones

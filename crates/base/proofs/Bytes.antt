@@ -5,7 +5,7 @@ use mathlib.Core.Logic.{_≢_}
 use mathlib.Core.List.{List, [], _∷_, _++_}
 use Prim.Native.Nat.{ℕ, zero, suc, _+_, _<_, suc-le-suc}
 use native.Mathlib.Omega.{arith}
-use lib.Dec.{lit<}
+use lib.Dec.{eqb, lit<}
 use lib.ListN.{length, getD, take, drop, replicate}
 use lib.Seq.{getD-drop}
 use borrow.Author.Tests.{eqb-true, eq-eqb}
@@ -51,6 +51,11 @@ not-all-zero b i n = not-true-false (allZero b) (λ e. n (zero-at b e i))
 
 pub zeros-drop : (n : ℕ) (b : Bytes) → allZero b ≡ true → allZero (drop n b) ≡ true
 zeros-drop n b e = all-zero (drop n b) (λ i h. getD-drop n b i 0 ∙ zero-at b e (n + i))
+
+pub zeros-append : (a b : Bytes) → allZero a ≡ true → allZero b ≡ true → allZero (a ++ b) ≡ true
+unfolding allZero
+zeros-append [] b p q = q
+zeros-append (x ∷ a) b p q = rw (and-left (eqb x 0) (allZero a) p, zeros-append a b (and-right (eqb x 0) (allZero a) p) q)
 
 pub zeros-replicate : (b : Bytes) → allZero b ≡ true → b ≡ replicate (length b) 0
 unfolding allZero

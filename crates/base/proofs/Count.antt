@@ -23,6 +23,12 @@ pub count-past : (f : ℕ → Bool) (k : ℕ) → f k ≡ false → countBelow f
 unfolding countBelow
 count-past f k e = rw (add-one k, e) (omega arith)
 
+-- the first, and the others one lower
+pub count-first : (f : ℕ → Bool) (k : ℕ) → countBelow f (suc k) ≡ cond (f 0) 1 0 + countBelow (λ j. f (suc j)) k
+unfolding countBelow
+count-first f zero = refl
+count-first f (suc k) = let e = count-first f k in omega arith
+
 pub count-le : (f : ℕ → Bool) (k : ℕ) → countBelow f k ≤ k
 unfolding countBelow
 count-le f zero = omega arith

@@ -1,8 +1,8 @@
 -- An element of a list and its index; and the elements of a list of values below a bound, with the highest first or last. Assumes nothing.
-use mathlib.Core.Path.{_≡_, refl, sym, ap, ap₂}
+use mathlib.Core.Path.{_≡_, refl, sym, ap, ap₂, _∙_}
 use mathlib.Core.Logic.{inl, inr}
-use mathlib.Core.List.{List, [], _∷_, List·Memᴰ, List·Memᴰ·head, List·Memᴰ·tail, List·Memᴰ·not-nil, List·Memᴰ·cases-cons}
-use Prim.Native.Nat.{ℕ, zero, suc, _<_, suc-le-suc}
+use mathlib.Core.List.{List, [], _∷_, _++_, map, List·Memᴰ, List·Memᴰ·head, List·Memᴰ·tail, List·Memᴰ·not-nil, List·Memᴰ·cases-cons}
+use Prim.Native.Nat.{ℕ, zero, suc, _-_, _<_, suc-le-suc}
 use native.Mathlib.Nat.{eq-or-lt-of-le, le-of-suc-le-suc}
 use native.Mathlib.Omega.{arith}
 use lib.ListN.{length, getD}
@@ -61,3 +61,19 @@ module _ {A : Type 0} where
   unfolding newest
   newest-same f g zero h = refl
   newest-same f g (suc k) h = ap₂ (λ (x : A) (l : List A). x ∷ l) (h k (omega arith)) (newest-same f g k (λ i l. h i (omega arith)))
+
+  -- the first stands last
+  newest-first : (f : ℕ → A) (k : ℕ) (rest : List A) → newest f (suc k) ++ rest ≡ newest (λ i. f (suc i)) k ++ (f 0 ∷ rest)
+  unfolding newest
+  newest-first f zero rest = refl
+  newest-first f (suc k) rest = ap (λ (l : List A). f (suc k) ∷ l) (newest-first f k rest)
+
+  pub newest-all : (f : ℕ → A) (k : ℕ) (rest : List A) → 0 < k → newest f k ++ rest ≡ newest (λ i. f (suc i)) (k - 1) ++ (f 0 ∷ rest)
+  newest-all f k rest h =
+      let n : k ≡ suc (k - 1) = omega arith in
+      ap (λ (m : ℕ). newest f m ++ rest) n ∙ newest-first f (k - 1) rest
+
+pub map-newest : {A B : Type 0} (f : A → B) (g : ℕ → A) (k : ℕ) (rest : List A) → map f (newest g k ++ rest) ≡ newest (λ i. f (g i)) k ++ map f rest
+unfolding newest
+map-newest f g zero rest = refl
+map-newest {B = B} f g (suc k) rest = ap (λ (l : List B). f (g k) ∷ l) (map-newest f g k rest)

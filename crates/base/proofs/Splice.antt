@@ -6,7 +6,7 @@ use Prim.Native.Nat.{ℕ, _+_, _-_, _≤_, _<_}
 use native.Mathlib.Nat.{add-assoc, add-zero, le-of-eq}
 use native.Mathlib.Omega.{arith}
 use lib.ListN.{length, getD, take, drop, length-append, length-drop, take-append-drop, List·getD-append, drop-of-length-le}
-use lib.Seq.{sets, sets-eq, take-length, take-all, take-at, drop-at, drop-drop, getD-take, getD-drop, getD-append-add, length-take-le, take-append-le, drop-append-le}
+use lib.Seq.{sets, sets-eq, take-length, take-all, take-at, drop-at, drop-drop, getD-take, getD-drop, getD-append-add, length-take-le, take-append-le, drop-append-le, take-take}
 use Rattle.base.specs.Bytes.{Bytes, splice}
 use Rattle.base.proofs.Parts.{part-of-front}
 
@@ -94,3 +94,14 @@ pub length-splice : (b : Bytes) (at : ℕ) (part : Bytes) → at + length part �
 length-splice b at part fits =
     ap length (grouped b at part (omega arith)) ∙ length-append (front b at part (omega arith)) (drop (at + length part) b)
     ∙ omega (arith, front-length b at part (omega arith), length-drop (at + length part) b)
+
+-- a part put right before another
+pub splice-before : (b : Bytes) (at : ℕ) (a x : Bytes) → at + length a ≤ length b → splice (splice b (at + length a) x) at a ≡ splice b at (a ++ x)
+unfolding splice
+splice-before b at a x h =
+    let front : length (take (at + length a) b) ≡ at + length a = length-take-le (at + length a) b h in
+    let n : at + length a + length x ≡ at + length (a ++ x) = omega (arith, length-append a x) in
+    ap₂ (λ (u v : Bytes). u ++ (a ++ v))
+    (take-append-le at (take (at + length a) b) (x ++ drop (at + length a + length x) b) (omega arith) ∙ take-take at (at + length a) b (omega arith))
+    (drop-at (take (at + length a) b) (x ++ drop (at + length a + length x) b) (at + length a) front)
+    ∙ ap (λ (v : Bytes). take at b ++ v) (sym (append-assoc a x (drop (at + length a + length x) b)) ∙ ap (λ (m : ℕ). (a ++ x) ++ drop m b) n)

@@ -37,6 +37,10 @@ pub and-not-right : (a b : Bool) → (a && b) ≡ false → a ≡ true → b ≡
 and-not-right true b e y = e
 and-not-right false b e y = true-not-false y refl
 
+pub and-false : (a : Bool) → (a && false) ≡ false
+and-false true = refl
+and-false false = refl
+
 pub or-cases : (a b : Bool) → (a || b) ≡ true → (a ≡ true) ⊎ (b ≡ true)
 or-cases true b e = inl refl
 or-cases false b e = inr e

@@ -1,5 +1,5 @@
 -- The cases of retiring, by computing: what is long is compared by a test, which is fast. Assumes nothing.
-use mathlib.Core.Path.{_≡_, refl, sym, ap, _∙_}
+use mathlib.Core.Path.{_≡_, refl, ap}
 use mathlib.Core.Bool.{Bool, true, false}
 use mathlib.Core.Logic.{inr}
 use mathlib.Core.List.{List, [], _++_}
@@ -7,11 +7,10 @@ use Prim.Native.Nat.{ℕ, _<_}
 use native.Mathlib.Omega.{arith}
 use lib.Dec.{eqb}
 use lib.ListN.{length, drop}
-use Rattle.base.specs.Bytes.{Bytes, sameBytes}
-use Rattle.base.specs.List.{listBelow, someIn, passing}
+use Rattle.base.specs.Bytes.{Bytes}
+use Rattle.base.specs.List.{someIn, passing}
 use Rattle.base.proofs.Bytes.{same-equal}
 use Rattle.base.proofs.List.{list-same}
-use Rattle.broadcast.specs.declared.Sent.{Sent}
 use Rattle.broadcast.specs.declared.SlotRecord.{SlotRecord}
 use Rattle.table.specs.Layout.{layout}
 use Rattle.interpret.specs.Buffer.{partStart, partOf, recordIn}
@@ -29,7 +28,7 @@ use Rattle.cases.specs.Arrivals.{tableOf}
 use Rattle.cases.specs.Joins.{rising}
 use Rattle.cases.specs.Retiring.{RetiringOrderCases, afterFork, RetirableCases, lastOne, threeMarked, pairOf, rowsLeft, numbers, twins, LeftCases, afterwards, AfterwardsCases, forkRetired, ForkRetiredCases, inRound, makes, roundOf, rounds, GoingOnCases}
 use Rattle.cases.proofs.Toy.{toyDigest}
-use Rattle.cases.proofs.Opened.{openedLedger, openedTable, openedWatch}
+use Rattle.cases.proofs.Opened.{openedLedger, openedWatch}
 use Rattle.cases.proofs.Told.{told, session, ledgerFrom, ledger-left, allMarked, marked-interpreted, whole, record-told}
 use Rattle.cases.proofs.Premises.{lawful-setup, collision, no-collision}
 

@@ -25,7 +25,7 @@ use Rattle.agreement.specs.Promises.{forked}
 use Rattle.cases.specs.Toy.{toy, request, block}
 use Rattle.cases.specs.Run.{good, placed, done, answers, Turn, _giving_, ledgerLeft, siteLeft, Session, Step, _making_, sends, echoes, readies, delivers, arriving}
 use Rattle.cases.specs.Blocks.{sites, fresh, unlawful, first, fork, second, fourSites, echoing, four}
-use Rattle.cases.specs.Form.{changed, marked}
+use Rattle.cases.specs.Form.{marked}
 use Rattle.cases.specs.Interpretation.{lent}
 use Rattle.cases.specs.Watch.{naming}
 use Rattle.cases.specs.Arrivals.{tableOf}

@@ -5,7 +5,6 @@ use mathlib.Core.Bool.{true}
 use mathlib.Core.List.{List, [], _∷_, _++_, append-assoc}
 use Prim.Native.Nat.{ℕ, suc, _+_, _-_, _*_, _≤_, _<_}
 use native.Mathlib.Omega.{arith}
-use lib.Dec.{eqb}
 use lib.ListN.{length, getD, take, drop, replicate, length-append, length-replicate, length-drop}
 use lib.Seq.{drop-at, length-take-le, drop-append-add}
 use Rattle.base.specs.Mask.{maskBelow, inMask}
@@ -13,8 +12,7 @@ use Rattle.base.specs.List.{listBelow}
 use Rattle.base.specs.Bytes.{Bytes, allZero, parts, splice}
 use Rattle.base.specs.Number.{number}
 use Rattle.base.specs.Word.{wordSize, word, wordBytes}
-use Rattle.base.proofs.Tests.{and-left, and-right}
-use Rattle.base.proofs.Bytes.{replicate-zeros}
+use Rattle.base.proofs.Bytes.{zeros-append, replicate-zeros}
 use Rattle.base.proofs.List.{length-list, list-at}
 use Rattle.base.proofs.Mask.{mask-below}
 use Rattle.base.proofs.Sets.{mask-has}
@@ -29,11 +27,6 @@ use Rattle.table.proofs.Views.{row-sym, row-trans}
 use Rattle.table.proofs.RowBytes.{rowIn, rowPart, row-in, row-bytes-same, references-put}
 use Rattle.table.proofs.Canonical.{Canonical}
 use Rattle.retire.specs.Retiring.{movedRow, withoutFirst, movedBytes, movedRows, moveDown}
-
-zeros-append : (a b : Bytes) → allZero a ≡ true → allZero b ≡ true → allZero (a ++ b) ≡ true
-unfolding allZero
-zeros-append [] b p q = q
-zeros-append (x ∷ a) b p q = rw (and-left (eqb x 0) (allZero a) p, zeros-append a b (and-right (eqb x 0) (allZero a) p) q)
 
 -- ---- one row
 

@@ -1,6 +1,6 @@
 -- Counts of what stands one place lower, and the parts of a buffer one place lower. Assumes nothing.
-use mathlib.Core.Path.{_≡_, refl, sym, ap, _∙_}
-use mathlib.Core.Bool.{Bool, false, cond, _&&_}
+use mathlib.Core.Path.{_≡_, sym, ap, _∙_}
+use mathlib.Core.Bool.{Bool, false, _&&_}
 use mathlib.Core.List.{List}
 use Prim.Native.Nat.{ℕ, zero, suc, _+_, _-_, _≤_, _<_}
 use native.Mathlib.Omega.{arith}
@@ -11,7 +11,7 @@ use borrow.Author.Tests.{le-ltb}
 use Rattle.base.specs.Bytes.{splice}
 use Rattle.base.specs.Count.{countBelow}
 use Rattle.base.proofs.Tests.{and-right}
-use Rattle.base.proofs.Count.{count-mono}
+use Rattle.base.proofs.Count.{count-first, count-mono}
 use Rattle.base.proofs.Parts.{part-of-front}
 use Rattle.base.proofs.Splice.{drop-splice, take-splice, length-splice}
 use Rattle.table.specs.View.{maxPlaces}
@@ -20,12 +20,6 @@ use Rattle.retire.specs.Retiring.{movedParts}
 use Rattle.retire.specs.Promises.{Moved}
 
 -- ---- counts
-
--- the first, and the others one lower
-pub count-first : (f : ℕ → Bool) (k : ℕ) → countBelow f (suc k) ≡ cond (f 0) 1 0 + countBelow (λ j. f (suc j)) k
-unfolding countBelow
-count-first f zero = refl
-count-first f (suc k) = let e = count-first f k in omega arith
 
 -- what moved down is counted no more often than before
 pub count-moved : (f : ℕ → Bool) (k : ℕ) → countBelow (λ j. ltb (suc j) k && f (suc j)) k ≤ countBelow f k

@@ -4,7 +4,7 @@ use mathlib.Core.Path.{_≡_, refl, sym, ap, _∙_, subst}
 use mathlib.Core.Bool.{Bool, true, false, cond, not, _&&_, _||_}
 use mathlib.Core.Logic.{_≢_, inl, inr}
 use mathlib.Core.List.{List}
-use Prim.Native.Nat.{ℕ, suc, _+_, _-_, _<_, suc-le-suc}
+use Prim.Native.Nat.{ℕ, suc, _+_, _<_, suc-le-suc}
 use native.Mathlib.Nat.{le-of-suc-le-suc}
 use native.Mathlib.Omega.{arith}
 use lib.Dec.{eqb, ltb}
@@ -14,7 +14,7 @@ use Rattle.base.specs.Search.{anyBelow}
 use Rattle.base.specs.Bytes.{Bytes}
 use Rattle.base.proofs.Tests.{by-test, and-left, and-right, and-not-right, or-cases, or-true}
 use Rattle.base.proofs.Search.{any-false-at}
-use Rattle.base.proofs.Count.{count-same}
+use Rattle.base.proofs.Count.{count-first, count-same}
 use Rattle.setup.specs.Setup.{Setup}
 use Rattle.table.specs.View.{maxPlaces, Row, interpreted, View}
 use Rattle.table.specs.Layout.{setupOf, countOf, viewOf}
@@ -28,7 +28,7 @@ use Rattle.table.proofs.Checks.{numbered, AllHold, all-hold}
 use Rattle.interpret.specs.Buffer.{bufferSize}
 use Rattle.retire.specs.Retiring.{waitsForFirst, firstInterpreted, referrersInterpreted, siteGoesOn, retirable, movedRow, withoutFirst, moveDown, movedParts, retiringChecks, retiring, retiredTable, retiredRecords}
 use Rattle.retire.specs.Promises.{Moved}
-use Rattle.retire.proofs.Moving.{count-first, count-moved, moved}
+use Rattle.retire.proofs.Moving.{count-moved, moved}
 use Rattle.retire.proofs.Lowered.{down-shows, down-canonical}
 
 -- ---- what may be retired

@@ -2,15 +2,15 @@
 use mathlib.Core.Path.{_≡_, refl, sym, ap, ap₂, _∙_}
 use mathlib.Core.Bool.{Bool, true, false, _&&_}
 use mathlib.Core.Logic.{_≢_}
-use mathlib.Core.List.{List, [], _∷_, _++_, append-assoc, append-nil}
+use mathlib.Core.List.{List, [], _∷_, _++_, append-nil}
 use Prim.Native.Nat.{ℕ, suc, _+_, _-_, _*_, _/_, _%_, _^_, _≤_, _<_}
 use native.Mathlib.Numerals.{add-one}
 use native.Mathlib.Omega.{arith}
 use native.Mathlib.Nat.{div-eq-of-lt}
 use lib.Dec.{eqb, ltb}
 use lib.Pow.{pow-mono}
-use lib.ListN.{length, getD, take, drop, set, replicate, length-append, length-drop, length-replicate, take-append-drop}
-use lib.Seq.{drop-at, drop-drop, take-take, take-suc, take-suc-set, drop-set-lt, getD-drop, take-append-le, length-take-le, drop-length}
+use lib.ListN.{length, getD, take, drop, set, replicate, length-drop, length-replicate, take-append-drop}
+use lib.Seq.{drop-drop, take-suc, take-suc-set, drop-set-lt, getD-drop, length-take-le, drop-length}
 use borrow.Author.Tests.{eq-eqb, ne-eqb, lt-ltb, ltb-true, ltb-false}
 use Rattle.base.specs.Mask.{maskBelow, bitAt, inMask}
 use Rattle.base.specs.List.{listBelow}
@@ -20,7 +20,7 @@ use Rattle.base.proofs.Tests.{by-test}
 use Rattle.base.proofs.Mask.{bit-suc}
 use Rattle.base.proofs.Sets.{mask-members, mask-same}
 use Rattle.base.proofs.Parts.{joined-list-more}
-use Rattle.base.proofs.Splice.{drop-splice, splice-append}
+use Rattle.base.proofs.Splice.{drop-splice, splice-append, splice-before}
 use Rattle.block.specs.declared.Answer.{Answer}
 use Rattle.table.specs.View.{maxPlaces}
 use Rattle.table.specs.Layout.{retiredOffset, rowsOffset, referencesOffset, rowSize, rowStart, tableSize, countOf, referencesAt, rowAt, viewOf}
@@ -32,18 +32,6 @@ use Rattle.interpret.specs.Buffer.{partSize, bufferSize}
 use Rattle.retire.specs.Retiring.{retirable, movedRow, movedBytes, movedRows, moveDown, movedParts, retiring, retiredTable, retiredRecords}
 use Rattle.retire.specs.Steps.{LastPlace}
 use Rattle.retire.proofs.Lowered.{rows-length}
-
--- ---- a part put right before another
-
-splice-before : (b : Bytes) (at : ℕ) (a x : Bytes) → at + length a ≤ length b → splice (splice b (at + length a) x) at a ≡ splice b at (a ++ x)
-unfolding splice
-splice-before b at a x h =
-    let front : length (take (at + length a) b) ≡ at + length a = length-take-le (at + length a) b h in
-    let n : at + length a + length x ≡ at + length (a ++ x) = omega (arith, length-append a x) in
-    ap₂ (λ (u v : Bytes). u ++ (a ++ v))
-    (take-append-le at (take (at + length a) b) (x ++ drop (at + length a + length x) b) (omega arith) ∙ take-take at (at + length a) b (omega arith))
-    (drop-at (take (at + length a) b) (x ++ drop (at + length a + length x) b) (at + length a) front)
-    ∙ ap (λ (v : Bytes). take at b ++ v) (sym (append-assoc a x (drop (at + length a + length x) b)) ∙ ap (λ (m : ℕ). (a ++ x) ++ drop m b) n)
 
 -- ---- a row
 
