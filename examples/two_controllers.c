@@ -14,7 +14,7 @@
 enum { SITES = 4, SLOT = 0, NUMBER = 42 };
 
 /* Where the fields of a table stand, and those of a place within its row: docs/FORMATS.md. */
-enum { COUNT = 9, ROWS = 10 };
+enum { COUNT = 10, ROWS = 11 };
 enum { SITE = 32, SEQUENCE = 33, MARK = 59, ROW_BYTES = 60 };
 
 /* What is wrong when a join is refused, and what to do. */

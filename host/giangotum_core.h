@@ -1,6 +1,6 @@
 /* The table and the records of a campaign, for C and C++ programs that keep them: an empty table, its form, admission,
- * interpretation, the watch for forks, a site's next block, a whole list of calls at once; for programs that follow up to
- * four campaigns, arrivals with a shelf on which blocks wait for what they refer to; and the joining of two controllers.
+ * interpretation, retiring, the watch for forks, a site's next block, a whole list of calls at once; for programs that follow
+ * up to four campaigns, arrivals with a shelf on which blocks wait for what they refer to; and the joining of two controllers.
  *
  * Link with libc_interface.a (`make host` builds it), or with -lgiangotum where it is installed. Every function here is
  * proved to meet its contract for all bytes, all lengths and all numbers: none crashes, none reads or writes outside the
@@ -24,7 +24,7 @@ extern "C" {
 #endif
 
 /* Bytes of a table. */
-#define GT_TABLE_BYTES 3850
+#define GT_TABLE_BYTES 3851
 /* The most blocks that a table holds: places 0 to 63. */
 #define GT_MAX_PLACES 64
 /* Slots, and so owners. */
@@ -100,12 +100,23 @@ gt_answer gt_admit(uint8_t *table, size_t table_length, const uint8_t *block, si
  *   15, value the lowest such place: it refers to a block that is not interpreted. */
 gt_answer gt_interpret(uint8_t *table, size_t table_length, size_t place, uint16_t *records, size_t records_length);
 
-/* The sites with two held blocks of one sequence number. The table is only read.
+/* Retires the block at place 0, so that a campaign can go on past GT_MAX_PLACES blocks: every other block and its
+ * GT_PART_NUMBERS numbers of the buffer move down by one place, references to the retired block vanish, and the table keeps
+ * that it has retired something. The numbers of the buffer from the new count on stay. Until it is admitted again, a block that
+ * refers to the retired one is refused with 9. The value is 0.
+ *   2: the table is not in form;
+ *   12: the record buffer is not of GT_RECORDS_NUMBERS numbers;
+ *   13: no block is held;
+ *   29: place 0 can't be retired: it is not interpreted, or a held block that refers to it is not interpreted, or its site has
+ *       no held, interpreted block of greater sequence number. */
+gt_answer gt_retire(uint8_t *table, size_t table_length, uint16_t *records, size_t records_length);
+
+/* The sites with two held blocks of one sequence number; a retired block is not held. The table is only read.
  *   2: the table is not in form. */
 gt_forked_sites gt_forks(const uint8_t *table, size_t table_length);
 
-/* All blocks that the block at a place rests on: those that it refers to, and theirs; itself left out. The table is only
- * read.
+/* All held blocks that the block at a place rests on: those that it refers to, and theirs; itself left out. The table is
+ * only read.
  *   2: the table is not in form;
  *   13: the place is not below the table's count. */
 gt_ancestor_places gt_ancestors(const uint8_t *table, size_t table_length, size_t place);
@@ -119,14 +130,16 @@ gt_ancestor_places gt_ancestors(const uint8_t *table, size_t table_length, size_
  *   3: the request list is over 24 bytes or no multiple of 3;
  *   6, value the index of the first such request: a slot over 7, or number 0;
  *   16: two held blocks of the site share a sequence number;
+ *   30: the site's greatest sequence number is 65,535, and no number follows;
  *   17, value the length needed: the output is shorter than the block. */
 gt_answer gt_build(const uint8_t *table, size_t table_length, uint8_t site, const uint8_t *requests, size_t requests_length,
                    uint8_t *output, size_t output_length);
 
-/* Runs an encoded list of calls, one after the other, as if gt_admit and gt_interpret had been called, and gives how many
- * ran. A call is
- *   0, verdict, length of the block (8 bytes, low byte first), the block's bytes: an admission; or
- *   1, place (8 bytes, low byte first): an interpretation.
+/* Runs an encoded list of calls, one after the other, as if gt_admit, gt_interpret and gt_retire had been called, and gives
+ * how many ran. A call is
+ *   0, verdict, length of the block (8 bytes, low byte first), the block's bytes: an admission;
+ *   1, place (8 bytes, low byte first): an interpretation; or
+ *   2: a retiring.
  * A call that is cut, or that begins with another byte, ends the list. The answer of call i is put at answers[2 * i]
  * (refusal) and answers[2 * i + 1] (value) where both are within the buffer; all other elements stay. It refuses nothing. */
 size_t gt_replay(uint8_t *table, size_t table_length, uint16_t *records, size_t records_length, const uint8_t *calls,
@@ -163,6 +176,7 @@ gt_arrival gt_arrive(uint8_t *table, size_t table_length, uint8_t *shelf, size_t
  * is how many blocks the result holds. The right's table and the two sides' records are only read.
  *   2: the left's table is not in form, or the right's;
  *   12: one of the three record buffers is not of GT_RECORDS_NUMBERS numbers;
+ *   31: the left's table has retired something, or the right's;
  *   23: the setups differ: n or an owner;
  *   24, value the lowest such place of the left: a block of the right has the same digest and another site, sequence number,
  *       counted request or other references;

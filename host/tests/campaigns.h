@@ -6,7 +6,7 @@
 #include "giangotum_core.h"
 
 /* Where the fields of a table stand, and those of a place within its row. */
-enum { OWNERS = 1, COUNT = 9, ROWS = 10 };
+enum { OWNERS = 1, RETIRED = 9, COUNT = 10, ROWS = 11 };
 enum { SITE = 32, SEQUENCE = 33, REFERENCES = 35, REQUESTS = 43, MARK = 59, ROW_BYTES = 60 };
 
 /* ---- Blocks */

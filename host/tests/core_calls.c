@@ -82,8 +82,8 @@ static void check_fresh(void)
     check("fresh, 7 owners", fresh_refused(4, nine_zeros, 7, GT_TABLE_BYTES, 1));
     check("fresh, 9 owners", fresh_refused(4, nine_zeros, 9, GT_TABLE_BYTES, 1));
     check("fresh, no owners at NULL", is(gt_fresh(4, NULL, 0, t.bytes, GT_TABLE_BYTES), 1, 0) && same(&t, &before));
-    check("fresh, table of 3849 bytes", fresh_refused(4, nine_zeros, GT_SLOTS, GT_TABLE_BYTES - 1, 2));
-    check("fresh, table of 3851 bytes", fresh_refused(4, nine_zeros, GT_SLOTS, GT_TABLE_BYTES + 1, 2));
+    check("fresh, table of 3850 bytes", fresh_refused(4, nine_zeros, GT_SLOTS, GT_TABLE_BYTES - 1, 2));
+    check("fresh, table of 3852 bytes", fresh_refused(4, nine_zeros, GT_SLOTS, GT_TABLE_BYTES + 1, 2));
     check("fresh, table of 0 bytes", fresh_refused(4, nine_zeros, GT_SLOTS, 0, 2));
     check("fresh, table of 0 bytes at NULL", is(gt_fresh(4, nine_zeros, GT_SLOTS, NULL, 0), 2, 0));
     check("fresh: 1 before 2", fresh_refused(2, nine_zeros, GT_SLOTS, 0, 1));
@@ -148,8 +148,8 @@ static void check_form(void)
     check("form, all ones", !in_form(filled_with(255)));
     check("form, 0 bytes at NULL", !gt_in_form(NULL, 0));
     check("form, 0 bytes", !in_form_of_length(empty_table(4), 0));
-    check("form, 3849 bytes", !in_form_of_length(empty_table(4), GT_TABLE_BYTES - 1));
-    check("form, 3851 bytes", !in_form_of_length(empty_table(4), GT_TABLE_BYTES + 1));
+    check("form, 3850 bytes", !in_form_of_length(empty_table(4), GT_TABLE_BYTES - 1));
+    check("form, 3852 bytes", !in_form_of_length(empty_table(4), GT_TABLE_BYTES + 1));
     check("form, n 3", !in_form(empty_table(3)));
     t = empty_table(4);
     t.bytes[OWNERS + 7] = 4;
@@ -263,9 +263,9 @@ static void check_table_refused(void)
     check("admission, all zeros", refused(t, first_block(), 2, 0));
     check("admission, a table of 0 bytes at NULL", is(gt_admit(NULL, 0, first_block().bytes, 5, 1), 2, 0));
     check("admission, a table of 0 bytes", refused_of_length(empty_table(4), 0, first_block(), 1, 2, 0));
-    check("admission, a table of 3849 bytes",
+    check("admission, a table of 3850 bytes",
           refused_of_length(empty_table(4), GT_TABLE_BYTES - 1, first_block(), 1, 2, 0));
-    check("admission, a table of 3851 bytes",
+    check("admission, a table of 3852 bytes",
           refused_of_length(empty_table(4), GT_TABLE_BYTES + 1, first_block(), 1, 2, 0));
     check("admission, a table whose last mark is 2", refused(changed_at(MARK, 2), block_of(2, 0), 2, 0));
     check("admission: 2 before 3", refused(t, of_length(first_block(), 4), 2, 0));

@@ -174,11 +174,11 @@ static void check_form(void)
     table good = chain(4, 2), bad = with_count(chain(4, 2), 65), unmarked = changed(chain(4, 2), 1, MARK, 1);
 
     check("join, a left of 0 bytes", left_of_length_refused(0));
-    check("join, a left of 3849 bytes", left_of_length_refused(GT_TABLE_BYTES - 1));
-    check("join, a left of 3851 bytes", left_of_length_refused(GT_TABLE_BYTES + 1));
+    check("join, a left of 3850 bytes", left_of_length_refused(GT_TABLE_BYTES - 1));
+    check("join, a left of 3852 bytes", left_of_length_refused(GT_TABLE_BYTES + 1));
     check("join, a right of 0 bytes", right_of_length_refused(0));
-    check("join, a right of 3849 bytes", right_of_length_refused(GT_TABLE_BYTES - 1));
-    check("join, a right of 3851 bytes", right_of_length_refused(GT_TABLE_BYTES + 1));
+    check("join, a right of 3850 bytes", right_of_length_refused(GT_TABLE_BYTES - 1));
+    check("join, a right of 3852 bytes", right_of_length_refused(GT_TABLE_BYTES + 1));
     check("join, nothing lent", nothing_lent());
     check("join, a left of zeros", refused(filled_with(0), good, 2, 0));
     check("join, a right of zeros", refused(good, filled_with(0), 2, 0));

@@ -105,7 +105,7 @@ static void check_refused(void)
 
     row(&marked, 0)[MARK] = 1;
     check("interpretation, all zeros", refused(unlawful, 0, 2, 0));
-    check("interpretation, a table of 3849 bytes",
+    check("interpretation, a table of 3850 bytes",
           refused_of_length(t, GT_TABLE_BYTES - 1, 0, GT_RECORDS_NUMBERS, 2, 0));
     check("interpretation, a table of 0 bytes at NULL", is(gt_interpret(NULL, 0, 0, &none, 1), 2, 0));
     check("interpretation, 20479 numbers", refused_of_length(t, GT_TABLE_BYTES, 0, GT_RECORDS_NUMBERS - 1, 12, 0));

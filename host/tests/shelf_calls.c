@@ -254,8 +254,8 @@ static void check_shelf_and_table(void)
     check("arrival, a shelf not in form and a block that would wait", refused(bad_shelf, 0, lost_block(2), 2));
     check("arrival, a shelf of ones", refused(state_of(empty_table(4), of_byte(255)), 0, first_block(), 2));
     check("arrival, a table of 0 bytes", table_of_length_refused(0));
-    check("arrival, a table of 3849 bytes", table_of_length_refused(GT_TABLE_BYTES - 1));
-    check("arrival, a table of 3851 bytes", table_of_length_refused(GT_TABLE_BYTES + 1));
+    check("arrival, a table of 3850 bytes", table_of_length_refused(GT_TABLE_BYTES - 1));
+    check("arrival, a table of 3852 bytes", table_of_length_refused(GT_TABLE_BYTES + 1));
     check("arrival, a table not in form", refused(bad_table, 0, first_block(), 2));
     check("arrival, a table not in form and a block that would wait", refused(bad_table, 0, lost_block(2), 2));
     check("arrival: 2 of the shelf before 3", refused(bad_shelf, 0, of_length(first_block(), 4), 2));

@@ -5,12 +5,12 @@ from programs import ROOT, output_of
 # Calls of each header, so that what it declares can be used.
 HEADERS = {"giangotum.h": "gt_read_block(0, 0).answer.refusal",
            "giangotum_core.h": "gt_in_form(0, 0) + gt_shelf_in_form(0, 0) + (int)gt_arrive(0, 0, 0, 0, 4, 0, 0, 1, 0, 0).ended"
-                               " + gt_join(0, 0, 0, 0, 0, 0, 0, 0, 0, 0).refusal"}
+                               " + gt_join(0, 0, 0, 0, 0, 0, 0, 0, 0, 0).refusal + gt_retire(0, 0, 0, 0).refusal"}
 WARNINGS = ["-Wall", "-Wextra", "-Wpedantic", "-Werror", "-fsyntax-only"]
 
 # The layouts of docs/FORMATS.md; and the most places that a campaign holds are those that the others' reserved ones leave.
 AGREEMENTS = ["GT_MAX_BLOCK_BYTES == 5 + GT_DIGEST_BYTES * GT_MAX_REFERENCES + 3 * GT_MAX_REQUESTS",
-              "GT_TABLE_BYTES == 10 + GT_MAX_PLACES * (GT_DIGEST_BYTES + 1 + 2 + GT_MAX_PLACES / 8 + 2 * GT_SLOTS + 1)",
+              "GT_TABLE_BYTES == 1 + GT_SLOTS + 1 + 1 + GT_MAX_PLACES * (GT_DIGEST_BYTES + 1 + 2 + GT_MAX_PLACES / 8 + 2 * GT_SLOTS + 1)",
               "GT_PART_NUMBERS == GT_SLOTS * GT_RECORD_NUMBERS",
               "GT_RECORDS_NUMBERS == GT_MAX_PLACES * GT_PART_NUMBERS",
               "GT_SHELF_BYTES == 1 + GT_SHELF_PLACES * (1 + 2 + GT_MAX_BLOCK_BYTES)",

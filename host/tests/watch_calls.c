@@ -217,8 +217,8 @@ static void check_forks(void)
     check("forks, places 62 and 63", forked(forked_at_the_end(), 1, 1, false));
 
     check("forks, all zeros", forks_refused(filled_with(0), GT_TABLE_BYTES));
-    check("forks, a table of 3849 bytes", forks_refused(t, GT_TABLE_BYTES - 1));
-    check("forks, a table of 3851 bytes", forks_refused(t, GT_TABLE_BYTES + 1));
+    check("forks, a table of 3850 bytes", forks_refused(t, GT_TABLE_BYTES - 1));
+    check("forks, a table of 3852 bytes", forks_refused(t, GT_TABLE_BYTES + 1));
     check("forks, a table of 0 bytes", forks_refused(t, 0));
     check("forks, a table of 0 bytes at NULL",
           of_nothing.refusal == 2 && of_nothing.sites == 0 && of_nothing.count == 0 && !of_nothing.at_most_f);
@@ -263,8 +263,8 @@ static void check_ancestors(void)
     check("ancestors, place 2^32", no_such_place(full, (size_t)1 << 32));
     check("ancestors, the greatest place", no_such_place(full, SIZE_MAX));
     check("ancestors, all zeros", ancestors_refused(filled_with(0), GT_TABLE_BYTES, 0, 2));
-    check("ancestors, a table of 3849 bytes", ancestors_refused(t, GT_TABLE_BYTES - 1, 0, 2));
-    check("ancestors, a table of 3851 bytes", ancestors_refused(t, GT_TABLE_BYTES + 1, 0, 2));
+    check("ancestors, a table of 3850 bytes", ancestors_refused(t, GT_TABLE_BYTES - 1, 0, 2));
+    check("ancestors, a table of 3852 bytes", ancestors_refused(t, GT_TABLE_BYTES + 1, 0, 2));
     check("ancestors, a table of 0 bytes", ancestors_refused(t, 0, 0, 2));
     check("ancestors, a table of 0 bytes at NULL",
           of_nothing.refusal == 2 && of_nothing.places == 0 && of_nothing.count == 0);
@@ -436,8 +436,8 @@ static void check_table_refused(void)
     output o = untouched();
 
     check("building, all zeros", refused(unlawful, 0, no_requests, 2, 0));
-    check("building, a table of 3849 bytes", refused_of_length(t, GT_TABLE_BYTES - 1, 0, no_requests, 541, 2, 0));
-    check("building, a table of 3851 bytes", refused_of_length(t, GT_TABLE_BYTES + 1, 0, no_requests, 541, 2, 0));
+    check("building, a table of 3850 bytes", refused_of_length(t, GT_TABLE_BYTES - 1, 0, no_requests, 541, 2, 0));
+    check("building, a table of 3852 bytes", refused_of_length(t, GT_TABLE_BYTES + 1, 0, no_requests, 541, 2, 0));
     check("building, a table of 0 bytes", refused_of_length(t, 0, 0, no_requests, 541, 2, 0));
     check("building, nothing lent", is(gt_build(NULL, 0, 0, NULL, 0, NULL, 0), 2, 0));
     /* Site 2 has place 2, which refers to 0: the next block refers to it and to three others. */

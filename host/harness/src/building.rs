@@ -1,4 +1,4 @@
-//! Document 01, "Building": a site's next block. The table is only read.
+//! Document 01, "Building", with the last sequence number of document 02: a site's next block. The table is only read.
 
 use crate::block::{list_of, Request};
 use crate::checks::Check;
@@ -36,13 +36,14 @@ pub struct Building {
     pub write: fn(&mut [u8], &[u8]),
 }
 
-/// "Checks 2, 4, 3, 6, 16, 17."
-pub const CHECKS: [Check<Task>; 6] = [
+/// "Checks 2, 4, 3, 6, 16, 17", and 30 "straight after 16".
+pub const CHECKS: [Check<Task>; 7] = [
     Check { number: 2, finds: |task| (!task.in_form).then_some(0) },
     Check { number: 4, finds: |task| (task.site >= task.table.sites).then_some(0) },
     Check { number: 3, finds: |task| long_or_cut(&task.requests).then_some(0) },
     Check { number: 6, finds: |task| list_of(&task.requests).iter().position(Request::bad) },
     Check { number: 16, finds: |task| shared_sequence(&task.table, task.site).then_some(0) },
+    Check { number: 30, finds: |task| past_last_sequence(&task.table, task.site).then_some(0) },
     Check { number: 17, finds: |task| (task.room < task.block.len()).then_some(task.block.len()) },
 ];
 
@@ -62,6 +63,11 @@ pub fn shared_sequence(table: &Table, site: u8) -> bool {
     numbers.sort_unstable();
     numbers.dedup();
     numbers.len() < all
+}
+
+/// "building past sequence 65,535"
+pub fn past_last_sequence(table: &Table, site: u8) -> bool {
+    own_rows(table, site).any(|row| row.sequence == u16::MAX)
 }
 
 impl Building {
@@ -104,8 +110,8 @@ pub fn greatest(table: &Table, site: u8) -> Option<usize> {
     table.own(site).max_by_key(|&place| table.rows[place].sequence)
 }
 
-/// "sequence 0 if the site has no held block, else one more than its greatest". In form the greatest is below 64; only
-/// a table that is refused has one after which there is none.
+/// "sequence 0 if the site has no held block, else one more than its greatest". After 65,535 there is none, and check 30
+/// refuses.
 pub fn sequence(greatest: Option<u16>) -> u16 {
     greatest.map_or(0, |sequence| sequence.wrapping_add(1))
 }

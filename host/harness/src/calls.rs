@@ -10,6 +10,8 @@ pub trait Calls {
     fn in_form(&self, table: &mut [u8]) -> bool;
     fn admit(&self, table: &mut [u8], block: &mut [u8], verdict: u8) -> Answer;
     fn interpret(&self, table: &mut [u8], place: usize, records: &mut [u16]) -> Answer;
+    /// The block at place 0 leaves, and all others move down by one place.
+    fn retire(&self, table: &mut [u8], records: &mut [u16]) -> Answer;
     fn forks(&self, table: &mut [u8]) -> ForkedSites;
     fn ancestors(&self, table: &mut [u8], place: usize) -> AncestorPlaces;
     /// The site's next block, with these requests, is written to the front of the output.

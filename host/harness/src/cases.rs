@@ -8,6 +8,7 @@ mod interpretations;
 mod joins;
 mod listings;
 mod replays;
+mod retirings;
 mod setups;
 mod shelves;
 mod watches;
@@ -27,7 +28,7 @@ pub struct Kind {
     run: fn(&Random, &mut Compare) -> Result<(), Difference>,
 }
 
-pub static KINDS: [Kind; 12] = [
+pub static KINDS: [Kind; 13] = [
     Kind { name: "setups", shares: 1, run: setups::run },
     Kind { name: "arrivals", shares: 2, run: admissions::arrivals },
     Kind { name: "tables", shares: 2, run: admissions::tables_in_form },
@@ -40,12 +41,15 @@ pub static KINDS: [Kind; 12] = [
     GROUPS,
     SHELVES,
     JOINS,
+    RETIRINGS,
 ];
 
 // The self-test names these. Of groups there are few cases, since they take long.
 pub const GROUPS: Kind = Kind { name: "groups", shares: 1, run: groups::run };
 pub const SHELVES: Kind = Kind { name: "shelves", shares: 2, run: shelves::run };
 pub const JOINS: Kind = Kind { name: "joins", shares: 2, run: joins::run };
+
+pub const RETIRINGS: Kind = Kind { name: "retirings", shares: 2, run: retirings::run };
 
 /// It is run only where it is named: its cases take a process each, of a program that not every run has.
 pub static LISTINGS: Kind = Kind { name: "listings", shares: 0, run: listings::run };

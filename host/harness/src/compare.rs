@@ -148,6 +148,17 @@ impl Compare<'_> {
         Ok(answer)
     }
 
+    pub fn retire(&mut self, sides: &mut Sides) -> Result<Answer, Difference> {
+        let before = sides.expected.table.clone();
+        let answer = self.on_sides(sides, |calls, lent| calls.retire(&mut lent.table, &mut lent.records));
+        let answer = answer.map_err(|what| {
+            let inputs = vec![shown("table", &before), counted("records", sides.expected.records.len())];
+            Difference { call: "gt_retire", what, inputs }
+        })?;
+        self.counts.retiring(answer);
+        Ok(answer)
+    }
+
     pub fn forks(&mut self, table: &[u8]) -> Result<ForkedSites, Difference> {
         let (answer, _) = self.on_copies("gt_forks", [("table", table)], |calls, [table]| calls.forks(table))?;
         self.counts.forks(answer);

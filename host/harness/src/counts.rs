@@ -5,6 +5,7 @@ mod campaigns;
 mod groups;
 mod joins;
 mod listings;
+mod retirings;
 mod shelves;
 mod watched;
 
@@ -16,23 +17,26 @@ use campaigns::Campaigns;
 use groups::Groups;
 use joins::Joins;
 use listings::Listings;
+use retirings::Retirings;
 use shelves::Shelves;
 use watched::Watched;
 
 pub use groups::Met;
+pub use retirings::Coming;
 
-/// How often a call gave each answer, by its refusal number: these end at 25.
+/// How often a call gave each answer, by its refusal number: these end at 31.
 #[derive(Default)]
-struct Answered([u64; 26]);
+struct Answered([u64; 32]);
 
 /// What each call answers.
 const ADMISSION_ANSWERS: &[u8] = &[0, 2, 3, 4, 5, 6, 7, 8, 9, 10, 11];
 const INTERPRETATION_ANSWERS: &[u8] = &[0, 2, 12, 13, 14, 15];
+const RETIRING_ANSWERS: &[u8] = &[0, 2, 12, 13, 29];
 const FORKS_ANSWERS: &[u8] = &[0, 2];
 const ANCESTORS_ANSWERS: &[u8] = &[0, 2, 13];
-const BUILDING_ANSWERS: &[u8] = &[0, 2, 3, 4, 6, 16, 17];
+const BUILDING_ANSWERS: &[u8] = &[0, 2, 3, 4, 6, 16, 17, 30];
 const ARRIVAL_ANSWERS: &[u8] = &[0, 2, 3, 4, 5, 6, 7, 8, 9, 10, 11, 17, 19, 20, 21];
-const JOIN_ANSWERS: &[u8] = &[0, 2, 12, 23, 24, 25];
+const JOIN_ANSWERS: &[u8] = &[0, 2, 12, 23, 24, 25, 31];
 
 impl Answered {
     fn note(&mut self, refusal: u8) {
@@ -49,6 +53,25 @@ fn line(to: &mut Formatter, name: &str, times: u64) -> fmt::Result {
     writeln!(to, "{name:<52} {times:>8}")
 }
 
+/// A list of names, with how often each was met.
+struct Times<const N: usize>([u64; N]);
+
+impl<const N: usize> Times<N> {
+    fn note(&mut self, met: [bool; N]) {
+        self.0.iter_mut().zip(met).for_each(|(times, met)| *times += u64::from(met));
+    }
+
+    fn write(&self, to: &mut Formatter, names: [&str; N]) -> fmt::Result {
+        names.iter().zip(self.0).try_for_each(|(name, times)| line(to, name, times))
+    }
+}
+
+impl<const N: usize> Default for Times<N> {
+    fn default() -> Self {
+        Times([0; N])
+    }
+}
+
 #[derive(Default)]
 pub struct Counts {
     pub cases: u64,
@@ -61,9 +84,11 @@ pub struct Counts {
     pub built: BuiltBlocks,
     pub shelves: Shelves,
     pub joins: Joins,
+    pub retirings: Retirings,
     pub listings: Listings,
     admissions: Answered,
     interpretations: Answered,
+    retired: Answered,
     forks: Answered,
     ancestors: Answered,
     buildings: Answered,
@@ -91,6 +116,10 @@ impl Counts {
 
     pub fn interpretation(&mut self, answer: Answer) {
         self.interpretations.note(answer.refusal);
+    }
+
+    pub fn retiring(&mut self, answer: Answer) {
+        self.retired.note(answer.refusal);
     }
 
     pub fn forks(&mut self, answer: ForkedSites) {
@@ -128,6 +157,7 @@ impl Display for Counts {
         let answered = [
             ("gt_admit", &self.admissions, ADMISSION_ANSWERS),
             ("gt_interpret", &self.interpretations, INTERPRETATION_ANSWERS),
+            ("gt_retire", &self.retired, RETIRING_ANSWERS),
             ("gt_forks", &self.forks, FORKS_ANSWERS),
             ("gt_ancestors", &self.ancestors, ANCESTORS_ANSWERS),
             ("gt_build", &self.buildings, BUILDING_ANSWERS),
@@ -150,6 +180,6 @@ impl Display for Counts {
         writeln!(to, "tables in form     {:>8}", self.in_form)?;
         writeln!(to, "tables not in form {:>8}", self.not_in_form)?;
         write!(to, "{}{}{}{}", self.campaigns, self.watched, self.built, self.groups)?;
-        write!(to, "{}{}", self.shelves, self.joins)
+        write!(to, "{}{}{}", self.shelves, self.joins, self.retirings)
     }
 }

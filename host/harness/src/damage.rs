@@ -52,9 +52,11 @@ fn random_bytes(random: &Random, table: &Table) -> Vec<u8> {
 
 type Damage = fn(&Random, &mut Table);
 
-const DAMAGES: [Damage; 21] = [
+const DAMAGES: [Damage; 26] = [
     site_count,
     owner,
+    retired,
+    retired,
     count,
     count_beyond,
     rest,
@@ -70,6 +72,9 @@ const DAMAGES: [Damage; 21] = [
     any_reference,
     seventeen_references,
     second_parent,
+    second_parent,
+    missing_parent,
+    missing_parent,
     high_mark,
     mark_set,
     mark_cleared,
@@ -91,6 +96,11 @@ fn owner(random: &Random, table: &mut Table) {
     let slot = random.below(table.owners.len());
     let n = table.sites;
     table.owners[slot] = random.pick(&[n, n, n - 1, n + 1, 255, random.byte()]);
+}
+
+/// Out of form where a parent is missing, or where it is more than 1.
+fn retired(random: &Random, table: &mut Table) {
+    table.retired = random.pick(&[0, 1, 1 - table.retired, 2, 2, 3, 255, 255, random.byte()]);
 }
 
 /// One more may stay in form: a zero entry is that of a block of site 0 without references.
@@ -232,6 +242,21 @@ fn second_parent(random: &Random, table: &mut Table) {
         if !parents.is_empty() {
             row.references |= 1 << random.pick(&parents);
         }
+    });
+}
+
+/// Without any parent. In form where something was retired and the place is interpreted.
+fn missing_parent(random: &Random, table: &mut Table) {
+    change_row(random, table, |random, table, place, row| {
+        let parent = |lower: usize| {
+            let other = &table.rows[lower];
+            other.site == row.site && row.sequence > 0 && other.sequence == row.sequence - 1
+        };
+        let parents = (0..place).filter(|&lower| parent(lower)).fold(0, |set, lower| set | 1 << lower);
+        row.references &= !parents;
+        // Or with another mark, where that breaks no other rule.
+        let markable = places(row.references).all(|lower| table.rows[lower].mark == 1);
+        row.mark = random.pick(&[row.mark, row.mark, u8::from(markable)]);
     });
 }
 

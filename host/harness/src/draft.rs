@@ -61,8 +61,9 @@ pub fn lineage(random: &Random, table: &Table) -> Lineage {
     lineage_of(random, table, site, parent)
 }
 
-/// That of a site on top of a block of its own; without one, of sequence number 0.
+/// That of a site on top of a block of its own; without one, of sequence number 0. On top of the last number nothing comes.
 pub fn lineage_of(random: &Random, table: &Table, site: u8, parent: Option<usize>) -> Lineage {
+    let parent = parent.filter(|&place| table.rows[place].sequence < u16::MAX);
     let sequence = parent.map_or(0, |place| table.rows[place].sequence + 1);
     let second_parent = |place: usize| {
         let row = &table.rows[place];
@@ -95,7 +96,7 @@ pub fn longest(random: &Random, table: &Table) -> Draft {
 /// The same with as many references to held blocks as a block may have: the table admits it if it holds enough.
 pub fn longest_lawful(random: &Random, table: &Table) -> Draft {
     let mut draft = lawful(random, table);
-    let parent = |row: &Row| row.site == draft.site && row.sequence + 1 == draft.sequence;
+    let parent = |row: &Row| row.site == draft.site && row.sequence.checked_add(1) == Some(draft.sequence);
     let others = table.held().iter().filter(|row| !parent(row) && !draft.references.contains(&row.digest));
     let others: Vec<Digest> = others.map(|row| row.digest).collect();
     draft.references.extend(others.iter().take(MAX_REFERENCES - draft.references.len()));
@@ -221,7 +222,8 @@ fn lost_reference(random: &Random, _: &Table, draft: &mut Draft) {
 }
 
 fn second_parent(random: &Random, table: &Table, draft: &mut Draft) {
-    let parents = table.held().iter().filter(|row| row.site == draft.site && row.sequence + 1 == draft.sequence);
+    let parent = |row: &&Row| row.site == draft.site && row.sequence.checked_add(1) == Some(draft.sequence);
+    let parents = table.held().iter().filter(parent);
     let new = parents.map(|row| row.digest).filter(|digest| !draft.references.contains(digest));
     let new: Vec<Digest> = new.collect();
     if !new.is_empty() {

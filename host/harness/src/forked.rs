@@ -7,7 +7,7 @@ use crate::random::Random;
 use crate::setup::faults;
 use crate::sizes::{MAX_REFERENCES, PLACES};
 use crate::table::{places, Table};
-use crate::tables::{empty, some_count, Growth};
+use crate::tables::{empty, some_count, sometimes_aged, Growth};
 use crate::watch::bit;
 
 /// Which sequence numbers a forking site uses again.
@@ -101,7 +101,7 @@ pub fn drawn(random: &Random) -> (Table, u8) {
         growth.add(random, &mut table, lineage);
     }
     let builder = some_builder(random, &table, &habits);
-    (table, builder)
+    (sometimes_aged(random, table), builder)
 }
 
 fn some_builder(random: &Random, table: &Table, habits: &Habits) -> u8 {

@@ -45,10 +45,11 @@ pub struct Joining {
     pub write: fn(&mut [u16], usize, &[u16]),
 }
 
-/// "in that order after 2 and 12"
-pub const CHECKS: [Check<Two>; 5] = [
+/// "in that order after 2 and 12", and 31 "before 23".
+pub const CHECKS: [Check<Two>; 6] = [
     Check { number: 2, finds: |two| (!two.left_in_form || !two.right_in_form).then_some(0) },
     Check { number: 12, finds: |two| two.numbers.iter().any(|&numbers| numbers != BUFFER_NUMBERS).then_some(0) },
+    Check { number: 31, finds: |two| (two.left.retired == 1 || two.right.retired == 1).then_some(0) },
     Check { number: 23, finds: |two| setups_differ(two).then_some(0) },
     Check { number: 24, finds: |two| clashes(two, others).next() },
     Check { number: 25, finds: |two| (blocks(two).len() > PLACES).then_some(0) },

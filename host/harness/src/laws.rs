@@ -4,9 +4,12 @@
 mod brought;
 mod built;
 mod ends;
+mod ever;
 mod joined;
 mod promised;
 mod reached;
+mod recorded;
+mod retired;
 mod seen;
 mod told;
 
@@ -19,9 +22,12 @@ use crate::seen::Seen;
 pub use brought::{ACCOUNTED_FOR, NEVER_19, ONLY_BY_9, PLAIN, STAYS_IN_FORM, TRIED_OUT};
 pub use built::{Built, LET_IN, READS_BACK, REFERS, REST_STAYS};
 pub use ends::{EQUAL_PARTS, ONE_NUMBER, REQUESTED, WATCHED};
+pub use ever::{Ever, EQUAL_EVER, ONE_NUMBER_EVER, REQUESTED_EVER, WATCHED_EVER};
 pub use joined::{AGAIN, IN_FORM, MARKED, PARTS, SAME_BLOCKS, STAYS_FIRST};
 pub use promised::{Promised, DELIVERED, FULL, PASSED_ON};
 pub use reached::{BY_CALLS, GOES_ON, SWAPPED};
+pub use recorded::{Recorded, SAME_ANSWER, SAME_TABLE, WHOLE_HISTORY};
+pub use retired::{Retired, KEEPS_THAT, NEVER_THE_LAST, OTHERS_STAY, PARTS_MOVE, STILL_IN_FORM};
 pub use seen::{CLOSED, LOWER, MORE_BLOCKS, NAMED, ONES, THIRD};
 pub use told::{Told, ANSWERED_9, INDEPENDENT};
 
@@ -44,6 +50,22 @@ fn check<Of>(laws: &[Law<Of>], of: &Of, inputs: impl Fn() -> Vec<(String, String
 pub fn check_ends(ends: &Ends) -> Result<(), Difference> {
     let [one, other] = ends.sites.each_ref().map(|site| &site.lent.table);
     check(&ends::laws(), ends, || vec![shown("one table", one), shown("other table", other)])
+}
+
+/// A retiring that was answered 0.
+pub fn check_retired(retired: &Retired) -> Result<(), Difference> {
+    check(&retired::laws(), retired, || vec![shown("table", &retired.before.table)])
+}
+
+/// A site after a call, by its ledger.
+pub fn check_recorded(recorded: &Recorded) -> Result<(), Difference> {
+    check(&recorded::laws(), recorded, || vec![shown("table", &recorded.lent.table)])
+}
+
+/// All that two sites ever admitted.
+pub fn check_ever(ever: &Ever) -> Result<(), Difference> {
+    let [one, other] = ever.sites.map(|site| &site.left().table);
+    check(&ever::laws(), ever, || vec![shown("one table", one), shown("other table", other)])
 }
 
 /// What the watch and building say of one table.

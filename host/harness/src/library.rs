@@ -17,6 +17,7 @@ extern "C" {
         records: *mut u16,
         records_length: usize,
     ) -> Answer;
+    fn gt_retire(table: *mut u8, table_length: usize, records: *mut u16, records_length: usize) -> Answer;
     fn gt_forks(table: *const u8, table_length: usize) -> ForkedSites;
     fn gt_ancestors(table: *const u8, table_length: usize, place: usize) -> AncestorPlaces;
     fn gt_build(
@@ -94,6 +95,10 @@ impl Calls for Library {
 
     fn interpret(&self, table: &mut [u8], place: usize, records: &mut [u16]) -> Answer {
         unsafe { gt_interpret(table.as_mut_ptr(), table.len(), place, records.as_mut_ptr(), records.len()) }
+    }
+
+    fn retire(&self, table: &mut [u8], records: &mut [u16]) -> Answer {
+        unsafe { gt_retire(table.as_mut_ptr(), table.len(), records.as_mut_ptr(), records.len()) }
     }
 
     fn forks(&self, table: &mut [u8]) -> ForkedSites {

@@ -9,6 +9,7 @@
 //! Status 0: no difference. 1: a difference, or a mistake that wasn't found. 2: bad arguments.
 
 mod admission;
+mod aged;
 mod alone;
 mod answer;
 mod arrivals;
@@ -37,7 +38,10 @@ mod interpretation;
 mod joined;
 mod joining;
 mod keeper;
+mod kept;
 mod laws;
+mod leaving;
+mod ledger;
 mod lent;
 mod library;
 mod listing;
@@ -53,6 +57,8 @@ mod promise;
 mod random;
 mod record;
 mod replay;
+mod retirer;
+mod retiring;
 mod seen;
 mod self_test;
 mod setup;

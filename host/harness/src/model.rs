@@ -12,6 +12,7 @@ use crate::interpretation::{Asked, Interpretation};
 use crate::joining::{Joining, Two};
 use crate::listing::{Line, Listing};
 use crate::replay::{Call, Replay};
+use crate::retiring::{Leaving, Retiring};
 use crate::setup;
 use crate::sha256::{sha256, Digest};
 use crate::shelf::Shelf;
@@ -35,6 +36,7 @@ pub struct Model {
     pub row: fn(&Arrival) -> Row,
     pub put: fn(&mut Table, Row),
     pub interpretation: Interpretation,
+    pub retiring: Retiring,
     pub watch: Watch,
     pub building: Building,
     pub replay: Replay,
@@ -58,6 +60,7 @@ impl Model {
             row: admission::row,
             put: admission::put,
             interpretation: Interpretation::document(),
+            retiring: Retiring::document(),
             watch: Watch::document(),
             building: Building::document(),
             replay: Replay::document(),
@@ -141,6 +144,18 @@ impl Calls for Model {
         Answer::success(0)
     }
 
+    fn retire(&self, table: &mut [u8], records: &mut [u16]) -> Answer {
+        let (held, in_form) = self.held(table);
+        let leaving = Leaving { table: held, in_form, numbers: records.len() };
+        if let Some(refusal) = first_refusal(&self.retiring.checks, &leaving) {
+            return refusal;
+        }
+        let left = self.retiring.table(&leaving.table);
+        (self.retiring.records)(records, left.count);
+        left.write(table);
+        Answer::success(0)
+    }
+
     fn forks(&self, table: &mut [u8]) -> ForkedSites {
         let (table, in_form) = self.held(table);
         self.watch.forks(&Question { table, in_form, place: 0 })
@@ -173,6 +188,7 @@ impl Calls for Model {
             let answer = match call {
                 Call::Admission { verdict, block } => self.admit(table, &mut block.to_vec(), verdict),
                 Call::Interpretation { place } => self.interpret(table, place, records),
+                Call::Retiring => self.retire(table, records),
             };
             (self.replay.note)(answers, ran, answer);
             rest = after;

@@ -32,6 +32,7 @@ use crate::interpretation::Asked;
 use crate::laws::*;
 use crate::model::{Model, Wanted};
 use crate::process::Process;
+use crate::retiring::Leaving;
 use crate::table::Table;
 use crate::watch::Question;
 
@@ -42,6 +43,7 @@ pub struct Mutant {
     after_form: AfterForm,
     after_admission: AfterCall,
     after_interpretation: AfterInterpretation,
+    after_retiring: AfterRetiring,
     after_forks: AfterForks,
     after_ancestors: AfterAncestors,
     after_building: AfterBuilding,
@@ -58,6 +60,7 @@ pub struct Mutant {
 type AfterForm = Box<dyn Fn(bool, &mut [u8]) -> bool>;
 type AfterReading = Box<dyn Fn(Reading, &mut [u8]) -> Reading>;
 type AfterInterpretation = Box<dyn Fn(Answer, &mut [u8], usize, &mut [u16]) -> Answer>;
+type AfterRetiring = Box<dyn Fn(Answer, &mut [u8], &mut [u16]) -> Answer>;
 type AfterForks = Box<dyn Fn(ForkedSites, &mut [u8]) -> ForkedSites>;
 type AfterAncestors = Box<dyn Fn(AncestorPlaces, &mut [u8], usize) -> AncestorPlaces>;
 type AfterBuilding = Box<dyn Fn(Answer, Building) -> Answer>;
@@ -319,6 +322,7 @@ impl Mutant {
             after_form: Box::new(|answer, _| answer),
             after_admission: Box::new(|answer, _, _| answer),
             after_interpretation: Box::new(|answer, _, _, _| answer),
+            after_retiring: Box::new(|answer, _, _| answer),
             after_forks: Box::new(|answer, _| answer),
             after_ancestors: Box::new(|answer, _, _| answer),
             after_building: Box::new(|answer, _| answer),
@@ -355,6 +359,11 @@ impl Mutant {
         exchange(&mut self.model.interpretation.checks, number, finds);
     }
 
+    /// Exchanges a check of retiring.
+    fn retiring(&mut self, number: u8, finds: fn(&Leaving) -> Option<usize>) {
+        exchange(&mut self.model.retiring.checks, number, finds);
+    }
+
     /// Exchanges a check of the ancestors.
     fn ancestors(&mut self, number: u8, finds: fn(&Question) -> Option<usize>) {
         exchange(&mut self.model.watch.ancestor_checks, number, finds);
@@ -389,6 +398,10 @@ impl Mutant {
 
     fn after_interpretation(&mut self, after: impl Fn(Answer, &mut [u8], usize, &mut [u16]) -> Answer + 'static) {
         self.after_interpretation = Box::new(after);
+    }
+
+    fn after_retiring(&mut self, after: impl Fn(Answer, &mut [u8], &mut [u16]) -> Answer + 'static) {
+        self.after_retiring = Box::new(after);
     }
 
     fn after_forks(&mut self, after: impl Fn(ForkedSites, &mut [u8]) -> ForkedSites + 'static) {
@@ -465,6 +478,11 @@ impl Calls for Mutant {
     fn interpret(&self, table: &mut [u8], place: usize, records: &mut [u16]) -> Answer {
         let answer = self.model.interpret(table, place, records);
         (self.after_interpretation)(answer, table, place, records)
+    }
+
+    fn retire(&self, table: &mut [u8], records: &mut [u16]) -> Answer {
+        let answer = self.model.retire(table, records);
+        (self.after_retiring)(answer, table, records)
     }
 
     fn forks(&self, table: &mut [u8]) -> ForkedSites {

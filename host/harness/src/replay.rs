@@ -5,10 +5,12 @@ use crate::answer::Answer;
 pub enum Call<'a> {
     Admission { verdict: u8, block: &'a [u8] },
     Interpretation { place: usize },
+    Retiring,
 }
 
 const ADMISSION: u8 = 0;
 const INTERPRETATION: u8 = 1;
+const RETIRING: u8 = 2;
 
 /// Bytes of a length and of a place, low byte first.
 pub const WIDE_BYTES: usize = 8;
@@ -23,6 +25,11 @@ pub fn admission(verdict: u8, block: &[u8]) -> Vec<u8> {
 pub fn interpretation(place: usize) -> Vec<u8> {
     let place = place as u64;
     [&[INTERPRETATION][..], &place.to_le_bytes()].concat()
+}
+
+/// A retiring has nothing to say but that it is one.
+pub fn retiring() -> Vec<u8> {
+    vec![RETIRING]
 }
 
 /// The first call of a list and what follows it; none where the list ends.
@@ -59,6 +66,7 @@ pub fn first(list: &[u8]) -> First<'_> {
             // A place is as wide as an address, as in C; see the check below.
             Some((Call::Interpretation { place: place as usize }, rest))
         }
+        RETIRING => Some((Call::Retiring, rest)),
         _ => None,
     }
 }

@@ -13,7 +13,7 @@ pub const MAX_REQUESTS: usize = 8;
 pub const MAX_BLOCK_BYTES: usize = HEADER_BYTES + DIGEST_BYTES * MAX_REFERENCES + REQUEST_BYTES * MAX_REQUESTS;
 
 pub const PLACES: usize = 64;
-pub const HEAD_BYTES: usize = 1 + SLOTS + 1;
+pub const HEAD_BYTES: usize = 1 + SLOTS + 1 + 1;
 pub const ROW_BYTES: usize = DIGEST_BYTES + 1 + 2 + PLACES / 8 + 2 * SLOTS + 1;
 pub const TABLE_BYTES: usize = HEAD_BYTES + PLACES * ROW_BYTES;
 
@@ -38,7 +38,7 @@ pub const OUTCOMES_NUMBERS: usize = 2 * MOST_HELD;
 // The sums as the documents give them.
 const _: () = assert!(MAX_BLOCK_BYTES == 541);
 const _: () = assert!(ROW_BYTES == 60);
-const _: () = assert!(TABLE_BYTES == 3850);
+const _: () = assert!(TABLE_BYTES == 3851);
 const _: () = assert!(RECORD_NUMBERS == 40);
 const _: () = assert!(PART_NUMBERS == 320);
 const _: () = assert!(BUFFER_NUMBERS == 20_480);

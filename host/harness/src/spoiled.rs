@@ -1,5 +1,6 @@
 //! Two tables and the lengths of three record buffers, of which a join refuses one or several, or none.
 
+use crate::aged::lose_parent;
 use crate::clashes::{other_block, other_setup};
 use crate::contents::some_length;
 use crate::damage::damaged;
@@ -25,6 +26,9 @@ impl Spoiled {
         if random.one_in(2 * one_in) {
             let side = random.below(2);
             tables[side] = other_setup(random, &tables[side]);
+        }
+        if random.one_in(2 * one_in) {
+            retire(random, &mut tables[random.below(2)]);
         }
         let mut bytes = tables.each_ref().map(Table::to_bytes);
         if random.one_in(2 * one_in) {
@@ -53,6 +57,16 @@ fn clash(random: &Random, tables: &mut [Table; 2]) {
         let both = (0..one.count).filter(|&place| other.place_of(&one.rows[place].digest).is_some());
         let both: Vec<usize> = both.collect();
         tables[side] = other_block(random, one, &both);
+    }
+}
+
+/// The side has retired something, and now and then lacks a parent. Sometimes it is left with no block.
+fn retire(random: &Random, table: &mut Table) {
+    table.retired = 1;
+    if random.one_in(4) {
+        *table = Table { retired: 1, ..Table::empty(table.sites, table.owners) };
+    } else if table.count > 0 && random.one_in(2) {
+        lose_parent(table, random.below(table.count));
     }
 }
 

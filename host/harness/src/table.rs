@@ -25,6 +25,8 @@ pub struct Table {
     pub length: usize,
     pub sites: u8,
     pub owners: [u8; SLOTS],
+    /// 1 if the table has retired something, else 0.
+    pub retired: u8,
     pub count: usize,
     pub rows: [Row; PLACES],
 }
@@ -43,7 +45,7 @@ pub fn places(set: u64) -> impl Iterator<Item = usize> {
 impl Table {
     /// The table of a setup with no block held.
     pub fn empty(sites: u8, owners: [u8; SLOTS]) -> Table {
-        Table { length: TABLE_BYTES, sites, owners, count: 0, rows: [Row::default(); PLACES] }
+        Table { length: TABLE_BYTES, sites, owners, retired: 0, count: 0, rows: [Row::default(); PLACES] }
     }
 
     /// The rows of the places below the count.
@@ -101,8 +103,9 @@ impl Table {
         Table {
             length: bytes.len(),
             sites: head[0],
-            owners: part(head, 1),
-            count: head[1 + SLOTS].into(),
+            owners: part(head, OWNERS),
+            retired: head[RETIRED],
+            count: head[COUNT].into(),
             rows: std::array::from_fn(|place| Row::from_bytes(&part(rows, ROW_BYTES * place))),
         }
     }
@@ -111,8 +114,9 @@ impl Table {
         let mut bytes = vec![0; TABLE_BYTES];
         let (head, rows) = bytes.split_at_mut(HEAD_BYTES);
         head[0] = self.sites;
-        head[1..=SLOTS].copy_from_slice(&self.owners);
-        head[1 + SLOTS] = self.count as u8;
+        head[OWNERS..RETIRED].copy_from_slice(&self.owners);
+        head[RETIRED] = self.retired;
+        head[COUNT] = self.count as u8;
         for (bytes, row) in rows.chunks_exact_mut(ROW_BYTES).zip(&self.rows) {
             // The bytes are zero already.
             if *row != Row::default() {
@@ -129,6 +133,12 @@ impl Table {
         buffer[..length].copy_from_slice(&bytes[..length]);
     }
 }
+
+// Where a table's fields begin that stand before its rows.
+const OWNERS: usize = 1;
+pub const RETIRED: usize = OWNERS + SLOTS;
+pub const COUNT: usize = RETIRED + 1;
+const _: () = assert!(COUNT + 1 == HEAD_BYTES);
 
 // Where a row's fields begin.
 const SITE: usize = DIGEST_BYTES;

@@ -1,5 +1,6 @@
 //! Random setups, and random tables in form, most of which no calls reach.
 
+use crate::aged::aged;
 use crate::draft::{lineage, Lineage};
 use crate::random::Random;
 use crate::sha256::Digest;
@@ -13,10 +14,20 @@ pub fn empty(random: &Random) -> Table {
     Table::empty(sites, owners)
 }
 
-/// A table in form, with 0 to 64 places. Full tables and nearly full ones come often.
+/// A table in form, with 0 to 64 places. Full tables and nearly full ones come often, and so do such that have retired
+/// something.
 pub fn in_form(random: &Random) -> Table {
     let table = empty(random);
-    grown(random, table, some_count(random))
+    sometimes_aged(random, grown(random, table, some_count(random)))
+}
+
+/// A table in form, which now and then becomes one that has retired something.
+pub fn sometimes_aged(random: &Random, table: Table) -> Table {
+    if random.one_in(3) {
+        aged(random, table)
+    } else {
+        table
+    }
 }
 
 /// A table in form with so many places, of the setup of an empty one.

@@ -38,6 +38,11 @@ pub fn open(table: &mut Table, place: usize) {
             table.rows[lower].mark = 1;
         }
     }
+    unmark_from(table, place);
+}
+
+/// Takes away the mark of a place, and of all that rest on it.
+pub fn unmark_from(table: &mut Table, place: usize) {
     let mut above = 1 << place;
     for higher in place..table.count {
         let row = &mut table.rows[higher];

@@ -2,31 +2,13 @@
 
 use std::fmt::{self, Display, Formatter};
 
+use super::Times;
 use crate::ends::Ends;
 use crate::joined::Joined;
 use crate::joining::{at_left, at_right, blocks, clashes, in_both, others, referred, rows, Block, Both, Two};
 use crate::record::{part_at, Act};
 use crate::sizes::{BUFFER_NUMBERS, PLACES, SLOTS, TABLE_BYTES};
 use crate::table::{Row, Table};
-
-/// A list of names, with how often each was met.
-struct Times<const N: usize>([u64; N]);
-
-impl<const N: usize> Times<N> {
-    fn note(&mut self, met: [bool; N]) {
-        self.0.iter_mut().zip(met).for_each(|(times, met)| *times += u64::from(met));
-    }
-
-    fn write(&self, to: &mut Formatter, names: [&str; N]) -> fmt::Result {
-        names.iter().zip(self.0).try_for_each(|(name, times)| super::line(to, name, times))
-    }
-}
-
-impl<const N: usize> Default for Times<N> {
-    fn default() -> Self {
-        Times([0; N])
-    }
-}
 
 #[derive(Default)]
 pub struct Joins {

@@ -11,6 +11,7 @@ const UNUSED: u64 = 99;
 pub fn all(calls: &dyn Calls) -> Vec<(&'static str, bool)> {
     let both = [&ADMISSION[..], &INTERPRETATION].concat();
     let again = [&both[..], &both].concat();
+    let retiring = [&both[..], &[2]].concat();
     let [longer, other_verdict] = [(2, 6), (1, 2)].map(|(at, byte)| changed(&both, at, byte));
     vec![
         ("no calls: none runs", ran(calls, &[], 2) == (0, vec![UNUSED; 2])),
@@ -23,7 +24,10 @@ pub fn all(calls: &dyn Calls) -> Vec<(&'static str, bool)> {
         ("a cut block doesn't run", ran(calls, &both[..14], 2) == (0, vec![UNUSED; 2])),
         ("a block longer than what is left ends the list", ran(calls, &changed(&both, 9, 255), 2).0 == 0),
         ("a block that takes a byte of the next call: 3, and the end", ran(calls, &longer, 2) == (1, vec![3, 0])),
-        ("another first byte ends the list", ran(calls, &changed(&both, 15, 2), 4).0 == 1),
+        ("another first byte ends the list", ran(calls, &changed(&both, 15, 3), 4).0 == 1),
+        ("a retiring of nothing: 13", ran(calls, &[2], 2) == (1, vec![13, 0])),
+        ("a retiring of the only block: 29", ran(calls, &retiring, 6) == (3, vec![0, 0, 0, 0, 29, 0])),
+        ("bytes of a retiring are calls of their own", ran(calls, &[2, 2, 3, 2], 4) == (2, vec![13, 0, 13, 0])),
     ]
 }
 

@@ -32,11 +32,19 @@ pub fn laws<'a>() -> [Law<Built<'a>>; 4] {
     ]
 }
 
-/// A site that didn't fork has as many blocks as sequence numbers, so their count is the next one.
+/// Where nothing was retired, a site that didn't fork has as many blocks as sequence numbers, so their count is the next one.
+fn next_sequence(table: &Table, site: u8) -> usize {
+    if table.retired == 0 {
+        return table.own(site).count();
+    }
+    table.own(site).map(|place| usize::from(table.rows[place].sequence) + 1).max().unwrap_or(0)
+}
+
 fn other_fields(built: &Built) -> Option<String> {
     let Next { table, site, requests } = *built.next;
     let fields = block::fields(built.block);
-    let next = Table::from_bytes(table).own(site).count();
+    let table = Table::from_bytes(table);
+    let next = next_sequence(&table, site);
     let same = block::misshapen(built.block).is_none()
         && fields.site == site
         && usize::from(fields.sequence) == next
@@ -51,8 +59,9 @@ fn other_references(built: &Built) -> Option<String> {
     let digests = block::references(built.block);
     let found: Option<Vec<usize>> = digests.iter().map(|digest| table.place_of(digest)).collect();
     let Some(found) = found else { return Some("a reference isn't held".to_string()) };
-    // The last of its own: each refers to the one before, which is lower.
-    let wanted = table.own(site).last().into_iter().chain(left(&table, site));
+    // That of the number before.
+    let before = |place: &usize| usize::from(table.rows[*place].sequence) + 1 == next_sequence(&table, site);
+    let wanted = table.own(site).filter(before).chain(left(&table, site));
     let wanted: Vec<usize> = wanted.take(MAX_REFERENCES).collect();
     (found != wanted).then(|| format!("places {found:?}, in place of {wanted:?}"))
 }

@@ -1,5 +1,7 @@
 //! What must hold of the watch and of building together, on one table in form.
 
+use std::collections::BTreeSet;
+
 use super::Law;
 use crate::answer::AncestorPlaces;
 use crate::seen::Seen;
@@ -10,7 +12,7 @@ pub const THIRD: &str = "law: at most f are fewer than a third of n";
 pub const MORE_BLOCKS: &str = "law: a site is named if it has more blocks than sequence numbers";
 pub const LOWER: &str = "law: the ancestors of a place are lower places, so not itself";
 pub const CLOSED: &str = "law: the ancestors of a place are its references and their ancestors";
-pub const NAMED: &str = "law: whom the watch names gets 16 from building, and nobody else";
+pub const NAMED: &str = "law: whom the watch names gets 16 from building, others who are at the last number 30";
 
 pub const LAWS: [Law<Seen>; 6] = [
     Law { name: ONES, broken: other_count },
@@ -34,11 +36,10 @@ fn not_a_third(seen: &Seen) -> Option<String> {
     (seen.forked.at_most_f != few).then(|| format!("{:?} of {} sites", seen.forked, seen.table.sites))
 }
 
-/// By the parent rule a site has a block of every sequence number up to its greatest, so it has more blocks only if it
-/// has some number twice.
+/// A site has more blocks than sequence numbers only if it has some number twice.
 fn not_more_blocks(seen: &Seen) -> Option<String> {
-    let numbers = |site: u8| seen.table.own(site).map(|place| seen.table.rows[place].sequence).max();
-    let more = |site: u8| seen.table.own(site).count() > numbers(site).map_or(0, |most| usize::from(most) + 1);
+    let numbers = |site: u8| seen.table.own(site).map(|place| seen.table.rows[place].sequence).collect::<BTreeSet<u16>>();
+    let more = |site: u8| seen.table.own(site).count() > numbers(site).len();
     let site = (0..seen.table.sites).find(|&site| named(seen, site) != more(site))?;
     Some(format!("site {site}, {:?}", seen.forked))
 }
@@ -60,7 +61,12 @@ fn closure(seen: &Seen, place: usize) -> u64 {
 
 /// Room is there for any block, so nothing else is refused.
 fn other_answer(seen: &Seen) -> Option<String> {
-    let expected = |site: u8| if named(seen, site) { 16 } else { 0 };
+    let at_last = |site: u8| seen.table.own(site).any(|place| seen.table.rows[place].sequence == u16::MAX);
+    let expected = |site: u8| match (named(seen, site), at_last(site)) {
+        (true, _) => 16,
+        (false, true) => 30,
+        (false, false) => 0,
+    };
     let site = (0..seen.table.sites).find(|&site| seen.built[usize::from(site)].refusal != expected(site))?;
     Some(format!("site {site} gets {:?}, {:?}", seen.built[usize::from(site)], seen.forked))
 }

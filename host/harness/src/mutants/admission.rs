@@ -216,7 +216,7 @@ pub const MISTAKES: &[Mistake] = &[
             let new = row(asked);
             let parent = |place: usize| {
                 let old = &asked.table.rows[place];
-                old.site == new.site && old.sequence + 1 == new.sequence
+                old.site == new.site && old.sequence.checked_add(1) == Some(new.sequence)
             };
             let others = places(new.references).filter(|&place| !parent(place));
             Row { references: others.fold(0, |set, place| set | 1 << place), ..new }

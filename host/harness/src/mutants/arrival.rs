@@ -6,8 +6,8 @@ use crate::calls::Calls;
 use crate::model::Model;
 use crate::shelf::{entry_at, Entry, Shelf};
 use crate::shelving::{instead_of_9, Coming, CHECKS};
-use crate::sizes::{CAMPAIGNS, ENTRY_BYTES, MOST_HELD, OUTCOMES_NUMBERS, PLACES, SHELF_PLACES, SLOTS};
-use crate::table::{Row, Table};
+use crate::sizes::{CAMPAIGNS, ENTRY_BYTES, MOST_HELD, OUTCOMES_NUMBERS, PLACES, SHELF_PLACES};
+use crate::table::{Row, Table, COUNT};
 
 /// Each check left out, each two neighbours swapped, and another value beside each refusal.
 pub fn checks_exchanged() -> Vec<Mutant> {
@@ -190,7 +190,7 @@ pub const MISTAKES: &[Mistake] = &[
     }),
     ("arrival: 11 in the place of 9", |m| {
         m.after_arrival(|answered, lent| {
-            let full = lent.table.get(1 + SLOTS) == Some(&(PLACES as u8));
+            let full = lent.table.get(COUNT) == Some(&(PLACES as u8));
             if answered.answer.refusal == 9 && full {
                 ArrivalAnswer::refused(Answer { refusal: 11, value: 0 })
             } else {
@@ -292,7 +292,7 @@ pub const MISTAKES: &[Mistake] = &[
     ("arrival: a success answers the count", |m| m.arrival_value(0, |value| value + 1)),
     ("arrival: a success answers the last place", |m| {
         m.after_arrival(|answered, lent| {
-            let count = lent.table.get(1 + SLOTS).copied().unwrap_or(0);
+            let count = lent.table.get(COUNT).copied().unwrap_or(0);
             let answer = super::value_beside(0, answered.answer, usize::from(count).saturating_sub(1));
             ArrivalAnswer { answer, ..answered }
         })

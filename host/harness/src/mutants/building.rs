@@ -2,9 +2,11 @@
 
 use super::{value_beside, Building, Mistake, Mutant};
 use crate::block::{list_of, Request};
-use crate::building::{self, cut, greatest, long_or_cut, others, own_rows, sequence, shared_sequence, Task, CHECKS};
+use crate::building::{
+    self, cut, greatest, long_or_cut, others, own_rows, past_last_sequence, sequence, shared_sequence, Task, CHECKS,
+};
 use crate::sizes::{HEADER_BYTES, MAX_BLOCK_BYTES, MAX_REFERENCES, MAX_REQUESTS, REQUEST_BYTES, SLOTS};
-use crate::table::{Row, Table};
+use crate::table::{Row, Table, COUNT};
 
 /// Each check left out, another value beside each refusal, and each two neighbours swapped.
 pub fn checks_exchanged() -> Vec<Mutant> {
@@ -32,10 +34,13 @@ pub fn checks_exchanged() -> Vec<Mutant> {
 
 pub const MISTAKES: &[Mistake] = &[
     // Order
-    ("building: 17 before 16, 6 and 3", |m| m.model.building.checks[2..6].rotate_right(1)),
+    ("building: 17 before 30, 16, 6 and 3", |m| m.model.building.checks[2..7].rotate_right(1)),
     ("building: 17 before all", |m| m.model.building.checks.rotate_right(1)),
     ("building: 16 before 6 and 3", |m| m.model.building.checks[2..5].rotate_right(1)),
     ("building: 16 before 4", |m| m.model.building.checks[1..5].rotate_right(1)),
+    ("building: 30 before 16, 6 and 3", |m| m.model.building.checks[2..6].rotate_right(1)),
+    ("building: 30 before 4", |m| m.model.building.checks[1..6].rotate_right(1)),
+    ("building: 30 first", |m| m.model.building.checks[..6].rotate_right(1)),
     ("building: 3 and 6 before 4", |m| m.model.building.checks[1..4].rotate_left(1)),
     ("building: 2 after the requests", |m| m.model.building.checks[..4].rotate_left(1)),
     // Site and requests
@@ -131,6 +136,31 @@ pub const MISTAKES: &[Mistake] = &[
             marked.rows.iter_mut().filter(|row| row.mark == 0).for_each(|row| row.site = u8::MAX);
             shared_sequence(&marked, task.site).then_some(0)
         })
+    }),
+    // The last sequence number
+    ("building: 30 at 65,534 already", |m| {
+        m.building(30, |task| own_rows(&task.table, task.site).any(|row| row.sequence >= u16::MAX - 1).then_some(0))
+    }),
+    ("building: the number after 65,535 is 65,535", |m| {
+        m.building(30, |_| None);
+        m.model.building.sequence = |greatest| greatest.map_or(0, |sequence| sequence.saturating_add(1));
+    }),
+    ("building: 30 for any number of low byte 255", |m| {
+        m.building(30, |task| own_rows(&task.table, task.site).any(|row| row.sequence % 256 == 255).then_some(0))
+    }),
+    ("building: 30 if any site is at 65,535", |m| {
+        m.building(30, |task| (0..task.table.sites).any(|site| past_last_sequence(&task.table, site)).then_some(0))
+    }),
+    ("building: 30 for an interpreted block alone", |m| {
+        m.building(30, |task| {
+            own_rows(&task.table, task.site).any(|row| row.sequence == u16::MAX && row.mark == 1).then_some(0)
+        })
+    }),
+    ("building: 30 for the site's highest place alone", |m| {
+        m.building(30, |task| own_rows(&task.table, task.site).last().filter(|row| row.sequence == u16::MAX).map(|_| 0))
+    }),
+    ("building: 30 with the number that would come", |m| {
+        m.building(30, |task| past_last_sequence(&task.table, task.site).then_some(1 << 16))
     }),
     // The output
     ("building: an output of the block's length is refused", |m| {
@@ -435,7 +465,7 @@ pub const MISTAKES: &[Mistake] = &[
     }),
     ("building: the block is put into the table", |m| {
         m.after_building(|answer, asked| {
-            if let Some(count) = asked.table.get_mut(1 + SLOTS).filter(|_| answer.refusal == 0) {
+            if let Some(count) = asked.table.get_mut(COUNT).filter(|_| answer.refusal == 0) {
                 *count += 1;
             }
             answer

@@ -111,38 +111,95 @@ pub const MISTAKES: &[Mistake] = &[
         m.form(MARKS_CLOSED, |table| every(table, |_, row| row.mark != 0 || !some_marked(table, row)))
     }),
     ("form: two parents pass", |m| {
-        m.form(PARENT_RULE, |table| parents(table, |row, count| row.sequence == 0 || count >= 1))
+        m.form(PARENT_RULE, |table| parents(table, |_, row, count| row.sequence == 0 || count >= 1))
     }),
     ("form: no parent passes", |m| {
-        m.form(PARENT_RULE, |table| parents(table, |row, count| row.sequence == 0 || count <= 1))
+        m.form(PARENT_RULE, |table| parents(table, |_, row, count| row.sequence == 0 || count <= 1))
     }),
     ("form: a sequence number of low byte 0 needs no parent", |m| {
-        m.form(PARENT_RULE, |table| parents(table, |row, count| row.sequence % 256 == 0 || count == 1))
+        m.form(PARENT_RULE, |table| parents(table, |_, row, count| row.sequence % 256 == 0 || count == 1))
     }),
     ("form: sequence 0 may not refer to its own site", |m| {
         m.form(PARENT_RULE, |table| {
             every(table, |_, row| {
-                let rule = table.parent_rule(row.site, row.sequence, row.references);
-                rule && (row.sequence != 0 || own(table, row) == 0)
+                parent_in_form(table, row) && (row.sequence != 0 || own(table, row) == 0)
             })
         })
     }),
     ("form: no own block but the parent may be referred to", |m| {
         m.form(PARENT_RULE, |table| {
             every(table, |_, row| {
-                let rule = table.parent_rule(row.site, row.sequence, row.references);
-                rule && (row.sequence == 0 || own(table, row) == 1)
+                parent_in_form(table, row) && (row.sequence == 0 || own(table, row) <= 1)
             })
         })
     }),
     ("form: any own block is a parent", |m| {
-        m.form(PARENT_RULE, |table| every(table, |_, row| row.sequence == 0 || own(table, row) >= 1))
+        m.form(PARENT_RULE, |table| parents(table, |table, row, _| row.sequence == 0 || own(table, row) >= 1))
     }),
     ("form: a parent may be another site's", |m| {
         m.form(PARENT_RULE, |table| {
-            let before = |row: &Row, place: usize| table.rows[place].sequence.checked_add(1) == Some(row.sequence);
-            every(table, |_, row| row.sequence == 0 || places(row.references).any(|place| before(row, place)))
+            parents(table, |table, row, _| {
+                let before = |place: usize| table.rows[place].sequence.checked_add(1) == Some(row.sequence);
+                row.sequence == 0 || places(row.references).any(before)
+            })
         })
+    }),
+    // Tables that have retired something
+    ("form: the retired byte may be 2", |m| m.form(RETIRED, |table| table.retired <= 2)),
+    ("form: the retired byte may be 255", |m| m.form(RETIRED, |table| table.retired <= 1 || table.retired == 255)),
+    ("form: nothing may be retired", |m| m.form(RETIRED, |table| table.retired == 0)),
+    ("form: something must be retired", |m| m.form(RETIRED, |table| table.retired == 1)),
+    ("form: an empty table has retired nothing", |m| {
+        m.form(RETIRED, |table| table.retired <= 1 && (table.retired == 0 || table.count > 0))
+    }),
+    ("form: a full table has retired nothing", |m| {
+        m.form(RETIRED, |table| table.retired <= 1 && (table.retired == 0 || table.count < PLACES))
+    }),
+    ("form: where something was retired a parent is missing", |m| {
+        m.form(RETIRED, |table| {
+            let lacks = table.held().iter().any(|row| row.sequence != 0 && lacks_parent(table, row));
+            table.retired == 0 || table.retired == 1 && lacks
+        })
+    }),
+    ("form: a missing parent never passes", |m| m.form(PARENT_RULE, |table| lacking(table, |_, _, _| false))),
+    ("form: a missing parent passes where nothing was retired", |m| {
+        m.form(PARENT_RULE, |table| lacking(table, |_, _, row| row.mark == 1))
+    }),
+    ("form: a missing parent passes for a place that isn't interpreted", |m| {
+        m.form(PARENT_RULE, |table| lacking(table, |table, _, _| table.retired == 1))
+    }),
+    ("form: a missing parent passes only for a place that isn't interpreted", |m| {
+        m.form(PARENT_RULE, |table| lacking(table, |table, _, row| table.retired == 1 && row.mark == 0))
+    }),
+    ("form: a missing parent passes at place 0 alone", |m| {
+        m.form(PARENT_RULE, |table| {
+            lacking(table, |table, place, row| table.retired == 1 && row.mark == 1 && place == 0)
+        })
+    }),
+    ("form: a missing parent passes only without references", |m| {
+        m.form(PARENT_RULE, |table| {
+            lacking(table, |table, _, row| table.retired == 1 && row.mark == 1 && row.references == 0)
+        })
+    }),
+    ("form: a missing parent passes only where no own block is lower", |m| {
+        m.form(PARENT_RULE, |table| {
+            lacking(table, |table, place, row| {
+                let own = table.rows[..place].iter().any(|lower| lower.site == row.site);
+                table.retired == 1 && row.mark == 1 && !own
+            })
+        })
+    }),
+    ("form: two parents pass where something was retired", |m| {
+        m.form(PARENT_RULE, |table| {
+            parents(table, |table, row, count| {
+                row.sequence == 0 || count == 1 || table.retired == 1 && row.mark == 1 && count == 2
+            })
+        })
+    }),
+    ("form: any number of parents passes where something was retired", |m| {
+        m.form(PARENT_RULE, |table| parents(table, |table, row, count| {
+            row.sequence == 0 || count == 1 || table.retired == 1
+        }))
     }),
     ("form: forks don't pass", |m| {
         let differ = |table: &Table| {
@@ -186,11 +243,28 @@ fn some_marked(table: &Table, row: &Row) -> bool {
     places(row.references).any(|place| table.rows[place].mark != 0)
 }
 
-/// Whether every row passes with the number of its parents.
-fn parents(table: &Table, passes: fn(&Row, usize) -> bool) -> bool {
+/// Whether every row that doesn't lack its parent lawfully passes with the number of its parents.
+fn parents(table: &Table, passes: fn(&Table, &Row, usize) -> bool) -> bool {
     every(table, |_, row| {
-        let count = if row.sequence == 0 { 0 } else { table.parents(row.site, row.sequence, row.references) };
-        passes(row, count)
+        let count = parent_count(table, row);
+        row.sequence != 0 && lacks_parent(table, row) || passes(table, row, count)
+    })
+}
+
+/// A block of sequence number 0 has none.
+fn parent_count(table: &Table, row: &Row) -> usize {
+    if row.sequence == 0 {
+        0
+    } else {
+        table.parents(row.site, row.sequence, row.references)
+    }
+}
+
+/// Whether every row keeps the parent rule, or lacks its parent and passes.
+fn lacking(table: &Table, passes: fn(&Table, usize, &Row) -> bool) -> bool {
+    every(table, |place, row| match parent_count(table, row) {
+        0 => row.sequence == 0 || passes(table, place, row),
+        count => count == 1,
     })
 }
 

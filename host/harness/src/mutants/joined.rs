@@ -7,7 +7,7 @@ use crate::joining::{
 };
 use crate::record::part_of;
 use crate::sizes::{DIGEST_BYTES, PART_NUMBERS, PLACES, RECORD_NUMBERS, SLOTS};
-use crate::table::{places, Row, Table};
+use crate::table::{places, Row, Table, COUNT};
 
 pub const MISTAKES: &[Mistake] = &[
     // Which blocks, in which order
@@ -247,7 +247,7 @@ pub const MISTAKES: &[Mistake] = &[
     ("join: the left's records are copied from the count on", |m| {
         m.after_join(|answer, lent| {
             if answer.refusal == 0 {
-                let from = PART_NUMBERS * usize::from(lent.left[1 + SLOTS]);
+                let from = PART_NUMBERS * usize::from(lent.left[COUNT]);
                 lent.third[from..].copy_from_slice(&lent.left_records[from..]);
             }
             answer
@@ -259,7 +259,7 @@ pub const MISTAKES: &[Mistake] = &[
         m.after_join(|answer, _| value_beside(0, answer, answer.value.saturating_sub(1)))
     }),
     ("join: a success answers the right's count", |m| {
-        m.after_join(|answer, lent| value_beside(0, answer, lent.right.get(1 + SLOTS).copied().unwrap_or(0).into()))
+        m.after_join(|answer, lent| value_beside(0, answer, lent.right.get(COUNT).copied().unwrap_or(0).into()))
     }),
     ("join: a success answers how many are interpreted", |m| {
         m.after_join(|answer, lent| {

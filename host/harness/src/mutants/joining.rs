@@ -2,9 +2,10 @@
 
 use super::{value_beside, Joined, Mistake, Mutant};
 use crate::answer::Answer;
+use crate::form::lacks_parent;
 use crate::joining::{blocks, setups_differ, Two, CHECKS};
 use crate::sizes::{BUFFER_NUMBERS, PLACES, SLOTS};
-use crate::table::Table;
+use crate::table::{Table, COUNT};
 
 /// Each check left out, each two neighbours swapped; another value beside each refusal, and something written by it.
 pub fn checks_exchanged() -> Vec<Mutant> {
@@ -61,11 +62,14 @@ impl Mutant {
 
 pub const MISTAKES: &[Mistake] = &[
     // Order
-    ("join: 2 after 12 and 23", |m| m.model.joining.checks[..3].rotate_left(1)),
+    ("join: 2 after 12, 31 and 23", |m| m.model.joining.checks[..4].rotate_left(1)),
     ("join: 2 last", |m| m.model.joining.checks.rotate_left(1)),
     ("join: 25 first", |m| m.model.joining.checks.rotate_right(1)),
-    ("join: 25 before 23", |m| m.model.joining.checks[2..].rotate_right(1)),
-    ("join: 24 before 12", |m| m.model.joining.checks[1..4].rotate_right(1)),
+    ("join: 25 before 23", |m| m.model.joining.checks[3..].rotate_right(1)),
+    ("join: 24 before 12", |m| m.model.joining.checks[1..5].rotate_right(1)),
+    ("join: 31 first", |m| m.model.joining.checks[..3].rotate_right(1)),
+    ("join: 31 after 24", |m| m.model.joining.checks[2..5].rotate_left(1)),
+    ("join: 31 last", |m| m.model.joining.checks[2..].rotate_left(1)),
     ("join: the right's 2 after 12", |m| {
         m.joining(2, |two| {
             let lengths = two.numbers.iter().all(|&numbers| numbers == BUFFER_NUMBERS);
@@ -108,6 +112,21 @@ pub const MISTAKES: &[Mistake] = &[
     }),
     ("join: the three lengths are compared with each other", |m| {
         m.joining(12, |two| two.numbers.iter().any(|&numbers| numbers != two.numbers[0]).then_some(0))
+    }),
+    // 31
+    ("join: 31 for the left alone", |m| m.joining(31, |two| (two.left.retired == 1).then_some(0))),
+    ("join: 31 for the right alone", |m| m.joining(31, |two| (two.right.retired == 1).then_some(0))),
+    ("join: 31 where both have retired alone", |m| {
+        m.joining(31, |two| (two.left.retired == 1 && two.right.retired == 1).then_some(0))
+    }),
+    ("join: 31 where one has retired alone", |m| {
+        m.joining(31, |two| (two.left.retired != two.right.retired).then_some(0))
+    }),
+    ("join: 31 for a side that holds blocks alone", |m| {
+        m.joining(31, |two| [&two.left, &two.right].iter().any(|side| side.retired == 1 && side.count > 0).then_some(0))
+    }),
+    ("join: 31 for a side that lacks a parent alone", |m| {
+        m.joining(31, |two| [&two.left, &two.right].iter().any(|side| lacks_some_parent(side)).then_some(0))
     }),
     // 23
     ("join: n isn't compared", |m| m.joining(23, |two| (two.left.owners != two.right.owners).then_some(0))),
@@ -163,7 +182,7 @@ pub const MISTAKES: &[Mistake] = &[
     ("join: 24 leaves the left's records in the third buffer", |m| {
         m.after_refused_join(24, |lent| lent.third.copy_from_slice(lent.left_records))
     }),
-    ("join: 25 fills the left up", |m| m.after_refused_join(25, |lent| lent.left[1 + SLOTS] = PLACES as u8)),
+    ("join: 25 fills the left up", |m| m.after_refused_join(25, |lent| lent.left[COUNT] = PLACES as u8)),
     // Buffers that are only read
     ("join: the right's table is written", |m| {
         m.after_join(|answer, lent| {
@@ -195,6 +214,10 @@ fn changed(answer: Answer, records: &mut [u16]) -> Answer {
         *last ^= 1;
     }
     answer
+}
+
+fn lacks_some_parent(table: &Table) -> bool {
+    table.held().iter().any(|row| row.sequence != 0 && lacks_parent(table, row))
 }
 
 /// Check 12 for some of the buffers.

@@ -17,7 +17,7 @@ pub const MISTAKES: &[Mistake] = &[
     }),
     (STATE_OF_OTHER_BRANCH, |m| {
         m.model.interpretation.parent = |table, place| {
-            let last = |other: &usize| table.rows[*other].sequence + 1 == table.rows[place].sequence;
+            let last = |other: &usize| table.rows[*other].sequence.checked_add(1) == Some(table.rows[place].sequence);
             own_places(table, place).filter(last).last()
         }
     }),

@@ -31,13 +31,13 @@ pub const MISTAKES: &[Mistake] = &[
     }),
     ("replay: another first byte is skipped", |m| {
         m.model.replay.first = |list| {
-            let others = list.iter().take_while(|&&byte| byte > 1).count();
+            let others = list.iter().take_while(|&&byte| byte > 2).count();
             first(&list[others..])
         }
     }),
     ("replay: another first byte is an interpretation", |m| {
         m.model.replay.first = |list| match list {
-            [2..=255, rest @ ..] => {
+            [3..=255, rest @ ..] => {
                 wide(rest).map(|(place, rest)| (Call::Interpretation { place: place as usize }, rest))
             }
             _ => first(list),
@@ -49,6 +49,52 @@ pub const MISTAKES: &[Mistake] = &[
                 wide(&list[1..]).map(|(place, rest)| (Call::Interpretation { place: place as usize }, rest))
             }
             _ => first(list),
+        }
+    }),
+    ("replay: a retiring ends the list", |m| {
+        m.model.replay.first = |list| first(list).filter(|(call, _)| !matches!(call, Call::Retiring))
+    }),
+    ("replay: a retiring has a place like an interpretation", |m| {
+        m.model.replay.first = |list| match list {
+            [2, rest @ ..] => wide(rest).map(|(_, rest)| (Call::Retiring, rest)),
+            _ => first(list),
+        }
+    }),
+    ("replay: a retiring has a verdict", |m| {
+        m.model.replay.first = |list| match list {
+            [2, rest @ ..] => rest.split_first().map(|(_, rest)| (Call::Retiring, rest)),
+            _ => first(list),
+        }
+    }),
+    ("replay: a retiring that ends the list is taken as cut", |m| {
+        m.model.replay.first =
+            |list| first(list).filter(|(call, rest)| !matches!(call, Call::Retiring) || !rest.is_empty())
+    }),
+    ("replay: a retiring is an interpretation of place 0", |m| {
+        m.model.replay.first = |list| match first(list)? {
+            (Call::Retiring, rest) => Some((Call::Interpretation { place: 0 }, rest)),
+            other => Some(other),
+        }
+    }),
+    ("replay: 3 is a retiring too", |m| {
+        m.model.replay.first = |list| match list {
+            [3, rest @ ..] => Some((Call::Retiring, rest)),
+            _ => first(list),
+        }
+    }),
+    ("replay: all bytes from 2 on are retirings", |m| {
+        m.model.replay.first = |list| match list {
+            [2..=255, rest @ ..] => Some((Call::Retiring, rest)),
+            _ => first(list),
+        }
+    }),
+    ("replay: all retirings in a row are one", |m| {
+        m.model.replay.first = |list| match first(list)? {
+            (Call::Retiring, rest) => {
+                let more = rest.iter().take_while(|&&byte| byte == 2).count();
+                Some((Call::Retiring, &rest[more..]))
+            }
+            other => Some(other),
         }
     }),
     ("replay: the length is taken high byte first", |m| {

@@ -1,0 +1,70 @@
+//! Retirings: single ones, mostly on tables that no calls reach; and campaigns of two keepers that retire at different
+//! times, each beside a ledger of every block ever admitted.
+
+use super::builds::{next_block, some_list};
+use crate::campaign::Campaign;
+use crate::compare::{Compare, Difference, Next};
+use crate::contents::{any_numbers, some_length};
+use crate::damage::damaged;
+use crate::laws::{self, Ever, Retired};
+use crate::leaving;
+use crate::lent::{Lent, Sides};
+use crate::random::Random;
+use crate::retirer::Retirer;
+use crate::table::Table;
+
+pub fn run(random: &Random, compare: &mut Compare) -> Result<(), Difference> {
+    if random.one_in(2) {
+        by_hand(random, compare)
+    } else {
+        campaigns(random, compare)
+    }
+}
+
+// ---- Any tables and records
+
+const RETIRINGS_A_TABLE: usize = 3;
+
+/// One after the other, up to a refusal.
+fn by_hand(random: &Random, compare: &mut Compare) -> Result<(), Difference> {
+    let table = leaving::drawn(random);
+    let bytes = if random.one_in(6) { damaged(random, &table) } else { table.to_bytes() };
+    let length = some_length(random);
+    let mut sides = Sides::new(Lent::new(bytes, any_numbers(random, length)));
+    for _ in 0..RETIRINGS_A_TABLE {
+        let before = Lent::new(sides.expected.table.clone(), sides.expected.records.clone());
+        let answer = compare.retire(&mut sides)?;
+        compare.counts.retirings.asked(&Table::from_bytes(&before.table), length, answer);
+        if answer.refusal != 0 {
+            break;
+        }
+        let in_form = compare.in_form(&sides.expected.table)?;
+        laws::check_retired(&Retired { before: &before, after: &sides.tested, answer, in_form })?;
+    }
+    Ok(())
+}
+
+// ---- Campaigns
+
+/// What the two come to must keep the laws, and a site can go on from there.
+fn campaigns(random: &Random, compare: &mut Compare) -> Result<(), Difference> {
+    let campaign = Campaign::drawn(random);
+    if campaign.blocks.is_empty() {
+        return Ok(());
+    }
+    let each_call = !random.one_in(3);
+    let one = Retirer::run(random, compare, &campaign, each_call)?;
+    let other = Retirer::run(random, compare, &campaign, each_call)?;
+    let mut watched = |retirer: &Retirer| compare.forks(&retirer.kept.left().table);
+    let watched = [watched(&one)?, watched(&other)?];
+    let ever = Ever { sites: [&one.kept, &other.kept], site_count: campaign.sites, watched };
+    compare.counts.retirings.ended(&ever);
+    laws::check_ever(&ever)?;
+    for retirer in [one, other] {
+        retirer.replay(random, compare)?;
+        let site = random.below(campaign.sites.into()) as u8;
+        let table = &retirer.kept.left().table;
+        next_block(random, compare, &Next { table, site, requests: &some_list(random) })?;
+    }
+    Ok(())
+}

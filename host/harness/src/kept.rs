@@ -1,0 +1,91 @@
+//! A site's table and records beside its ledger without bounds: each call is made on both, and the laws are held against
+//! what comes of it.
+
+use std::collections::{BTreeSet, HashMap};
+
+use crate::answer::Answer;
+use crate::compare::{Compare, Difference};
+use crate::contents::any_numbers;
+use crate::laws::{self, Recorded};
+use crate::ledger::Ledger;
+use crate::lent::{Lent, Sides};
+use crate::random::Random;
+use crate::record::{part_at, Act, Part};
+use crate::sha256::Digest;
+use crate::sizes::{SLOTS, TABLE_BYTES};
+
+pub struct Kept {
+    pub sides: Sides,
+    pub ledger: Ledger,
+    /// Whether the laws are held against each call. Else only those of the end are: so wrong rules show whether these say
+    /// something by themselves.
+    each_call: bool,
+    /// The parts that interpretations wrote, by the blocks; those of blocks that have left are among them.
+    pub parts: HashMap<Digest, Part>,
+    /// The numbers delivered in each slot, in blocks that are held or have left.
+    pub delivered: [BTreeSet<u16>; SLOTS],
+}
+
+impl Kept {
+    /// With a fresh table and any records.
+    pub fn new(
+        random: &Random,
+        compare: &mut Compare,
+        (sites, owners): (u8, [u8; SLOTS]),
+        numbers: usize,
+        each_call: bool,
+    ) -> Result<Kept, Difference> {
+        let mut table = random.bytes(TABLE_BYTES);
+        compare.fresh(sites, &owners, &mut table)?;
+        Ok(Kept {
+            sides: Sides::new(Lent::new(table, any_numbers(random, numbers))),
+            ledger: Ledger::new(sites, owners, numbers),
+            each_call,
+            parts: HashMap::new(),
+            delivered: Default::default(),
+        })
+    }
+
+    /// What the calls so far have left: the library's, which is the model's too.
+    pub fn left(&self) -> &Lent {
+        &self.sides.tested
+    }
+
+    pub fn admit(&mut self, compare: &mut Compare, bytes: &[u8], verdict: u8) -> Result<Answer, Difference> {
+        let answer = compare.admit(&mut self.sides, bytes, verdict)?;
+        let by_ledger = self.ledger.admit(bytes, verdict);
+        self.check(answer, by_ledger)
+    }
+
+    pub fn interpret(&mut self, compare: &mut Compare, place: usize) -> Result<Answer, Difference> {
+        let answer = compare.interpret(&mut self.sides, place)?;
+        let by_ledger = self.ledger.interpret(place);
+        if answer.refusal == 0 && place < self.ledger.count() {
+            self.note(compare, place);
+        }
+        self.check(answer, by_ledger)
+    }
+
+    pub fn retire(&mut self, compare: &mut Compare) -> Result<Answer, Difference> {
+        let answer = compare.retire(&mut self.sides)?;
+        let by_ledger = self.ledger.retire();
+        self.check(answer, by_ledger)
+    }
+
+    /// What was written for a place.
+    fn note(&mut self, compare: &mut Compare, place: usize) {
+        let part = part_at(&self.left().records, place);
+        compare.counts.campaigns.made(&part);
+        for (numbers, record) in self.delivered.iter_mut().zip(&part) {
+            numbers.extend(Some(record[Act::Deliver.so_far()]).filter(|&number| number != 0));
+        }
+        self.parts.insert(self.ledger.at(place).digest, part);
+    }
+
+    fn check(&self, answer: Answer, by_ledger: Answer) -> Result<Answer, Difference> {
+        if self.each_call {
+            laws::check_recorded(&Recorded { ledger: &self.ledger, lent: self.left(), answer, by_ledger })?;
+        }
+        Ok(answer)
+    }
+}

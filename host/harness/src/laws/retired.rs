@@ -1,0 +1,73 @@
+//! What must hold of a retiring, by what was there before and after it. Blocks go by their digests.
+
+use super::Law;
+use crate::answer::Answer;
+use crate::joining::referred;
+use crate::lent::Lent;
+use crate::record::part_of;
+use crate::sha256::Digest;
+use crate::sizes::PLACES;
+use crate::table::{Row, Table};
+
+pub struct Retired<'a> {
+    pub before: &'a Lent,
+    pub after: &'a Lent,
+    pub answer: Answer,
+    /// Whether the table is in form after it.
+    pub in_form: bool,
+}
+
+pub const STILL_IN_FORM: &str = "law: a table in form stays so when a block is retired";
+pub const OTHERS_STAY: &str = "law: all other blocks stay, a place lower, and refer to what they did but for the one that left";
+pub const KEEPS_THAT: &str = "law: a table keeps whether it has retired anything";
+pub const PARTS_MOVE: &str = "law: the parts of all other places move with them, and the buffer from the new count on stays";
+pub const NEVER_THE_LAST: &str = "law: the greatest interpreted block of a site is never retired";
+
+pub fn laws<'a>() -> [Law<Retired<'a>>; 5] {
+    [
+        Law { name: STILL_IN_FORM, broken: |retired| (!retired.in_form).then(|| said(retired)) },
+        Law { name: KEEPS_THAT, broken: |retired| (Table::from_bytes(&retired.after.table).retired != 1).then(|| said(retired)) },
+        Law { name: OTHERS_STAY, broken: others_change },
+        Law { name: PARTS_MOVE, broken: other_number },
+        Law { name: NEVER_THE_LAST, broken: last_of_its_site },
+    ]
+}
+
+fn said(retired: &Retired) -> String {
+    format!("{:?}", retired.answer)
+}
+
+fn tables(retired: &Retired) -> [Table; 2] {
+    [retired.before, retired.after].map(|lent| Table::from_bytes(&lent.table))
+}
+
+fn others_change(retired: &Retired) -> Option<String> {
+    let [before, after] = tables(retired);
+    let left = before.rows[0].digest;
+    let same = |place: usize| {
+        let (old, new) = (&before.rows[place + 1], &after.rows[place]);
+        let mut wanted: Vec<Digest> = referred(&before, old);
+        wanted.retain(|digest| *digest != left);
+        *new == Row { references: new.references, ..*old } && referred(&after, new) == wanted
+    };
+    let place = (0..PLACES - 1).find(|&place| !same(place));
+    let count = after.count + 1 != before.count;
+    (count || place.is_some()).then(|| format!("{} held, then {}; place {place:?}", before.count, after.count))
+}
+
+fn other_number(retired: &Retired) -> Option<String> {
+    let [before, after] = [retired.before, retired.after].map(|lent| &lent.records);
+    let count = Table::from_bytes(&retired.after.table).count;
+    let moved = part_of(count).map_or(0, |part| part.start);
+    let part = part_of(0).map_or(0, |part| part.end);
+    let wanted = |at: usize| if at < moved { before[at + part] } else { before[at] };
+    let at = (0..after.len()).find(|&at| after[at] != wanted(at))?;
+    Some(format!("number {at}"))
+}
+
+fn last_of_its_site(retired: &Retired) -> Option<String> {
+    let [before, after] = tables(retired);
+    let left = before.rows[0];
+    let later = |row: &Row| row.site == left.site && row.mark == 1 && row.sequence > left.sequence;
+    (!after.held().iter().any(later)).then(|| format!("site {} at {}", left.site, left.sequence))
+}
