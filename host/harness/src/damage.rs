@@ -231,29 +231,28 @@ fn seventeen_references(random: &Random, table: &mut Table) {
     });
 }
 
-/// Another lower place that could be the parent, if there is one.
+/// Of a place that has another lower one which could be its parent, both, if there is such a place.
 fn second_parent(random: &Random, table: &mut Table) {
-    change_row(random, table, |random, table, place, row| {
-        let parent = |lower: &usize| {
-            let other = &table.rows[*lower];
-            other.site == row.site && row.sequence > 0 && other.sequence == row.sequence - 1
-        };
-        let parents: Vec<usize> = (0..place).filter(parent).collect();
-        if !parents.is_empty() {
-            row.references |= 1 << random.pick(&parents);
-        }
-    });
+    let several = |place: &usize| possible_parents(table, *place).len() > 1;
+    let places: Vec<usize> = (0..table.count).filter(several).collect();
+    if !places.is_empty() {
+        let place = random.pick(&places);
+        let parents = possible_parents(table, place);
+        table.rows[place].references |= 1 << random.pick(&parents) | 1 << random.pick(&parents);
+    }
+}
+
+/// The lower places of the same site with the sequence number one less.
+fn possible_parents(table: &Table, place: usize) -> Vec<usize> {
+    let row = &table.rows[place];
+    let parent = |other: &Row| other.site == row.site && other.sequence.checked_add(1) == Some(row.sequence);
+    (0..place).filter(|&lower| parent(&table.rows[lower])).collect()
 }
 
 /// Without any parent. In form where something was retired and the place is interpreted.
 fn missing_parent(random: &Random, table: &mut Table) {
     change_row(random, table, |random, table, place, row| {
-        let parent = |lower: usize| {
-            let other = &table.rows[lower];
-            other.site == row.site && row.sequence > 0 && other.sequence == row.sequence - 1
-        };
-        let parents = (0..place).filter(|&lower| parent(lower)).fold(0, |set, lower| set | 1 << lower);
-        row.references &= !parents;
+        possible_parents(table, place).iter().for_each(|lower| row.references &= !(1 << lower));
         // Or with another mark, where that breaks no other rule.
         let markable = places(row.references).all(|lower| table.rows[lower].mark == 1);
         row.mark = random.pick(&[row.mark, row.mark, u8::from(markable)]);

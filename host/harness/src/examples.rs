@@ -9,6 +9,7 @@ mod joined;
 mod listed;
 mod lists;
 mod promised;
+mod retired;
 mod shelf_forms;
 mod shelved;
 mod watched;
@@ -49,6 +50,7 @@ pub fn failed(calls: &dyn Calls) -> Vec<&'static str> {
     examples.extend(shelf_forms::all(calls));
     examples.extend(shelved::all(calls));
     examples.extend(joined::all(calls));
+    examples.extend(retired::all(calls));
     examples.into_iter().filter(|(_, holds)| !holds).map(|(name, _)| name).collect()
 }
 

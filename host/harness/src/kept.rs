@@ -17,9 +17,9 @@ use crate::sizes::{SLOTS, TABLE_BYTES};
 pub struct Kept {
     pub sides: Sides,
     pub ledger: Ledger,
-    /// Whether the laws are held against each call. Else only those of the end are: so wrong rules show whether these say
-    /// something by themselves.
-    each_call: bool,
+    /// Which law comes first of those that are held against each call. Without one only those of the end are held: so wrong
+    /// rules show whether these say something by themselves.
+    first_law: Option<usize>,
     /// The parts that interpretations wrote, by the blocks; those of blocks that have left are among them.
     pub parts: HashMap<Digest, Part>,
     /// The numbers delivered in each slot, in blocks that are held or have left.
@@ -33,14 +33,14 @@ impl Kept {
         compare: &mut Compare,
         (sites, owners): (u8, [u8; SLOTS]),
         numbers: usize,
-        each_call: bool,
+        first_law: Option<usize>,
     ) -> Result<Kept, Difference> {
         let mut table = random.bytes(TABLE_BYTES);
         compare.fresh(sites, &owners, &mut table)?;
         Ok(Kept {
             sides: Sides::new(Lent::new(table, any_numbers(random, numbers))),
             ledger: Ledger::new(sites, owners, numbers),
-            each_call,
+            first_law,
             parts: HashMap::new(),
             delivered: Default::default(),
         })
@@ -83,8 +83,8 @@ impl Kept {
     }
 
     fn check(&self, answer: Answer, by_ledger: Answer) -> Result<Answer, Difference> {
-        if self.each_call {
-            laws::check_recorded(&Recorded { ledger: &self.ledger, lent: self.left(), answer, by_ledger })?;
+        if let Some(first) = self.first_law {
+            laws::check_recorded(&Recorded { ledger: &self.ledger, lent: self.left(), answer, by_ledger }, first)?;
         }
         Ok(answer)
     }

@@ -27,7 +27,7 @@ pub use joined::{AGAIN, IN_FORM, MARKED, PARTS, SAME_BLOCKS, STAYS_FIRST};
 pub use promised::{Promised, DELIVERED, FULL, PASSED_ON};
 pub use reached::{BY_CALLS, GOES_ON, SWAPPED};
 pub use recorded::{Recorded, SAME_ANSWER, SAME_TABLE, WHOLE_HISTORY};
-pub use retired::{Retired, KEEPS_THAT, NEVER_THE_LAST, OTHERS_STAY, PARTS_MOVE, STILL_IN_FORM};
+pub use retired::{Retired, KEEPS_THAT, NEVER_THE_LAST, NOTHING_OPEN, OTHERS_STAY, PARTS_MOVE, STILL_IN_FORM};
 pub use seen::{CLOSED, LOWER, MORE_BLOCKS, NAMED, ONES, THIRD};
 pub use told::{Told, ANSWERED_9, INDEPENDENT};
 
@@ -52,14 +52,20 @@ pub fn check_ends(ends: &Ends) -> Result<(), Difference> {
     check(&ends::laws(), ends, || vec![shown("one table", one), shown("other table", other)])
 }
 
-/// A retiring that was answered 0.
-pub fn check_retired(retired: &Retired) -> Result<(), Difference> {
-    check(&retired::laws(), retired, || vec![shown("table", &retired.before.table)])
+/// A retiring that was answered 0. Another law comes first with another number: so wrong rules show whether each says
+/// something by itself.
+pub fn check_retired(retired: &Retired, first: usize) -> Result<(), Difference> {
+    check(&from(first, retired::laws()), retired, || vec![shown("table", &retired.before.table)])
 }
 
-/// A site after a call, by its ledger.
-pub fn check_recorded(recorded: &Recorded) -> Result<(), Difference> {
-    check(&recorded::laws(), recorded, || vec![shown("table", &recorded.lent.table)])
+/// A site after a call, by its ledger. The number has the same meaning.
+pub fn check_recorded(recorded: &Recorded, first: usize) -> Result<(), Difference> {
+    check(&from(first, recorded::laws()), recorded, || vec![shown("table", &recorded.lent.table)])
+}
+
+fn from<Of, const N: usize>(first: usize, mut laws: [Law<Of>; N]) -> [Law<Of>; N] {
+    laws.rotate_left(first % N);
+    laws
 }
 
 /// All that two sites ever admitted.

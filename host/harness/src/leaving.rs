@@ -30,13 +30,14 @@ fn some_count(random: &Random) -> usize {
 
 type Change = fn(&Random, &mut Table);
 
-const CHANGES: [Change; 8] = [
+const CHANGES: [Change; 9] = [
     |_, _| {},
     |_, _| {},
     one_referring_open,
     one_referring_open,
     first_open,
     first_open,
+    later_open,
     later_open,
     first_is_last,
 ];
@@ -73,13 +74,18 @@ fn first_open(random: &Random, table: &mut Table) {
     unmark_from(table, 0);
 }
 
-/// No later block of the site of place 0 is interpreted.
+/// Only blocks that aren't interpreted come after place 0: it becomes a twin of its site's greatest block that is. They
+/// don't refer to it.
 fn later_open(_: &Random, table: &mut Table) {
-    let first = table.rows[0];
-    for place in (1..table.count).rev() {
-        if table.rows[place].site == first.site && table.rows[place].sequence > first.sequence {
-            unmark_from(table, place);
-        }
+    let own: Vec<usize> = table.own(table.rows[0].site).filter(|&place| place > 0).collect();
+    if let Some(&last) = own.last() {
+        unmark_from(table, last);
+    }
+    let marked = own.iter().filter(|&&place| table.rows[place].mark == 1);
+    if let Some(greatest) = marked.map(|&place| table.rows[place].sequence).max() {
+        table.retired = 1;
+        table.rows[0].sequence = greatest;
+        table.rows.iter_mut().filter(|row| row.mark == 0).for_each(|row| row.references &= !1);
     }
 }
 

@@ -150,8 +150,8 @@ impl Calls for Model {
         if let Some(refusal) = first_refusal(&self.retiring.checks, &leaving) {
             return refusal;
         }
-        let left = self.retiring.table(&leaving.table);
-        (self.retiring.records)(records, left.count);
+        let left = (self.retiring.table)(&self.retiring, &leaving.table);
+        (self.retiring.records)(records, &left);
         left.write(table);
         Answer::success(0)
     }

@@ -17,6 +17,7 @@ mod meaning;
 mod process;
 mod reading;
 mod replay;
+mod retiring;
 mod shelf_form;
 mod shelf_rule;
 mod tries;
@@ -128,6 +129,13 @@ pub fn of_shelves() -> Vec<Mutant> {
 pub fn of_joins() -> Vec<Mutant> {
     let mut mutants = joining::checks_exchanged();
     mutants.extend(mistaken(&mistakes_in_joins()));
+    mutants
+}
+
+/// Those that cases of retirings find.
+pub fn of_retirings() -> Vec<Mutant> {
+    let mut mutants = retiring::checks_exchanged();
+    mutants.extend(mistaken(retiring::MISTAKES));
     mutants
 }
 
@@ -276,6 +284,45 @@ pub fn lawless_in_joins() -> Vec<(Mutant, &'static str)> {
     ])
 }
 
+/// The same of laws about retirings.
+pub fn lawless_in_retirings() -> Vec<(Mutant, &'static str)> {
+    with_laws(&[
+        (&[retiring::REFERENCES_STAY], STILL_IN_FORM),
+        (&[retiring::REFERRING_OPEN], STILL_IN_FORM),
+        (&[retiring::NOT_NOTED], STILL_IN_FORM),
+        (&[retiring::NOT_NOTED], KEEPS_THAT),
+        (&[retiring::FIRST_KEPT], OTHERS_STAY),
+        (&[retiring::REFERENCES_STAY], OTHERS_STAY),
+        (&[retiring::MARKS_LOST], OTHERS_STAY),
+        (&[retiring::LAST_LEAVES], OTHERS_STAY),
+        (&[retiring::RECORDS_STAY], PARTS_MOVE),
+        (&[retiring::LAST_PART_CLEARED], PARTS_MOVE),
+        (&[retiring::NOT_FOLLOWED], NEVER_THE_LAST),
+        (&[retiring::FOLLOWED_BY_OPEN], NEVER_THE_LAST),
+        (&[retiring::FOLLOWED_BY_TWIN], NEVER_THE_LAST),
+        (&[retiring::FOLLOWED_BY_ANYONE], NEVER_THE_LAST),
+        (&[retiring::NOT_INTERPRETED], NOTHING_OPEN),
+        (&[retiring::REFERRING_OPEN], NOTHING_OPEN),
+        (&[retiring::REFERRING_OPEN], SAME_ANSWER),
+        (&[retiring::NOT_FOLLOWED], SAME_ANSWER),
+        (&[retiring::NOT_NOTED], SAME_TABLE),
+        (&[retiring::REFERENCES_STAY], SAME_TABLE),
+        (&[retiring::FIRST_KEPT], SAME_TABLE),
+        (&[retiring::MARKS_LOST], SAME_TABLE),
+        (&[retiring::RETURNED_MARKED], SAME_TABLE),
+        (&[retiring::RECORDS_STAY], WHOLE_HISTORY),
+        (&[retiring::PARTS_FROM_LAST], WHOLE_HISTORY),
+        (&[retiring::LAST_LEAVES], SAME_TABLE),
+        (&[meaning::STATE_OF_HIGHEST], WHOLE_HISTORY),
+        (&[retiring::RECORDS_STAY], EQUAL_EVER),
+        (&[meaning::ARRIVAL_ORDER], EQUAL_EVER),
+        (&[process::DELIVERING_AT_SEND], ONE_NUMBER_EVER),
+        (&[process::ECHO_QUORUM_F_PLUS_1, process::DELIVERY_AT_F_PLUS_1], ONE_NUMBER_EVER),
+        (&[process::SEND_FROM_ANYONE, meaning::REQUEST_OF_ANYONE], REQUESTED_EVER),
+        (&[watch::SITES_NOT_COMPARED], WATCHED_EVER),
+    ])
+}
+
 /// Mutants by the names of their mistakes.
 fn with_laws(names: &[(&[&str], &'static str)]) -> Vec<(Mutant, &'static str)> {
     names.iter().map(|(names, law)| (Mutant::of(names), *law)).collect()
@@ -300,7 +347,7 @@ impl Mutant {
     /// With all mistakes of these names.
     fn of(names: &[&str]) -> Mutant {
         let make = |mutant: &mut Mutant| {
-            let all = [mistakes(), mistakes_with_shelves(), mistakes_in_joins()].concat();
+            let all = [mistakes(), mistakes_with_shelves(), mistakes_in_joins(), retiring::MISTAKES.to_vec()].concat();
             for wanted in names {
                 let (_, mistake) = all.iter().find(|(name, _)| name == wanted).expect("a mistake's name");
                 mistake(mutant);

@@ -55,16 +55,16 @@ impl Habits {
 }
 
 impl<'a> Retirer<'a> {
-    /// Makes all its calls. `each_call` says whether the laws of each call are held against it.
+    /// Makes all its calls, with the law that is held first against each of them, if any is.
     pub fn run(
         random: &Random,
         compare: &mut Compare,
         campaign: &'a Campaign,
-        each_call: bool,
+        first_law: Option<usize>,
     ) -> Result<Retirer<'a>, Difference> {
         let habits = Habits::drawn(random, campaign);
         let numbers = if random.one_in(24) { some_length(random) } else { BUFFER_NUMBERS };
-        let kept = Kept::new(random, compare, (campaign.sites, campaign.owners), numbers, each_call)?;
+        let kept = Kept::new(random, compare, (campaign.sites, campaign.owners), numbers, first_law)?;
         let before = Lent::new(kept.left().table.clone(), kept.left().records.clone());
         let mut retirer = Retirer { campaign, kept, calls: Vec::new(), answers: Vec::new(), before };
         while retirer.answers.len() < habits.most_calls {

@@ -21,8 +21,10 @@ pub struct Retiring {
     pub references: fn(u64) -> u64,
     /// Whether the table has retired something, by what it had before.
     pub retired: fn(u8) -> u8,
-    /// Moves the records of a table with so many places left.
-    pub records: fn(&mut [u16], usize),
+    /// The table that is left of one.
+    pub table: fn(&Retiring, &Table) -> Table,
+    /// Moves the records for the table that is left.
+    pub records: fn(&mut [u16], &Table),
 }
 
 /// "after 2, 12 and 13"
@@ -59,23 +61,26 @@ pub fn references(set: u64) -> u64 {
 }
 
 /// "move every other .. record down by one; the buffer from the new count on stays"
-pub fn records(records: &mut [u16], left: usize) {
-    for place in 0..left {
-        let (to, from) = (part_of(place).expect("a place"), part_of(place + 1).expect("a place"));
-        // Only a model without check 12 comes here with a buffer that hasn't got the parts.
-        if from.end <= records.len() {
-            records.copy_within(from, to.start);
-        }
+pub fn records(records: &mut [u16], left: &Table) {
+    (0..left.count).for_each(|place| move_part(records, place));
+}
+
+/// The part of the place after it becomes a place's.
+pub fn move_part(records: &mut [u16], place: usize) {
+    let (to, from) = (part_of(place).expect("a place"), part_of(place + 1).expect("a place"));
+    // Only a model without check 2 or 12 comes here with a buffer that hasn't got the parts.
+    if from.end <= records.len() {
+        records.copy_within(from, to.start);
     }
 }
 
 impl Retiring {
     pub fn document() -> Retiring {
-        Retiring { checks: CHECKS.to_vec(), references, retired: |_| 1, records }
+        Retiring { checks: CHECKS.to_vec(), references, retired: |_| 1, table: Retiring::moved, records }
     }
 
     /// The table without its first place. One that passes all checks has a place.
-    pub fn table(&self, table: &Table) -> Table {
+    pub fn moved(&self, table: &Table) -> Table {
         let mut left = Table { count: table.count.saturating_sub(1), ..table.clone() };
         left.retired = (self.retired)(table.retired);
         for place in 0..PLACES {

@@ -4,7 +4,7 @@
 use std::ops::Range;
 
 use crate::calls::Calls;
-use crate::cases::{first_difference, Cases, Found, Kind, GROUPS, JOINS, LISTINGS, SHELVES};
+use crate::cases::{first_difference, Cases, Found, Kind, GROUPS, JOINS, LISTINGS, RETIRINGS, SHELVES};
 use crate::counts::Counts;
 use crate::examples;
 use crate::model::Model;
@@ -23,8 +23,9 @@ pub fn run(options: &Options) -> bool {
     let groups = first(MOST_GROUPS, &options.cases, &GROUPS);
     let shelves = first(MOST_SHELVES, &options.cases, &SHELVES);
     let joins = first(MOST_JOINS, &options.cases, &JOINS);
+    let retirings = first(MOST_RETIRINGS, &options.cases, &RETIRINGS);
     // The other way round: what follows the rules must not be found to differ.
-    for cases in [&options.cases, &listings, &shelves, &joins] {
+    for cases in [&options.cases, &listings, &shelves, &joins, &retirings] {
         if let Some(found) = find(&model, &model, &mut cases.clone()) {
             println!("the model differs from itself, case {}, kind {}: {}", found.case, found.kind, found.difference);
             return false;
@@ -36,6 +37,7 @@ pub fn run(options: &Options) -> bool {
         (mutants::of_listings(), &listings),
         (mutants::of_shelves(), &shelves),
         (mutants::of_joins(), &joins),
+        (mutants::of_retirings(), &retirings),
     ];
     for (mutants, cases) in by_cases {
         for mutant in mutants {
@@ -48,6 +50,7 @@ pub fn run(options: &Options) -> bool {
         (mutants::lawless_in_groups(), &groups),
         (mutants::lawless_with_shelves(), &shelves),
         (mutants::lawless_in_joins(), &joins),
+        (mutants::lawless_in_retirings(), &retirings),
     ];
     for (lawless, cases) in by_laws {
         for (mutant, law) in lawless {
@@ -64,6 +67,7 @@ const MOST_LISTINGS: u64 = 400;
 const MOST_GROUPS: u64 = 1000;
 const MOST_SHELVES: u64 = 1000;
 const MOST_JOINS: u64 = 1000;
+const MOST_RETIRINGS: u64 = 1500;
 
 /// The first of the cases, so many at most, all of one kind.
 fn first(most: u64, cases: &Cases, kind: &'static Kind) -> Cases {

@@ -28,7 +28,9 @@ impl Spoiled {
             tables[side] = other_setup(random, &tables[side]);
         }
         if random.one_in(2 * one_in) {
-            retire(random, &mut tables[random.below(2)]);
+            let [left, right] = random.pick(&[[true, false], [false, true], [true, true]]);
+            let sides = tables.iter_mut().zip([left, right]).filter(|(_, retires)| *retires);
+            sides.for_each(|(table, _)| retire(random, table));
         }
         let mut bytes = tables.each_ref().map(Table::to_bytes);
         if random.one_in(2 * one_in) {

@@ -1,5 +1,6 @@
 //! Blocks that sites build, mostly on tables that no calls reach. Each is then admitted.
 
+use crate::aged::at_end;
 use crate::block;
 use crate::compare::{Compare, Difference, Next};
 use crate::damage::damaged;
@@ -21,6 +22,9 @@ pub fn run(random: &Random, compare: &mut Compare) -> Result<(), Difference> {
         let site = some_site(random, &table, builder);
         if random.one_in(2) {
             leave(random, &mut table, site, some_left(random));
+        }
+        if random.one_in(6) {
+            table = at_end(random, table, site);
         }
         let bytes = if random.one_in(6) { damaged(random, &table) } else { table.to_bytes() };
         let after = next_block(random, compare, &Next { table: &bytes, site, requests: &some_list(random) })?;

@@ -21,16 +21,23 @@ pub const STILL_IN_FORM: &str = "law: a table in form stays so when a block is r
 pub const OTHERS_STAY: &str = "law: all other blocks stay, a place lower, and refer to what they did but for the one that left";
 pub const KEEPS_THAT: &str = "law: a table keeps whether it has retired anything";
 pub const PARTS_MOVE: &str = "law: the parts of all other places move with them, and the buffer from the new count on stays";
+pub const NOTHING_OPEN: &str = "law: a block leaves only where it and all that refer to it are interpreted";
 pub const NEVER_THE_LAST: &str = "law: the greatest interpreted block of a site is never retired";
 
-pub fn laws<'a>() -> [Law<Retired<'a>>; 5] {
+pub fn laws<'a>() -> [Law<Retired<'a>>; 6] {
     [
         Law { name: STILL_IN_FORM, broken: |retired| (!retired.in_form).then(|| said(retired)) },
-        Law { name: KEEPS_THAT, broken: |retired| (Table::from_bytes(&retired.after.table).retired != 1).then(|| said(retired)) },
+        Law { name: KEEPS_THAT, broken: forgotten },
         Law { name: OTHERS_STAY, broken: others_change },
         Law { name: PARTS_MOVE, broken: other_number },
+        Law { name: NOTHING_OPEN, broken: open },
         Law { name: NEVER_THE_LAST, broken: last_of_its_site },
     ]
+}
+
+fn forgotten(retired: &Retired) -> Option<String> {
+    let kept = Table::from_bytes(&retired.after.table).retired;
+    (kept != 1).then(|| format!("the byte is {kept}"))
 }
 
 fn said(retired: &Retired) -> String {
@@ -63,6 +70,13 @@ fn other_number(retired: &Retired) -> Option<String> {
     let wanted = |at: usize| if at < moved { before[at + part] } else { before[at] };
     let at = (0..after.len()).find(|&at| after[at] != wanted(at))?;
     Some(format!("number {at}"))
+}
+
+fn open(retired: &Retired) -> Option<String> {
+    let [before, _] = tables(retired);
+    let concerned = |place: &usize| *place == 0 || before.rows[*place].references & 1 == 1;
+    let place = (0..before.count).filter(concerned).find(|&place| before.rows[place].mark == 0)?;
+    Some(format!("place {place}"))
 }
 
 fn last_of_its_site(retired: &Retired) -> Option<String> {
