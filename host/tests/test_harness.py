@@ -10,11 +10,13 @@ STREAMS = 1_500
 GROUPS = 4_000
 SHELVES = 4_000
 JOINS = 4_000
-FEWEST_MUTANTS = 1_130
+RETIRINGS = 4_000
+LONG = 4
+FEWEST_MUTANTS = 1_310
 # 1 is no answer of admission: it is for a setup.
-ANSWERS = {"gt_admit": {0, *range(2, 12)}, "gt_interpret": {0, 2, 12, 13, 14, 15}, "gt_forks": {0, 2},
-           "gt_ancestors": {0, 2, 13}, "gt_build": {0, 2, 3, 4, 6, 16, 17},
-           "gt_arrive": {0, *range(2, 12), 17, 19, 20, 21}, "gt_join": {0, 2, 12, 23, 24, 25}}
+ANSWERS = {"gt_admit": {0, *range(2, 12)}, "gt_interpret": {0, 2, 12, 13, 14, 15}, "gt_retire": {0, 2, 12, 13, 29},
+           "gt_forks": {0, 2}, "gt_ancestors": {0, 2, 13}, "gt_build": {0, 2, 3, 4, 6, 16, 17, 30},
+           "gt_arrive": {0, *range(2, 12), 17, 19, 20, 21}, "gt_join": {0, 2, 12, 23, 24, 25, 31}}
 # What else must have been met: else the comparison shows little.
 MET = ["campaigns with a slot delivered at both sites", "up to f forked: two numbers sent, one delivered",
        "blocks interpreted at both sites", "tables watched with f forked sites", "tables watched with f + 1 forked sites",
@@ -64,6 +66,23 @@ JOINED = [*(f"joins of {sides}" for sides in (
               (2, "a left"), (2, "a right"), (12, "left records"), (12, "right records"), (12, "a third buffer")))]
 # How often joined sites must have gone on beside one that got all blocks: else little is shown of their agreement.
 FEWEST_GONE_ON = {"joined sites that went on": 1_000, "joined sites that went on and delivered": 250}
+# What retirings must have met.
+RETIRED = [*(f"29 for {cause}, alone" for cause in (
+               "a place 0 that isn't interpreted", "an open block that refers to place 0", "no later interpreted block")),
+           *(f"29 with {what}" for what in (
+               "a later block that isn't interpreted", "a twin and no later block", "later blocks of other sites")),
+           "12 for records to retire short by one", "12 for records to retire long by one",
+           "13 for an empty table that has retired something",
+           *(f"retirings {which}" for which in (
+               "of a full table", "that leave one block", "of a block that others refer to", "of a block that is a parent",
+               "with an open block held", "by a table that has retired before")),
+           "campaigns with more than 64 blocks at a site"]
+# How often blocks must have come again, and two sites have retired at different times: else little is shown of the ledgers.
+FEWEST_RETIRED = {"blocks that have left admitted again": 5_000, "blocks that have left refused with 9": 5_000,
+                  "blocks refused with 9 for one that has left": 5_000, "blocks admitted that refer to one that came again": 3_000,
+                  "blocks that have left interpreted again": 5_000, "campaigns with retirings at both sites": 1_000,
+                  "campaigns with other numbers of retirings": 1_000, "campaigns with retirings and a delivery at both": 300,
+                  "campaigns with retirings and 1 to f forked sites": 300, "campaigns with a forked site that no watch names": 100}
 # The same of listings. Their tables are in form, so that no arrival is answered 2.
 LISTED = [*(f"arrivals answered {number}" for number in (0, *range(3, 12))),
           "listings of no bytes", "listings of a short setup", "listings of an unlawful setup", "listings without an arrival",
@@ -140,6 +159,26 @@ def test_shelves():
 def test_joins():
     """Two controllers whose tables and records calls reached, and others, some with something wrong."""
     expect_no_difference("joins", JOINS, "gt_join", JOINED, FEWEST_GONE_ON)
+
+
+def test_retirings():
+    """Two sites that retire at different times, each beside a ledger of every block ever admitted, and single retirings."""
+    expect_no_difference("retirings", RETIRINGS, "gt_retire", RETIRED, FEWEST_RETIRED)
+
+
+def test_long_campaigns():
+    """Of 10,000 blocks each, in 64 places: no call is refused, and each owner's first request is delivered at every site."""
+    text = output_of([HARNESS, "--kind", "long", "--seed", "1", "--cases", str(LONG)])
+    expect(last_line(text) == f"{LONG} cases, 0 differences", text)
+    expect_met(text, ["blocks of long campaigns"], LONG * 10_000)
+    expect_met(text, ["retirings in long campaigns with a full table"], 10_000)
+
+
+def test_the_last_sequence_number():
+    """A site alone builds up to 65,535, and then gets 30."""
+    text = output_of([HARNESS, "--kind", "last", "--seed", "1", "--cases", "1"])
+    expect(last_line(text) == "1 cases, 0 differences", text)
+    expect_met(text, ["sites that came to 65,535 and then got 30"])
 
 
 def test_another_program_is_found():

@@ -46,7 +46,9 @@ fn some_way(random: &Random, table: &Table, site: u8) -> u16 {
     let to_last = u16::MAX - greatest;
     let around = 256_u16.saturating_sub(random.between(0, usize::from(greatest) + 1) as u16);
     let any = random.between(0, to_last.into()) as u16;
-    random.pick(&[to_last, to_last, to_last.saturating_sub(1), 1, random.between(1, 100) as u16, around, around, any]).min(to_last)
+    random
+        .pick(&[to_last, to_last, to_last.saturating_sub(1), 1, random.between(1, 100) as u16, around, around, any])
+        .min(to_last)
 }
 
 fn greatest(table: &Table, site: u8) -> Option<u16> {

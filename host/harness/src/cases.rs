@@ -7,6 +7,7 @@ mod groups;
 mod interpretations;
 mod joins;
 mod listings;
+mod long;
 mod replays;
 mod retirings;
 mod setups;
@@ -28,7 +29,7 @@ pub struct Kind {
     run: fn(&Random, &mut Compare) -> Result<(), Difference>,
 }
 
-pub static KINDS: [Kind; 13] = [
+pub static KINDS: [Kind; 16] = [
     Kind { name: "setups", shares: 1, run: setups::run },
     Kind { name: "arrivals", shares: 2, run: admissions::arrivals },
     Kind { name: "tables", shares: 2, run: admissions::tables_in_form },
@@ -42,6 +43,9 @@ pub static KINDS: [Kind; 13] = [
     SHELVES,
     JOINS,
     RETIRINGS,
+    LASTING,
+    Kind { name: "long", shares: 0, run: long::run },
+    Kind { name: "last", shares: 0, run: long::to_the_end },
 ];
 
 // The self-test names these. Of groups there are few cases, since they take long.
@@ -50,6 +54,9 @@ pub const SHELVES: Kind = Kind { name: "shelves", shares: 2, run: shelves::run }
 pub const JOINS: Kind = Kind { name: "joins", shares: 2, run: joins::run };
 
 pub const RETIRINGS: Kind = Kind { name: "retirings", shares: 2, run: retirings::run };
+
+/// These are run only where they are named: a case takes long.
+pub const LASTING: Kind = Kind { name: "lasting", shares: 0, run: long::shorter };
 
 /// It is run only where it is named: its cases take a process each, of a program that not every run has.
 pub static LISTINGS: Kind = Kind { name: "listings", shares: 0, run: listings::run };

@@ -4,6 +4,7 @@ mod built;
 mod campaigns;
 mod groups;
 mod joins;
+mod lasted;
 mod listings;
 mod retirings;
 mod shelves;
@@ -16,6 +17,7 @@ use built::BuiltBlocks;
 use campaigns::Campaigns;
 use groups::Groups;
 use joins::Joins;
+use lasted::Lasted;
 use listings::Listings;
 use retirings::Retirings;
 use shelves::Shelves;
@@ -85,6 +87,7 @@ pub struct Counts {
     pub shelves: Shelves,
     pub joins: Joins,
     pub retirings: Retirings,
+    pub lasted: Lasted,
     pub listings: Listings,
     admissions: Answered,
     interpretations: Answered,
@@ -180,6 +183,6 @@ impl Display for Counts {
         writeln!(to, "tables in form     {:>8}", self.in_form)?;
         writeln!(to, "tables not in form {:>8}", self.not_in_form)?;
         write!(to, "{}{}{}{}", self.campaigns, self.watched, self.built, self.groups)?;
-        write!(to, "{}{}{}", self.shelves, self.joins, self.retirings)
+        write!(to, "{}{}{}{}", self.shelves, self.joins, self.retirings, self.lasted)
     }
 }

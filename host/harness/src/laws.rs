@@ -6,6 +6,7 @@ mod built;
 mod ends;
 mod ever;
 mod joined;
+mod lasted;
 mod promised;
 mod reached;
 mod recorded;
@@ -13,10 +14,12 @@ mod retired;
 mod seen;
 mod told;
 
+use crate::answer::Answer;
 use crate::brought::Brought;
 use crate::compare::{shown, Difference};
 use crate::ends::Ends;
 use crate::joined::{Joined, Reached};
+use crate::long::Long;
 use crate::seen::Seen;
 
 pub use brought::{ACCOUNTED_FOR, NEVER_19, ONLY_BY_9, PLAIN, STAYS_IN_FORM, TRIED_OUT};
@@ -24,6 +27,7 @@ pub use built::{Built, LET_IN, READS_BACK, REFERS, REST_STAYS};
 pub use ends::{EQUAL_PARTS, ONE_NUMBER, REQUESTED, WATCHED};
 pub use ever::{Ever, EQUAL_EVER, ONE_NUMBER_EVER, REQUESTED_EVER, WATCHED_EVER};
 pub use joined::{AGAIN, IN_FORM, MARKED, PARTS, SAME_BLOCKS, STAYS_FIRST};
+pub use lasted::{ALL_DELIVERED, NEVER_REFUSED};
 pub use promised::{Promised, DELIVERED, FULL, PASSED_ON};
 pub use reached::{BY_CALLS, GOES_ON, SWAPPED};
 pub use recorded::{Recorded, SAME_ANSWER, SAME_TABLE, WHOLE_HISTORY};
@@ -72,6 +76,19 @@ fn from<Of, const N: usize>(first: usize, mut laws: [Law<Of>; N]) -> [Law<Of>; N
 pub fn check_ever(ever: &Ever) -> Result<(), Difference> {
     let [one, other] = ever.sites.map(|site| &site.left().table);
     check(&ever::laws(), ever, || vec![shown("one table", one), shown("other table", other)])
+}
+
+/// What all sites of a long campaign came to.
+pub fn check_lasted(long: &Long) -> Result<(), Difference> {
+    check(&lasted::laws(), long, Vec::new)
+}
+
+/// A call of a long campaign.
+pub fn check_passed(call: &str, answer: Answer) -> Result<(), Difference> {
+    match answer.refusal {
+        0 => Ok(()),
+        _ => Err(Difference { call: NEVER_REFUSED, what: format!("{call}: {answer:?}"), inputs: Vec::new() }),
+    }
 }
 
 /// What the watch and building say of one table.

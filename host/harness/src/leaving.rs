@@ -25,7 +25,15 @@ pub fn drawn(random: &Random) -> Table {
 }
 
 fn some_count(random: &Random) -> usize {
-    random.pick(&[PLACES, PLACES, 2, 3, random.between(0, 4), random.between(2, MAX_REFERENCES), random.between(2, PLACES)])
+    random.pick(&[
+        PLACES,
+        PLACES,
+        2,
+        3,
+        random.between(0, 4),
+        random.between(2, MAX_REFERENCES),
+        random.between(2, PLACES),
+    ])
 }
 
 type Change = fn(&Random, &mut Table);

@@ -19,8 +19,8 @@ pub struct Known {
     pub site: u8,
     pub sequence: u16,
     requests: [u16; SLOTS],
-    /// In the order of the block.
-    references: Vec<Digest>,
+    /// The blocks that it refers to, by their numbers among those ever admitted.
+    references: Vec<usize>,
     /// Its records, "from the setup and the bytes of the block and its ancestors alone".
     pub meaning: Part,
     /// The numbers that the owner of each slot requests in its ancestors.
@@ -28,10 +28,6 @@ pub struct Known {
 }
 
 impl Known {
-    fn refers_to(&self, other: &Known) -> bool {
-        self.references.contains(&other.digest)
-    }
-
     fn is_parent_of(&self, site: u8, sequence: u16) -> bool {
         self.site == site && self.sequence.checked_add(1) == Some(sequence)
     }
@@ -103,8 +99,8 @@ impl Ledger {
         if let Some(index) = references.iter().position(|reference| self.place_of(reference).is_none()) {
             return Some(refused(9, index));
         }
-        let parents = references.iter().filter(|reference| self.blocks[self.by_digest[*reference]].is_parent_of(site, sequence));
-        if sequence != 0 && parents.count() != 1 {
+        let parent = |reference: &&Digest| self.blocks[self.by_digest[*reference]].is_parent_of(site, sequence);
+        if sequence != 0 && references.iter().filter(parent).count() != 1 {
             return Some(refused(10, 0));
         }
         (self.places.len() == PLACES).then(|| refused(11, 0))
@@ -150,7 +146,7 @@ impl Ledger {
         let held = || self.places.iter().map(|standing| (&self.blocks[standing.block], standing.marked));
         let follows = |known: &Known| known.site == leaving.site && known.sequence > leaving.sequence;
         first.marked
-            && held().all(|(known, marked)| marked || !known.refers_to(leaving))
+            && held().all(|(known, marked)| marked || !known.references.contains(&first.block))
             && held().any(|(known, marked)| marked && follows(known))
     }
 
@@ -173,9 +169,14 @@ impl Ledger {
         self.places[place].marked
     }
 
+    /// Whether the block at a place refers to that at another.
+    fn refers(&self, place: usize, other: usize) -> bool {
+        self.at(place).references.contains(&self.places[other].block)
+    }
+
     /// The lowest place that a place refers to and that isn't marked.
     fn unmarked_below(&self, place: usize) -> Option<usize> {
-        (0..place).find(|&lower| !self.marked(lower) && self.at(place).refers_to(self.at(lower)))
+        (0..place).find(|&lower| !self.marked(lower) && self.refers(place, lower))
     }
 
     /// The places that can be interpreted.
@@ -192,7 +193,7 @@ impl Ledger {
         table.count = self.count();
         for place in 0..self.count() {
             let Known { digest, site, sequence, requests, .. } = *self.at(place);
-            let lower = (0..place).filter(|&lower| self.at(place).refers_to(self.at(lower)));
+            let lower = (0..place).filter(|&lower| self.refers(place, lower));
             let references = lower.fold(0, |set, lower| set | 1 << lower);
             let mark = u8::from(self.marked(place));
             table.rows[place] = Row { digest, site, sequence, references, requests, mark };
@@ -227,11 +228,11 @@ impl Ledger {
             site: block::site(bytes),
             sequence: block::sequence(bytes),
             requests: block::counted_requests(bytes),
-            references: block::references(bytes),
+            references: block::references(bytes).iter().map(|other| self.by_digest[other]).collect(),
             meaning: [[0; RECORD_NUMBERS]; SLOTS],
             asked: Default::default(),
         };
-        let referred: Vec<&Known> = known.references.iter().map(|other| &self.blocks[self.by_digest[other]]).collect();
+        let referred: Vec<&Known> = known.references.iter().map(|&other| &self.blocks[other]).collect();
         let meaning = std::array::from_fn(|slot| self.record(&known, &referred, slot));
         let asked = std::array::from_fn(|slot| self.asked(&referred, slot));
         (known.meaning, known.asked) = (meaning, asked);

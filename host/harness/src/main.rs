@@ -45,6 +45,7 @@ mod ledger;
 mod lent;
 mod library;
 mod listing;
+mod long;
 mod model;
 mod mutants;
 mod options;

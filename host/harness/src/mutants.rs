@@ -323,6 +323,19 @@ pub fn lawless_in_retirings() -> Vec<(Mutant, &'static str)> {
     ])
 }
 
+/// The same of laws about long campaigns.
+pub fn lawless_for_long() -> Vec<(Mutant, &'static str)> {
+    with_laws(&[
+        (&[retiring::ONLY_ONCE], NEVER_REFUSED),
+        (&[retiring::NOTHING_REFERS], NEVER_REFUSED),
+        (&[retiring::REFERENCES_STAY], NEVER_REFUSED),
+        (&[retiring::RECORDS_STAY], ALL_DELIVERED),
+        (&[retiring::LAST_PART_CLEARED, retiring::PARTS_FROM_LAST], ALL_DELIVERED),
+        (&[process::DELIVERY_AT_2F_PLUS_2], ALL_DELIVERED),
+        (&[process::ECHOS_NOT_NOTED], ALL_DELIVERED),
+    ])
+}
+
 /// Mutants by the names of their mistakes.
 fn with_laws(names: &[(&[&str], &'static str)]) -> Vec<(Mutant, &'static str)> {
     names.iter().map(|(names, law)| (Mutant::of(names), *law)).collect()

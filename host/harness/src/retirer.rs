@@ -157,9 +157,8 @@ impl<'a> Retirer<'a> {
             ledger.place_of(digest).is_none() && !ledger.is_gone(digest)
         };
         let held = |block: usize| ledger.place_of(&self.campaign.blocks[block].digest).is_some();
-        let references = |block: usize| {
-            (0..block).filter(move |&other| self.campaign.blocks[block].references >> other & 1 == 1)
-        };
+        let references =
+            |block: usize| (0..block).filter(move |&other| self.campaign.blocks[block].references >> other & 1 == 1);
         (0..self.campaign.blocks.len()).filter(|&block| new(block) && references(block).all(held)).collect()
     }
 

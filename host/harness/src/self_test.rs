@@ -4,7 +4,7 @@
 use std::ops::Range;
 
 use crate::calls::Calls;
-use crate::cases::{first_difference, Cases, Found, Kind, GROUPS, JOINS, LISTINGS, RETIRINGS, SHELVES};
+use crate::cases::{first_difference, Cases, Found, Kind, GROUPS, JOINS, LASTING, LISTINGS, RETIRINGS, SHELVES};
 use crate::counts::Counts;
 use crate::examples;
 use crate::model::Model;
@@ -24,8 +24,9 @@ pub fn run(options: &Options) -> bool {
     let shelves = first(MOST_SHELVES, &options.cases, &SHELVES);
     let joins = first(MOST_JOINS, &options.cases, &JOINS);
     let retirings = first(MOST_RETIRINGS, &options.cases, &RETIRINGS);
+    let lasting = first(MOST_LASTING, &options.cases, &LASTING);
     // The other way round: what follows the rules must not be found to differ.
-    for cases in [&options.cases, &listings, &shelves, &joins, &retirings] {
+    for cases in [&options.cases, &listings, &shelves, &joins, &retirings, &lasting] {
         if let Some(found) = find(&model, &model, &mut cases.clone()) {
             println!("the model differs from itself, case {}, kind {}: {}", found.case, found.kind, found.difference);
             return false;
@@ -51,6 +52,7 @@ pub fn run(options: &Options) -> bool {
         (mutants::lawless_with_shelves(), &shelves),
         (mutants::lawless_in_joins(), &joins),
         (mutants::lawless_in_retirings(), &retirings),
+        (mutants::lawless_for_long(), &lasting),
     ];
     for (lawless, cases) in by_laws {
         for (mutant, law) in lawless {
@@ -68,6 +70,7 @@ const MOST_GROUPS: u64 = 1000;
 const MOST_SHELVES: u64 = 1000;
 const MOST_JOINS: u64 = 1000;
 const MOST_RETIRINGS: u64 = 1500;
+const MOST_LASTING: u64 = 8;
 
 /// The first of the cases, so many at most, all of one kind.
 fn first(most: u64, cases: &Cases, kind: &'static Kind) -> Cases {

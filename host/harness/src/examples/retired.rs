@@ -29,7 +29,10 @@ pub fn all(calls: &dyn Calls) -> Vec<(&'static str, bool)> {
         ("a block that refers to the one that left: 9", refers_to_lost(after(two(), 1)) == (9, 0)),
         ("the one that left comes again, open", comes_again(after(two(), 1))),
         ("the delivery is that of the chain of four", delivery(calls) == [7, 0, 0, 7]),
-        ("a missing parent of an open place: not in form", !in_form(changed(after(two(), 1), |table| unmark(table, &[0])))),
+        (
+            "a missing parent of an open place: not in form",
+            !in_form(changed(after(two(), 1), |table| unmark(table, &[0]))),
+        ),
         ("a missing parent where nothing was retired: not in form", {
             !in_form(changed(after(two(), 1), |table| table.retired = 0))
         }),
@@ -132,7 +135,9 @@ fn one_more(mut holder: Holder) -> bool {
     let left = Table::from_bytes(&holder.table).count;
     let place = holder.block(0, PLACES as u16, &[left - 1], None);
     let table = Table::from_bytes(&holder.table);
-    answer == (0, 0) && (left, place) == (PLACES - 1, PLACES - 1) && (table.count, table.rows[place].mark) == (PLACES, 1)
+    answer == (0, 0)
+        && (left, place) == (PLACES - 1, PLACES - 1)
+        && (table.count, table.rows[place].mark) == (PLACES, 1)
 }
 
 fn admitted(holder: &mut Holder, bytes: &[u8]) -> (u8, usize) {

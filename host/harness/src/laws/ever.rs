@@ -19,7 +19,8 @@ pub struct Ever<'a> {
 pub const EQUAL_EVER: &str = "law: a block that was ever interpreted at both sites had equal parts at both";
 pub const ONE_NUMBER_EVER: &str =
     "law: where at most f sites forked over every block ever admitted, one number is delivered in a slot";
-pub const REQUESTED_EVER: &str = "law: a number delivered in a block was requested by the owner in an ancestor, held or not";
+pub const REQUESTED_EVER: &str =
+    "law: a number delivered in a block was requested by the owner in an ancestor, held or not";
 pub const WATCHED_EVER: &str = "law: whom the watch names at one site has forked over every block ever admitted";
 
 pub fn laws<'a>() -> [Law<Ever<'a>>; 4] {
@@ -69,9 +70,7 @@ fn not_requested(site: &Kept) -> Option<String> {
 }
 
 fn named_in_vain(ever: &Ever) -> Option<String> {
-    let wrong = |watched: &&ForkedSites| {
-        watched.sites & !ever.forked() != 0 || ever.few_forked() && !watched.at_most_f
-    };
+    let wrong = |watched: &&ForkedSites| watched.sites & !ever.forked() != 0 || ever.few_forked() && !watched.at_most_f;
     let watched = ever.watched.iter().find(wrong)?;
     Some(format!("{watched:?}, forked are {:016b}", ever.forked()))
 }

@@ -18,9 +18,11 @@ pub struct Retired<'a> {
 }
 
 pub const STILL_IN_FORM: &str = "law: a table in form stays so when a block is retired";
-pub const OTHERS_STAY: &str = "law: all other blocks stay, a place lower, and refer to what they did but for the one that left";
+pub const OTHERS_STAY: &str =
+    "law: all other blocks stay, a place lower, and refer to what they did but for the one that left";
 pub const KEEPS_THAT: &str = "law: a table keeps whether it has retired anything";
-pub const PARTS_MOVE: &str = "law: the parts of all other places move with them, and the buffer from the new count on stays";
+pub const PARTS_MOVE: &str =
+    "law: the parts of all other places move with them, and the buffer from the new count on stays";
 pub const NOTHING_OPEN: &str = "law: a block leaves only where it and all that refer to it are interpreted";
 pub const NEVER_THE_LAST: &str = "law: the greatest interpreted block of a site is never retired";
 

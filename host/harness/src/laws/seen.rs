@@ -38,7 +38,8 @@ fn not_a_third(seen: &Seen) -> Option<String> {
 
 /// A site has more blocks than sequence numbers only if it has some number twice.
 fn not_more_blocks(seen: &Seen) -> Option<String> {
-    let numbers = |site: u8| seen.table.own(site).map(|place| seen.table.rows[place].sequence).collect::<BTreeSet<u16>>();
+    let numbers =
+        |site: u8| seen.table.own(site).map(|place| seen.table.rows[place].sequence).collect::<BTreeSet<u16>>();
     let more = |site: u8| seen.table.own(site).count() > numbers(site).len();
     let site = (0..seen.table.sites).find(|&site| named(seen, site) != more(site))?;
     Some(format!("site {site}, {:?}", seen.forked))

@@ -121,16 +121,12 @@ pub const MISTAKES: &[Mistake] = &[
     }),
     ("form: sequence 0 may not refer to its own site", |m| {
         m.form(PARENT_RULE, |table| {
-            every(table, |_, row| {
-                parent_in_form(table, row) && (row.sequence != 0 || own(table, row) == 0)
-            })
+            every(table, |_, row| parent_in_form(table, row) && (row.sequence != 0 || own(table, row) == 0))
         })
     }),
     ("form: no own block but the parent may be referred to", |m| {
         m.form(PARENT_RULE, |table| {
-            every(table, |_, row| {
-                parent_in_form(table, row) && (row.sequence == 0 || own(table, row) <= 1)
-            })
+            every(table, |_, row| parent_in_form(table, row) && (row.sequence == 0 || own(table, row) <= 1))
         })
     }),
     ("form: any own block is a parent", |m| {
@@ -197,9 +193,9 @@ pub const MISTAKES: &[Mistake] = &[
         })
     }),
     ("form: any number of parents passes where something was retired", |m| {
-        m.form(PARENT_RULE, |table| parents(table, |table, row, count| {
-            row.sequence == 0 || count == 1 || table.retired == 1
-        }))
+        m.form(PARENT_RULE, |table| {
+            parents(table, |table, row, count| row.sequence == 0 || count == 1 || table.retired == 1)
+        })
     }),
     ("form: forks don't pass", |m| {
         let differ = |table: &Table| {

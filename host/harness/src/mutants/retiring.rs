@@ -63,6 +63,8 @@ pub const NOT_FOLLOWED: &str = "retiring: its site needs no later block";
 pub const FOLLOWED_BY_OPEN: &str = "retiring: a later block needn't be interpreted";
 pub const FOLLOWED_BY_TWIN: &str = "retiring: a block of the same number is enough";
 pub const FOLLOWED_BY_ANYONE: &str = "retiring: a later block of any site is enough";
+pub const ONLY_ONCE: &str = "retiring: only once";
+pub const NOTHING_REFERS: &str = "retiring: nothing may refer to it";
 pub const REFERENCES_STAY: &str = "retiring: references aren't moved";
 pub const FIRST_KEPT: &str = "retiring: references to place 0 are kept";
 pub const RECORDS_STAY: &str = "retiring: records aren't moved";
@@ -80,9 +82,7 @@ pub const MISTAKES: &[Mistake] = &[
     ("retiring: 29 before 12", |m| m.model.retiring.checks[1..].rotate_right(1)),
     ("retiring: 13 before 2", |m| m.model.retiring.checks[..3].rotate_right(1)),
     // 12 and 13
-    ("retiring: longer records pass", |m| {
-        m.retiring(12, |leaving| (leaving.numbers < BUFFER_NUMBERS).then_some(0))
-    }),
+    ("retiring: longer records pass", |m| m.retiring(12, |leaving| (leaving.numbers < BUFFER_NUMBERS).then_some(0))),
     ("retiring: records that have the table's places pass", |m| {
         m.retiring(12, |leaving| (leaving.numbers < PART_NUMBERS * leaving.table.count).then_some(0))
     }),
@@ -99,9 +99,7 @@ pub const MISTAKES: &[Mistake] = &[
     ("retiring: only a full table retires", |m| {
         m.retiring(29, |leaving| kept(leaving.table.count == PLACES && may_be_retired(&leaving.table)))
     }),
-    ("retiring: only once", |m| {
-        m.retiring(29, |leaving| kept(leaving.table.retired == 0 && may_be_retired(&leaving.table)))
-    }),
+    (ONLY_ONCE, |m| m.retiring(29, |leaving| kept(leaving.table.retired == 0 && may_be_retired(&leaving.table)))),
     // 29
     (NOT_INTERPRETED, |m| {
         m.retiring(29, |Leaving { table, .. }| kept(all_referring_interpreted(table) && followed(table)))
@@ -134,7 +132,7 @@ pub const MISTAKES: &[Mistake] = &[
             kept(interpreted(table) && all_referring_interpreted(table) && followed(&fewer))
         })
     }),
-    ("retiring: nothing may refer to it", |m| {
+    (NOTHING_REFERS, |m| {
         m.retiring(29, |Leaving { table, .. }| {
             kept(may_be_retired(table) && table.held().iter().all(|row| row.references & 1 == 0))
         })
@@ -150,10 +148,7 @@ pub const MISTAKES: &[Mistake] = &[
         m.retiring(29, |Leaving { table, .. }| {
             followed_otherwise(table, |table, row| {
                 let first = &table.rows[0];
-                row.site == first.site
-                    && row.mark == 1
-                    && row.sequence >= first.sequence
-                    && row.digest != first.digest
+                row.site == first.site && row.mark == 1 && row.sequence >= first.sequence && row.digest != first.digest
             })
         })
     }),

@@ -1,0 +1,46 @@
+//! What long campaigns have met.
+
+use std::fmt::{self, Display, Formatter};
+
+use crate::long::Long;
+
+#[derive(Default)]
+pub struct Lasted {
+    campaigns: u64,
+    sites: u64,
+    blocks: u64,
+    retirings: u64,
+    when_full: u64,
+    deliveries: u64,
+    to_the_end: u64,
+}
+
+impl Lasted {
+    pub fn ended(&mut self, long: &Long) {
+        let kept = || (0..long.sites).map(|site| long.kept(site));
+        self.campaigns += 1;
+        self.sites += u64::from(long.sites);
+        self.blocks += long.kept(0).ledger.known().len() as u64;
+        self.retirings += kept().map(|kept| kept.ledger.retirings() as u64).sum::<u64>();
+        self.when_full += long.when_full;
+        self.deliveries += kept().flat_map(|kept| &kept.delivered).map(|numbers| numbers.len() as u64).sum::<u64>();
+    }
+
+    /// A site alone came to 65,535, and then got 30.
+    pub fn to_the_end(&mut self, ended: bool) {
+        self.to_the_end += u64::from(ended);
+    }
+}
+
+impl Display for Lasted {
+    fn fmt(&self, to: &mut Formatter) -> fmt::Result {
+        let mut line = |name: &str, times: u64| super::line(to, name, times);
+        line("long campaigns", self.campaigns)?;
+        line("sites of long campaigns", self.sites)?;
+        line("blocks of long campaigns", self.blocks)?;
+        line("retirings in long campaigns", self.retirings)?;
+        line("retirings in long campaigns with a full table", self.when_full)?;
+        line("slots delivered at sites of long campaigns", self.deliveries)?;
+        line("sites that came to 65,535 and then got 30", self.to_the_end)
+    }
+}
