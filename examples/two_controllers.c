@@ -24,6 +24,7 @@ static const char *const causes[] = {
     [23] = "the setups differ, so these are two campaigns: keep both tables, each with its own records",
     [24] = "the two have different blocks under one digest: find the table that was changed, and leave it out",
     [25] = "together they have more blocks than a table holds: keep both tables, each with its own records",
+    [31] = "one of the two has retired blocks, so what they share can't be told: keep both tables, each with its own records",
 };
 
 /* The value of a call that nothing here gives a reason to refuse. */

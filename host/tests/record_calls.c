@@ -1,6 +1,7 @@
 /* Calls interpretation and replay at the edges of what they take. Writes a line for each check, and ends with exit status
  * 1 if one fails. All that is lent lies in an allocation of its own length, so that valgrind sees an access past its end. */
 #include "campaigns.h"
+#include "lists.h"
 #include "records.h"
 
 #include <stdio.h>
@@ -126,32 +127,6 @@ static void check_refused(void)
 
 /* ---- Lists of calls */
 
-typedef struct {
-    uint8_t bytes[4096];
-    size_t length;
-} list;
-
-static void put_word(list *l, uint64_t word)
-{
-    for (int i = 0; i < 8; i++)
-        l->bytes[l->length++] = (uint8_t)(word >> 8 * i);
-}
-
-static void put_admission(list *l, block b, uint8_t verdict)
-{
-    l->bytes[l->length++] = 0;
-    l->bytes[l->length++] = verdict;
-    put_word(l, b.length);
-    memcpy(l->bytes + l->length, b.bytes, b.length);
-    l->length += b.length;
-}
-
-static void put_interpretation(list *l, uint64_t place)
-{
-    l->bytes[l->length++] = 1;
-    put_word(l, place);
-}
-
 /* The chain of four, with calls that are refused among them. */
 static list chain_list(void)
 {
@@ -245,7 +220,7 @@ static void check_replay(void)
 {
     list unknown = chain_list(), long_block = {.bytes = {0, 1}, .length = 2};
 
-    unknown.bytes[0] = 2;
+    unknown.bytes[0] = 3;
     put_word(&long_block, UINT64_MAX);
     check("replay, every answer put", answers_put(2 * CALLS));
     check("replay, room for more answers", answers_put(2 * CALLS + 2));

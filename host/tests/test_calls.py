@@ -1,7 +1,7 @@
-"""The library's calls at the edges of what they take: calls.c, core_calls.c, record_calls.c, watch_calls.c, shelf_calls.c and
-join_calls.c here."""
+"""The library's calls at the edges of what they take: calls.c, core_calls.c, record_calls.c, watch_calls.c, shelf_calls.c,
+join_calls.c and retire_calls.c here."""
 
-from programs import CALLS, CORE_CALLS, JOIN_CALLS, RECORD_CALLS, SHELF_CALLS, WATCH_CALLS, expect_all_ok
+from programs import CALLS, CORE_CALLS, JOIN_CALLS, RECORD_CALLS, RETIRE_CALLS, SHELF_CALLS, WATCH_CALLS, expect_all_ok
 
 
 def test_digest_and_reading():
@@ -26,3 +26,7 @@ def test_shelf_and_arrivals():
 
 def test_joining():
     expect_all_ok(JOIN_CALLS)
+
+
+def test_retiring():
+    expect_all_ok(RETIRE_CALLS)

@@ -2,7 +2,7 @@
 
 import make_arrivals
 import make_campaigns
-from programs import ROOT, TWO_CAMPAIGNS, TWO_CONTROLLERS, dome, expect, expect_same_lines, listing, output_of
+from programs import LONG_CAMPAIGN, ROOT, TWO_CAMPAIGNS, TWO_CONTROLLERS, dome, expect, expect_same_lines, listing, output_of
 from reference import text_of
 
 EXAMPLES = ROOT / "examples"
@@ -10,6 +10,7 @@ ARRIVALS = (EXAMPLES / "arrivals.bin").read_bytes()
 EXPECTED = (EXAMPLES / "arrivals.expected").read_text(encoding="ascii")
 TWO_CAMPAIGNS_LINES = (EXAMPLES / "two_campaigns.expected").read_text(encoding="ascii")
 TWO_CONTROLLERS_LINES = (EXAMPLES / "two_controllers.expected").read_text(encoding="ascii")
+LONG_CAMPAIGN_LINES = (EXAMPLES / "long_campaign.expected").read_text(encoding="ascii")
 CAMPAIGNS = {name: (EXAMPLES / f"{name}.campaign").read_bytes() for name in make_campaigns.CAMPAIGNS}
 LISTINGS = {name: (EXAMPLES / f"{name}.listing").read_text(encoding="ascii") for name in make_campaigns.CAMPAIGNS}
 
@@ -28,6 +29,10 @@ def test_two_campaigns_writes_the_stored_lines():
 
 def test_two_controllers_writes_the_stored_lines():
     expect_same_lines(output_of([TWO_CONTROLLERS]), TWO_CONTROLLERS_LINES)
+
+
+def test_long_campaign_writes_the_stored_lines():
+    expect_same_lines(output_of([LONG_CAMPAIGN]), LONG_CAMPAIGN_LINES)
 
 
 def test_the_stored_arrivals_are_the_described_ones():

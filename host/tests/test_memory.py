@@ -4,10 +4,10 @@ import random
 
 import bad_inputs
 import generate
-from programs import (CALLS, CORE_CALLS, DOME, JOIN_CALLS, RECORD_CALLS, SHELF_CALLS, TWO_CAMPAIGNS, TWO_CONTROLLERS, VALGRIND, WATCH_CALLS,
-                      digests, dome, expect, expect_same_lines, output_of, run)
+from programs import (CALLS, CORE_CALLS, DOME, JOIN_CALLS, LONG_CAMPAIGN, RECORD_CALLS, RETIRE_CALLS, SHELF_CALLS, TWO_CAMPAIGNS,
+                      TWO_CONTROLLERS, VALGRIND, WATCH_CALLS, digests, dome, expect, expect_same_lines, output_of, run)
 from reference import text_of
-from test_examples import ARRIVALS, TWO_CAMPAIGNS_LINES, TWO_CONTROLLERS_LINES
+from test_examples import ARRIVALS, LONG_CAMPAIGN_LINES, TWO_CAMPAIGNS_LINES, TWO_CONTROLLERS_LINES
 
 
 def expect_clean(stream):
@@ -54,12 +54,20 @@ def test_join_calls():
     output_of([*VALGRIND, JOIN_CALLS])
 
 
+def test_retire_calls():
+    output_of([*VALGRIND, RETIRE_CALLS])
+
+
 def test_two_campaigns():
     expect_same_lines(output_of([*VALGRIND, TWO_CAMPAIGNS]), TWO_CAMPAIGNS_LINES)
 
 
 def test_two_controllers():
     expect_same_lines(output_of([*VALGRIND, TWO_CONTROLLERS]), TWO_CONTROLLERS_LINES)
+
+
+def test_long_campaign():
+    expect_same_lines(output_of([*VALGRIND, LONG_CAMPAIGN]), LONG_CAMPAIGN_LINES)
 
 
 def test_digests():
