@@ -1,5 +1,5 @@
-/* Whole campaigns, ours against the baselines: a fresh table, then 64 blocks, each admitted and interpreted. And the form
- * check of the full table, which begins every call on it.
+/* Whole campaigns, ours against the baselines: a fresh table, then 64 blocks, each admitted and interpreted; and with all
+ * blocks but the last of each site retired. And the form check of the full table, which begins every call on it.
  * It prints what it measures and judges no speed. A difference between two answers or records ends it with status 1. */
 #include <stdio.h>
 
@@ -9,10 +9,10 @@
 
 enum { CAMPAIGNS = 10, FORM_CHECKS = 2000, RANDOM_CALLS = 100000 };
 
-/* What is timed of a campaign: all its admissions, or its interpretations too. */
+/* What is timed of a campaign: all its admissions, or its interpretations too, or its retirings as well. */
 typedef struct {
     const campaign *of;
-    bool interpreted;
+    bool interpreted, retired;
 } timed_campaign;
 
 /* Whether nothing was refused. */
@@ -26,6 +26,8 @@ static bool runs(const implementation *of, const timed_campaign *timed)
         if (timed->interpreted)
             all = of->interpret(place).refusal == 0 && all;
     }
+    for (size_t left = GT_MAX_PLACES; timed->retired && left > c->sites; left--)
+        all = of->retire().refusal == 0 && all;
     return all;
 }
 
@@ -52,13 +54,15 @@ static void compare_campaign(const campaign *c)
 {
     expect_same(c);
     comparison form = compare(check_form_often, NULL);
-    comparison admitted = compare(run_often, &(timed_campaign){c, false});
-    comparison run = compare(run_often, &(timed_campaign){c, true});
+    comparison admitted = compare(run_often, &(timed_campaign){c, false, false});
+    comparison run = compare(run_often, &(timed_campaign){c, true, false});
+    comparison retired = compare(run_often, &(timed_campaign){c, true, true});
 
     puts("");
     print_columns(c->name, "us");
     print_microseconds("64 blocks admitted and interpreted", &run, CAMPAIGNS);
     print_microseconds("64 blocks admitted", &admitted, CAMPAIGNS);
+    print_microseconds("the first, and all that can be retired", &retired, CAMPAIGNS);
     print_microseconds("form of the full table", &form, FORM_CHECKS);
 }
 

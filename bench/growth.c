@@ -229,7 +229,8 @@ int main(void)
     puts("compared.");
     printf("Measured in CPU time: medians of %d repetitions, each a batch of %d calls of each in turn, after a batch of each\n",
            REPETITIONS, CALLS);
-    puts("to warm up. The table is put back before each arrival; that copy, of 3,850 bytes in ours, is counted with it. The");
+    printf("to warm up. The table is put back before each arrival; that copy, of %d bytes in ours, is counted with it. The\n",
+           GT_TABLE_BYTES);
     puts("record buffer is not cleared. C/ours is C's time over ours, digests are our time over that of a digest, each the");
     puts("median of the repetitions' ratios: where C/ours is above 1, ours is the faster one.");
     for (size_t i = 0; i < MEASURED_CAMPAIGNS; i++)

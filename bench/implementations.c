@@ -31,6 +31,8 @@ static gt_answer our_interpret(size_t place)
     return gt_interpret(our_table, sizeof our_table, place, our_records, GT_RECORDS_NUMBERS);
 }
 
+static gt_answer our_retire(void) { return gt_retire(our_table, sizeof our_table, our_records, GT_RECORDS_NUMBERS); }
+
 /* ---- The one in C */
 
 static baseline_table c_table;
@@ -54,6 +56,8 @@ static gt_answer c_interpret(size_t place)
 {
     return from_c(baseline_interpret(&c_table, place, c_records, RECORDS_NUMBERS));
 }
+
+static gt_answer c_retire(void) { return from_c(baseline_retire(&c_table, c_records, RECORDS_NUMBERS)); }
 
 /* ---- The one in Rust */
 
@@ -82,8 +86,11 @@ static gt_answer interpret_in_rust(size_t place)
     return from_rust(rust_interpret(the_rust_table, place, rust_records, RECORDS_NUMBERS));
 }
 
+static gt_answer retire_in_rust(void) { return from_rust(rust_retire(the_rust_table, rust_records, RECORDS_NUMBERS)); }
+
 const implementation implementations[IMPLEMENTATIONS] = {
-    [OURS] = {"ours", our_digest, our_fresh, our_in_form, our_admit, our_interpret, our_records},
-    [IN_C] = {"C", baseline_sha256, c_fresh, c_in_form, c_admit, c_interpret, c_records},
-    [IN_RUST] = {"Rust", rust_digest, fresh_in_rust, in_form_in_rust, admit_in_rust, interpret_in_rust, rust_records},
+    [OURS] = {"ours", our_digest, our_fresh, our_in_form, our_admit, our_interpret, our_retire, our_records},
+    [IN_C] = {"C", baseline_sha256, c_fresh, c_in_form, c_admit, c_interpret, c_retire, c_records},
+    [IN_RUST] = {"Rust", rust_digest, fresh_in_rust, in_form_in_rust, admit_in_rust, interpret_in_rust, retire_in_rust,
+                 rust_records},
 };

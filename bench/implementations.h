@@ -11,6 +11,7 @@ typedef struct {
     bool (*in_form)(void);
     gt_answer (*admit)(const uint8_t *block, size_t length, uint8_t verdict);
     gt_answer (*interpret)(size_t place);
+    gt_answer (*retire)(void);
     const uint16_t *records;
 } implementation;
 

@@ -131,7 +131,8 @@ int main(void)
     puts("buffers are compared.");
     printf("Measured in CPU time: medians of %d repetitions, each a batch of %d calls of each in turn, after a batch of each to\n",
            REPETITIONS, CALLS);
-    puts("warm up. The left's table is put back before each join; that copy, of 3,850 bytes in ours, is counted with it. The third");
+    printf("warm up. The left's table is put back before each join; that copy, of %d bytes in ours, is counted with it. The third\n",
+           GT_TABLE_BYTES);
     puts("buffer is not cleared. Digests are our time over that of a digest, C/ours is C's time over ours, each the median of the");
     puts("repetitions' ratios: where C/ours is above 1, ours is the faster one.");
     puts("");

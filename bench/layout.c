@@ -29,6 +29,7 @@ void put_table(baseline_table *table, const uint8_t bytes[GT_TABLE_BYTES])
     table->sites = *bytes++;
     memcpy(table->owners, bytes, SLOTS);
     bytes += SLOTS;
+    table->retired = *bytes++;
     table->count = *bytes++;
     for (size_t place = 0; place < PLACES; place++)
         bytes = put_row(&table->rows[place], bytes);
@@ -57,6 +58,7 @@ void see_table(const baseline_table *table, uint8_t bytes[GT_TABLE_BYTES])
     *bytes++ = table->sites;
     memcpy(bytes, table->owners, SLOTS);
     bytes += SLOTS;
+    *bytes++ = table->retired;
     *bytes++ = table->count;
     for (size_t place = 0; place < PLACES; place++)
         bytes = see_row(&table->rows[place], bytes);

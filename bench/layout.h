@@ -5,7 +5,7 @@
 #include "baseline/core.h"
 #include "giangotum_core.h"
 
-/* Where a table's count and its rows stand; where in a row the fields behind the digest begin, the site and then the
+/* Where a table has whether something was retired, its count and its rows; where in a row the fields behind the digest begin, the site and then the
  * sequence number's two bytes; and how long a row is. */
 enum { RETIRED = 9, COUNT = 10, ROWS = 11, SITE = 32, ROW_BYTES = 60 };
 

@@ -52,6 +52,21 @@ static void expect_full(const implementation *of, const campaign *c)
     expect_answer(of, of->admit(other.bytes, other.length, 1), 11, 0, "a 65th block was not refused");
 }
 
+/* All blocks but the last of each site leave, one after the other. Then the last one that left comes again, without what it
+ * refers to, and the first one, which refers to nothing. */
+static void expect_retirings(const implementation *of, const campaign *c)
+{
+    size_t leaving = GT_MAX_PLACES - c->sites;
+    const built_block *gone = &c->blocks[leaving - 1], *first = &c->blocks[0];
+
+    for (size_t i = 0; i < leaving; i++)
+        expect_answer(of, of->retire(), 0, 0, "a block that may leave was not retired");
+    expect_answer(of, of->retire(), 29, 0, "the last block of a site was retired");
+    expect_of(of, of->in_form(), "a table that has retired blocks is not in form");
+    expect_answer(of, of->admit(gone->bytes, gone->length, 1), 9, 0, "a block whose references have left was not refused");
+    expect_answer(of, of->admit(first->bytes, first->length, 1), 0, c->sites, "a block that has left was not admitted again");
+}
+
 static void expect_campaign(const implementation *of, const campaign *c)
 {
     expect_answer(of, of->fresh(c->sites, c->owners), 0, 0, "the setup was refused");
@@ -83,6 +98,11 @@ static void expect_deliveries(void)
 
 void expect_same(const campaign *c)
 {
+    for (size_t i = 0; i < IMPLEMENTATIONS; i++) {
+        expect_campaign(&implementations[i], c);
+        expect_retirings(&implementations[i], c);
+    }
+    expect_same_records();
     for (size_t i = 0; i < IMPLEMENTATIONS; i++)
         expect_campaign(&implementations[i], c);
     expect_same_records();

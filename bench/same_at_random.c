@@ -1,5 +1,7 @@
 /* The three implementations answer alike on random campaigns. The campaigns that are timed hear whole rounds at once; here
- * quorums come together piece by piece, sites fork, and places wait for others. */
+ * quorums come together piece by piece, sites fork, places wait for others, and blocks leave and come again. */
+#include <string.h>
+
 #include "chance.h"
 #include "expect.h"
 #include "implementations.h"
@@ -8,6 +10,9 @@
 enum { CALLS_IN_A_CAMPAIGN = 200 };
 
 static known_blocks held;
+static built_block blocks[GT_MAX_PLACES]; /* those held, by place */
+static built_block gone;                  /* the last one that left */
+static size_t retired, came_again;
 
 static void expect_alike(gt_answer ours, gt_answer other)
 {
@@ -22,17 +27,40 @@ static void interpret_on_all(size_t place)
         expect_alike(ours, implementations[i].interpret(place));
 }
 
+/* A block that left is not one that others are built on. */
+static void forget_first(void)
+{
+    gone = blocks[0];
+    held.count--;
+    memmove(held.blocks, held.blocks + 1, held.count * sizeof held.blocks[0]);
+    memmove(blocks, blocks + 1, held.count * sizeof blocks[0]);
+    retired++;
+}
+
+static void retire_on_all(void)
+{
+    gt_answer ours = implementations[OURS].retire();
+
+    for (size_t i = IN_C; i < IMPLEMENTATIONS; i++)
+        expect_alike(ours, implementations[i].retire());
+    if (ours.refusal == 0)
+        forget_first();
+}
+
 static void admit_on_all(void)
 {
-    built_block block = some_block(&held);
+    bool again = gone.length > 0 && one_in(12), damaged = one_in(20);
+    built_block block = again ? gone : some_block(&held);
 
-    if (one_in(20))
+    if (damaged)
         damage(&block);
     uint8_t verdict = one_in(30) ? 0 : 1;
     gt_answer ours = implementations[OURS].admit(block.bytes, block.length, verdict);
     for (size_t i = IN_C; i < IMPLEMENTATIONS; i++)
         expect_alike(ours, implementations[i].admit(block.bytes, block.length, verdict));
     if (ours.refusal == 0) {
+        came_again += again && !damaged;
+        blocks[held.count] = block;
         know(&held, &block);
         if (!one_in(4))
             interpret_on_all(ours.value);
@@ -45,6 +73,7 @@ static void start_campaign(void)
 
     held.sites = some_sites();
     held.count = 0;
+    gone.length = 0;
     for (size_t slot = 0; slot < GT_SLOTS; slot++)
         owners[slot] = (uint8_t)below(held.sites);
     for (size_t i = 0; i < IMPLEMENTATIONS; i++)
@@ -58,10 +87,13 @@ void expect_same_at_random(size_t calls)
             expect_same_records();
             start_campaign();
         }
-        if (one_in(3))
+        if (one_in(5))
+            retire_on_all();
+        else if (one_in(3))
             interpret_on_all(below(held.count + 1));
         else
             admit_on_all();
     }
     expect_same_records();
+    expect(retired > 0 && came_again > 0, "no block left and came again");
 }

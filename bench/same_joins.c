@@ -7,7 +7,7 @@
 #include "expect.h"
 #include "layout.h"
 
-enum { MOST_BLOCKS = 110, REFUSALS = 26 };
+enum { MOST_BLOCKS = 110, REFUSALS = 32 };
 
 /* ---- Joins at both */
 
@@ -156,11 +156,13 @@ static uint8_t *some_row(side *s)
     return s->table + ROWS + ROW_BYTES * below(count < GT_MAX_PLACES ? count + 1 : GT_MAX_PLACES);
 }
 
-/* An owner; a row's digest, to that of a row of the other side; its site or its sequence number; or a bit of its fields. */
+/* An owner; whether something was retired; a row's digest, to that of a row of the other side; its site or its sequence number; or a bit of its fields. */
 static void change(side *s, side *other)
 {
     if (one_in(6))
         s->table[1 + below(GT_SLOTS)] = (uint8_t)below(2);
+    else if (one_in(8))
+        s->table[RETIRED] = (uint8_t)below(3);
     else if (one_in(3))
         memcpy(some_row(s), some_row(other), GT_DIGEST_BYTES);
     else if (one_in(2))
@@ -202,7 +204,7 @@ static void join_some(void)
 
 void expect_same_joins_at_random(size_t pairs)
 {
-    static const uint8_t answers[] = {0, 2, 12, 23, 24, 25};
+    static const uint8_t answers[] = {0, 2, 12, 23, 24, 25, 31};
 
     for (size_t i = 0; i < pairs; i++)
         join_some();

@@ -1,5 +1,5 @@
 /* The deepest stack of each call, in bytes, from the caller's frame on, over many inputs: tables that are empty, partly
- * filled, full, forked, clashing and out of form; shelves that are empty, full and out of form; blocks up to 16 references
+ * filled, full, forked, clashing, out of form, and such that have retired a block; shelves that are empty, full and out of form; blocks up to 16 references
  * and 8 requests; every refusal.
  * It prints what it measures. An answer other than the expected one ends it with status 1. */
 #include <stdio.h>
@@ -50,6 +50,8 @@ static table bare;                       /* full, and nothing interpreted */
 static table forked;                     /* two blocks of sequence number 0 of each site */
 static table clashing;                   /* full, and its last block has another request of the last slot */
 static table out_of_form;
+static table aged;        /* full, and then its first block was retired */
+static table last_number; /* a single block, of the last sequence number, without its parent */
 
 static built_block bad_site, bad_request, repeated, unknown, orphan, another;
 
@@ -81,6 +83,18 @@ static void prepare_tables(void)
     clashing = out_of_form = reached[GT_MAX_PLACES];
     clashing.bytes[GT_TABLE_BYTES - 2]++;
     out_of_form.bytes[GT_TABLE_BYTES - 1] = 2; /* a mark */
+}
+
+/* Where a table has whether something was retired, and its first place's sequence number. */
+enum { RETIRED = 9, FIRST_SEQUENCE = 11 + 33 };
+
+static void prepare_aged_tables(void)
+{
+    aged = reached[GT_MAX_PLACES];
+    expect(gt_retire(aged.bytes, sizeof aged.bytes, records, GT_RECORDS_NUMBERS).refusal == 0, "no block was retired");
+    last_number = reached[1];
+    last_number.bytes[RETIRED] = 1;
+    memset(last_number.bytes + FIRST_SEQUENCE, 255, 2);
 }
 
 /* A twin of each block of the first round: its last request has another number. */
@@ -203,6 +217,11 @@ static uint8_t call_admit(const input *in)
 static uint8_t call_interpret(const input *in)
 {
     return gt_interpret(lent.bytes, sizeof lent.bytes, in->place, records, in->room).refusal;
+}
+
+static uint8_t call_retire(const input *in)
+{
+    return gt_retire(lent.bytes, sizeof lent.bytes, records, in->room).refusal;
 }
 
 static uint8_t call_forks(const input *in)
@@ -341,6 +360,7 @@ static void measure_in_form(void)
     const input inputs[] = {
         {.table = &reached[0]}, {.table = &reached[ROUND]}, {.table = FULL},
         {.table = &bare},       {.table = &forked},         {.table = &out_of_form, .refusal = 2},
+        {.table = &aged},
     };
 
     MEASURE("gt_in_form", call_in_form, inputs);
@@ -389,6 +409,26 @@ static void measure_interpret(void)
     MEASURE("gt_interpret", call_interpret, inputs);
 }
 
+static void measure_retire(void)
+{
+    enum { ALL = GT_RECORDS_NUMBERS };
+    /* Of a full table, of one that has retired before, of a single round and one block more; then the refusals. */
+    const input inputs[] = {
+        {.table = FULL, .room = ALL},
+        {.table = &aged, .room = ALL},
+        {.table = &reached[ROUND + 1], .room = ALL},
+        {.table = &out_of_form, .room = ALL, .refusal = 2},
+        {.table = FULL, .room = ALL - 1, .refusal = 12},
+        {.table = &reached[0], .room = ALL, .refusal = 13},
+        {.table = &bare, .room = ALL, .refusal = 29},
+        {.table = &admitted[LAST_PLACE], .room = ALL},
+        {.table = &admitted[ROUND], .room = ALL, .refusal = 29},
+        {.table = &reached[ROUND], .room = ALL, .refusal = 29},
+    };
+
+    MEASURE("gt_retire", call_retire, inputs);
+}
+
 static void measure_forks(void)
 {
     const input inputs[] = {
@@ -424,20 +464,22 @@ static void measure_build(void)
         {.table = FULL, .bytes = requests, .length = LIST_BYTES, .number = SITES, .room = ALL, .refusal = 4},
         {.table = FULL, .bytes = bad_requests, .length = LIST_BYTES, .number = 0, .room = ALL, .refusal = 6},
         {.table = &forked, .bytes = requests, .length = LIST_BYTES, .number = 0, .room = ALL, .refusal = 16},
+        {.table = &last_number, .bytes = requests, .length = LIST_BYTES, .number = 0, .room = ALL, .refusal = 30},
         {.table = FULL, .bytes = requests, .length = LIST_BYTES, .number = 0, .room = ALL - 1, .refusal = 17},
     };
 
     MEASURE("gt_build", call_build, inputs);
 }
 
-/* An admission and an interpretation, both of the last block. */
+/* An admission and an interpretation, both of the last block, and a retiring. */
 static void measure_replay(void)
 {
     uint8_t admission[10 + GT_MAX_BLOCK_BYTES] = {0, 1, GT_MAX_BLOCK_BYTES % 256, GT_MAX_BLOCK_BYTES / 256};
-    const uint8_t interpretation[9] = {1, LAST_PLACE};
+    const uint8_t interpretation[9] = {1, LAST_PLACE}, retiring[1] = {2};
     const input inputs[] = {
         {.table = &reached[LAST_PLACE], .bytes = admission, .length = sizeof admission},
         {.table = &admitted[LAST_PLACE], .bytes = interpretation, .length = sizeof interpretation},
+        {.table = FULL, .bytes = retiring, .length = sizeof retiring},
     };
 
     memcpy(admission + 10, busy.blocks[LAST_PLACE].bytes, GT_MAX_BLOCK_BYTES);
@@ -513,6 +555,8 @@ static void measure_join(void)
         {.table = &out_of_form, .right = FULL, .room = ALL, .refusal = 2},
         {.table = FULL, .right = &out_of_form, .room = ALL, .refusal = 2},
         {.table = FULL, .right = FULL, .room = ALL - 1, .refusal = 12},
+        {.table = &aged, .right = FULL, .room = ALL, .refusal = 31},
+        {.table = FULL, .right = &aged, .room = ALL, .refusal = 31},
         {.table = empty, .right = &few_sites, .room = ALL, .refusal = 23},
         {.table = FULL, .right = &clashing, .room = ALL, .refusal = 24},
         {.table = FULL, .right = &forked, .room = ALL, .refusal = 25},
@@ -533,6 +577,7 @@ int main(void)
 {
     busy = busy_campaign();
     prepare_tables();
+    prepare_aged_tables();
     prepare_forks();
     prepare_blocks();
     prepare_shelves();
@@ -546,6 +591,7 @@ int main(void)
     measure_in_form();
     measure_admit();
     measure_interpret();
+    measure_retire();
     measure_forks();
     measure_ancestors();
     measure_build();

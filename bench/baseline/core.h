@@ -1,5 +1,5 @@
-/* The core of document 01 in plain C, unproved, with the shelf that up to four campaigns share and the join of two tables:
- * what the proved library is measured against. It shares nothing with the library: not the layout of the table or the
+/* The core of document 01 in plain C, unproved, with the shelf that up to four campaigns share, the join of two tables and
+ * retiring: what the proved library is measured against. It shares nothing with the library: not the layout of the table or the
  * shelf, not SHA-256.
  *
  * A caller lends a table, a record buffer and a shelf, as with the library. The form check stands at the start of every
@@ -51,7 +51,9 @@ enum {
     NO_CAMPAIGN = 21,
     OTHER_SETUP = 23,
     OTHER_BLOCK = 24,
-    TOO_MANY = 25
+    TOO_MANY = 25,
+    NOT_TO_RETIRE = 29,
+    HAS_RETIRED = 31
 };
 
 typedef struct {
@@ -78,6 +80,7 @@ typedef struct {
     baseline_row rows[PLACES];
     uint8_t owners[SLOTS];
     uint8_t sites;
+    uint8_t retired; /* 1 if a block was retired, else 0 */
     uint8_t count;
 } baseline_table;
 
@@ -115,6 +118,9 @@ baseline_answer baseline_admit(baseline_table *table, const uint8_t *block, size
 /* Checks 2 and 12 to 15, then the place's numbers are written and the place is marked. */
 baseline_answer baseline_interpret(baseline_table *table, size_t place, uint16_t *records, size_t numbers);
 
+/* Checks 2, 12, 13 and 29, then the block at place 0 leaves, and all others with their parts move down by one place. */
+baseline_answer baseline_retire(baseline_table *table, uint16_t *records, size_t numbers);
+
 bool baseline_shelf_in_form(const baseline_shelf *shelf);
 
 /* Checks 21, 2 and those of an admission, where 9 becomes 20 or 19 if the block can't wait. Beside 9 it waits; after an
@@ -128,7 +134,7 @@ typedef struct {
     size_t numbers;
 } baseline_records;
 
-/* Checks 2, 12 and 23 to 25, then the right's blocks are in the left's table too; the value is how many it holds. The part of
+/* Checks 2, 12, 31 and 23 to 25, then the right's blocks are in the left's table too; the value is how many it holds. The part of
  * each interpreted block is copied to the third buffer, the left's where the left interpreted it. */
 baseline_answer baseline_join(baseline_table *left, const baseline_table *right, baseline_records of_left,
                               baseline_records of_right, uint16_t *third, size_t numbers);

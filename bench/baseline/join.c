@@ -103,6 +103,8 @@ baseline_answer baseline_join(baseline_table *left, const baseline_table *right,
         return answer(NOT_IN_FORM, 0);
     if (of_left.numbers != RECORDS_NUMBERS || of_right.numbers != RECORDS_NUMBERS || numbers != RECORDS_NUMBERS)
         return answer(WRONG_RECORDS, 0);
+    if (left->retired || right->retired)
+        return answer(HAS_RETIRED, 0);
     if (!same_setup(left, right))
         return answer(OTHER_SETUP, 0);
     placing p = placing_of(left, right);

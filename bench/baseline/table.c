@@ -40,7 +40,8 @@ static bool references_in_form(const baseline_table *table, const baseline_row *
         parents += is_parent(referred, row->site, row->sequence);
         uninterpreted += !referred->interpreted;
     }
-    return references <= MAX_REFERENCES && (row->sequence == 0 || parents == 1) && (!row->interpreted || uninterpreted == 0);
+    bool parent = row->sequence == 0 || parents == 1 || (table->retired && row->interpreted && parents == 0);
+    return references <= MAX_REFERENCES && parent && (!row->interpreted || uninterpreted == 0);
 }
 
 static bool row_in_form(const baseline_table *table, size_t place)
@@ -55,7 +56,7 @@ bool baseline_in_form(const baseline_table *table)
 {
     size_t count = table->count;
 
-    if (!lawful(table->sites, table->owners) || count > PLACES)
+    if (!lawful(table->sites, table->owners) || table->retired > 1 || count > PLACES)
         return false;
     for (size_t place = 0; place < count; place++)
         if (!row_in_form(table, place))

@@ -23,7 +23,7 @@ fn raw(answer: Answer<usize>) -> RawAnswer {
     }
 }
 
-const ZERO: Table = Table { sites: 0, owners: [0; SLOTS], count: 0, rows: [Row::EMPTY; PLACES] };
+const ZERO: Table = Table { sites: 0, owners: [0; SLOTS], retired: false, count: 0, rows: [Row::EMPTY; PLACES] };
 
 /// A table that is all zero, to be made fresh. It stays for as long as the program runs.
 #[no_mangle]
@@ -67,7 +67,15 @@ pub unsafe extern "C" fn rust_interpret(
     records: *mut u16,
     numbers: usize,
 ) -> RawAnswer {
-    // A record is 40 numbers of 16 bits and nothing else.
-    let records = (numbers == RECORDS_NUMBERS).then(|| &mut *records.cast::<Records>());
-    raw(table.interpret(place, records).map(|()| 0))
+    raw(table.interpret(place, records_of(records, numbers)).map(|()| 0))
+}
+
+#[no_mangle]
+pub unsafe extern "C" fn rust_retire(table: &mut Table, records: *mut u16, numbers: usize) -> RawAnswer {
+    raw(table.retire(records_of(records, numbers)).map(|()| 0))
+}
+
+/// None for a buffer of another length. A record is 40 numbers of 16 bits and nothing else.
+unsafe fn records_of<'a>(records: *mut u16, numbers: usize) -> Option<&'a mut Records> {
+    (numbers == RECORDS_NUMBERS).then(|| &mut *records.cast::<Records>())
 }

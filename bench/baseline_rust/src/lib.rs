@@ -8,6 +8,7 @@ mod digest;
 mod ffi;
 mod interpretation;
 mod process;
+mod retiring;
 mod sha256;
 mod table;
 

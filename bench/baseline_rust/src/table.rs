@@ -23,6 +23,8 @@ pub struct Row {
 pub struct Table {
     pub sites: u8,
     pub owners: [u8; SLOTS],
+    /// Whether a block was retired.
+    pub retired: bool,
     pub count: usize,
     pub rows: [Row; PLACES],
 }
@@ -50,7 +52,7 @@ impl Row {
 impl Table {
     /// The empty table of a setup.
     pub fn fresh(sites: u8, owners: [u8; SLOTS]) -> Answer<Table> {
-        let table = Table { sites, owners, count: 0, rows: [Row::EMPTY; PLACES] };
+        let table = Table { sites, owners, retired: false, count: 0, rows: [Row::EMPTY; PLACES] };
         if table.lawful() {
             Ok(table)
         } else {
@@ -77,7 +79,8 @@ impl Table {
             parents += referred.is_parent(row.site, row.sequence) as usize;
             uninterpreted += !referred.interpreted as usize;
         }
-        references <= MAX_REFERENCES && (row.sequence == 0 || parents == 1) && (!row.interpreted || uninterpreted == 0)
+        let parent = row.sequence == 0 || parents == 1 || self.retired && row.interpreted && parents == 0;
+        references <= MAX_REFERENCES && parent && (!row.interpreted || uninterpreted == 0)
     }
 
     fn row_in_form(&self, place: usize) -> bool {
