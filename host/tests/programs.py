@@ -13,7 +13,7 @@ LISTING = str(ROOT / "target" / "bin" / "listing")
 HARNESS = str(ROOT / "target" / "harness" / "release" / "harness")
 VALGRIND_ERROR = 99
 VALGRIND = ["valgrind", "--quiet", f"--error-exitcode={VALGRIND_ERROR}", "--leak-check=full"]
-LONGEST_RUN = 60  # seconds, so that a program that hangs is a failed test
+LONGEST_RUN = 120  # seconds, so that a program that hangs is a failed test
 
 
 def expect(holds, message):

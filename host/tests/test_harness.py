@@ -48,7 +48,7 @@ SHELVED = ["shelves in form", "shelves not in form", "shelves with each bit flip
            "20 where no place is left", "20 with a full shelf"]
 # How often campaigns must have been made once more alone: else little is shown of their independence.
 FEWEST_ALONE = {"campaigns replayed alone": 2_000, "campaigns replayed alone that got 19": 700,
-                "campaigns replayed alone with waiting blocks ended": 800}
+                "campaigns replayed alone with waiting blocks ended": 800, "campaigns replayed alone that retired": 120}
 # What joins must have met.
 JOINED = [*(f"joins of {sides}" for sides in (
               "overlapping sides", "a right inside the left", "a left inside the right", "equal sides",

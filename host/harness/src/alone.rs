@@ -15,6 +15,7 @@ pub enum Call {
     Arrival(Sent, usize),
     Admission(Sent),
     Interpretation(usize),
+    Retiring,
 }
 
 #[derive(Clone, Debug, PartialEq, Eq)]
@@ -46,6 +47,7 @@ pub fn alone(compare: &mut Compare, start: &Lent, story: &Story, number: u8) -> 
             }
             Call::Admission(sent) => plain(compare.admit(&mut sides, &sent.block, sent.verdict)?),
             Call::Interpretation(place) => plain(compare.interpret(&mut sides, *place)?),
+            Call::Retiring => plain(compare.retire(&mut sides)?),
         });
     }
     let Lent { table, records, shelf, .. } = sides.expected;

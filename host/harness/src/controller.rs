@@ -12,7 +12,7 @@ use crate::feed::{batch, lacking, Feed};
 use crate::laws::{self, Told};
 use crate::lent::{Lent, Sides};
 use crate::random::Random;
-use crate::replay::{admission, interpretation};
+use crate::replay::{admission, interpretation, retiring};
 use crate::shelf::Shelf;
 use crate::sizes::{BUFFER_NUMBERS, CAMPAIGNS, PLACES, TABLE_BYTES};
 use crate::table::Table;
@@ -80,7 +80,7 @@ impl Habits {
 }
 
 impl<'a> Controller<'a> {
-    /// With an empty shelf, and fresh tables but for some that are nearly full.
+    /// With an empty shelf, and fresh tables but for some that are nearly full, or that can retire.
     pub fn new(random: &'a Random, compare: &mut Compare) -> Result<Controller<'a>, Difference> {
         let mut campaigns = Vec::new();
         for _ in 0..CAMPAIGNS {
@@ -90,6 +90,8 @@ impl<'a> Controller<'a> {
             compare.fresh(sites, &empty.owners, &mut table)?;
             if random.one_in(8) {
                 table = tables::grown(random, empty, PLACES - random.pick(&[0, 1, 2, 4, 8])).to_bytes();
+            } else if random.one_in(3) {
+                table = interpreted(random, empty).to_bytes();
             }
             let start = Lent::new(table, any_numbers(random, BUFFER_NUMBERS));
             campaigns.push(Followed::new(sites, start));
@@ -156,7 +158,8 @@ impl<'a> Controller<'a> {
 
     fn odd_call(&mut self, compare: &mut Compare, campaign: u8, table: &Table) -> Result<(), Difference> {
         let random = self.random;
-        match random.below(10) {
+        match random.below(13) {
+            10..=12 => self.retire(compare, campaign),
             0..=3 => self.interpret(compare, campaign, some_target(random, table)),
             4 | 5 => {
                 let block = self.again(campaign).unwrap_or_else(|| lacking(random, table));
@@ -238,6 +241,15 @@ impl<'a> Controller<'a> {
         Ok(())
     }
 
+    /// What waits isn't tried after it.
+    fn retire(&mut self, compare: &mut Compare, campaign: u8) -> Result<(), Difference> {
+        let followed = self.followed(campaign);
+        let answer = compare.retire(&mut followed.sides)?;
+        followed.list.extend(retiring());
+        followed.note(Call::Retiring, answer);
+        Ok(())
+    }
+
     // ---- Looking back
 
     /// One campaign's calls once more: alone with a shelf of its own, and as a list of plain calls.
@@ -254,6 +266,13 @@ impl<'a> Controller<'a> {
         let Followed { start: before, list: calls, answers, .. } = &*followed;
         compare.replay_made(&Made { before, calls, answers, after: &after }, &vec![0; 2 * answers.len()])
     }
+}
+
+/// A table whose places are all interpreted.
+fn interpreted(random: &Random, empty: Table) -> Table {
+    let mut table = tables::grown(random, empty, random.between(2, PLACES));
+    (0..table.count).for_each(|place| table.rows[place].mark = 1);
+    tables::sometimes_aged(random, table)
 }
 
 impl Followed {

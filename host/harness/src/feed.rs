@@ -69,6 +69,8 @@ fn out_of_order(random: &Random, blocks: &mut [Vec<u8>]) {
 fn chain(random: &Random, table: &Table, count: usize) -> Vec<Vec<u8>> {
     let site = random.below(table.sites.into()) as u8;
     let last = table.own(site).last().map(|place| &table.rows[place]);
+    // There are numbers for all of them.
+    let last = last.filter(|row| usize::from(u16::MAX - row.sequence) > count);
     let mut sequence = last.map_or(0, |row| row.sequence + 1);
     let mut references: Vec<_> = last.map(|row| row.digest).into_iter().collect();
     let next = |_| {
@@ -111,7 +113,7 @@ fn fan(random: &Random, table: &Table, count: usize) -> Vec<Vec<u8>> {
         random.shuffle(&mut draft.references);
         if random.one_in(4) {
             // Without a parent. This shows once all references are held.
-            draft.sequence = random.pick(&[draft.sequence + 1, draft.sequence + 2, 256, 65535]);
+            draft.sequence = random.pick(&[draft.sequence.wrapping_add(1), draft.sequence.wrapping_add(2), 256, 65535]);
         }
         draft.to_bytes()
     };

@@ -5,7 +5,8 @@
 //!     harness --listing PATH [--seed S] [--cases N] [--only K]  compares a listing program with the model
 //!     harness --self-test [--seed S] [--cases N]                shows that the comparison finds each of many mistakes
 //!
-//! With a kind, all cases are of that kind: as in `--kind campaigns --cases 100000`.
+//! With a kind, all cases are of that kind: as in `--kind campaigns --cases 100000`. Cases of the kinds `lasting`, `long` and
+//! `last` take long, and run only where they are named.
 //! Status 0: no difference. 1: a difference, or a mistake that wasn't found. 2: bad arguments.
 
 mod admission;

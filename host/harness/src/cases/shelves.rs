@@ -40,7 +40,7 @@ impl Scene {
         let busiest = (0..CAMPAIGNS).max_by_key(|&campaign| holds[campaign]).expect("four campaigns");
         let campaign = random.pick(&[busiest, random.below(CAMPAIGNS)]) as u8;
         let empty = tables::empty(random);
-        let mut table = tables::grown(random, empty, some_count(random));
+        let mut table = tables::sometimes_aged(random, tables::grown(random, empty, some_count(random)));
         // What waits may refer to the arrival, if it is one that is let in.
         let (sent, ahead) = if random.one_in(6) {
             (any(random, &table, &[]), table.clone())

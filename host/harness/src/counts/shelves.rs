@@ -2,7 +2,7 @@
 
 use std::fmt::{self, Display, Formatter};
 
-use crate::alone::{Call, Story};
+use crate::alone::{Call, Reply, Story};
 use crate::brought::Brought;
 use crate::shelf::Shelf;
 use crate::shelf_form::DOCUMENT;
@@ -38,6 +38,7 @@ pub struct Shelves {
     alone: u64,
     alone_refused_19: u64,
     alone_let_in: u64,
+    alone_retired: u64,
 }
 
 /// Arrivals that lack a reference.
@@ -105,6 +106,8 @@ impl Shelves {
         self.alone += 1;
         self.alone_refused_19 += met(19);
         self.alone_let_in += u64::from(story.replies.iter().any(|reply| !reply.listed.is_empty()));
+        let retires = |(call, reply): (&Call, &Reply)| matches!(call, Call::Retiring) && reply.answer.refusal == 0;
+        self.alone_retired += u64::from(story.calls.iter().zip(&story.replies).any(retires));
     }
 }
 
@@ -170,6 +173,7 @@ impl Display for Shelves {
         line("20 with a full shelf", self.nines.full_shelf)?;
         line("campaigns replayed alone", self.alone)?;
         line("campaigns replayed alone that got 19", self.alone_refused_19)?;
-        line("campaigns replayed alone with waiting blocks ended", self.alone_let_in)
+        line("campaigns replayed alone with waiting blocks ended", self.alone_let_in)?;
+        line("campaigns replayed alone that retired", self.alone_retired)
     }
 }

@@ -35,7 +35,8 @@ fn depends_on_others(told: &Told) -> Option<String> {
     what.iter().find(|(differs, _)| *differs).map(|(_, what)| what.to_string())
 }
 
-/// As many ended or wait as got 9; those that wait did get it, and so did those that were let in, by their digests.
+/// As many ended or wait as got 9; those that wait did get it, and so did those that were let in and haven't left since, by
+/// their digests.
 fn lost_or_invented(told: &Told) -> Option<String> {
     let Story { calls, replies, table, waiting, .. } = told.among_others;
     let answered_9 = calls.iter().zip(replies).filter_map(|(call, reply)| match call {
@@ -46,10 +47,18 @@ fn lost_or_invented(told: &Told) -> Option<String> {
     let digests: Vec<Digest> = answered_9.iter().map(|block| sha256(block)).collect();
     let listed: Vec<[u64; 2]> = replies.iter().flat_map(|reply| reply.listed.clone()).collect();
     let held = Table::from_bytes(table);
-    let known = |place: u64| held.held().get(place as usize).is_some_and(|row| digests.contains(&row.digest));
-    let let_in = listed.iter().filter(|listed| listed[0] == 0);
+    let known = |place: usize| held.held().get(place).is_some_and(|row| digests.contains(&row.digest));
+    let let_in = |at: usize| replies[at].listed.iter().filter(|listed| listed[0] == 0).map(|listed| listed[1] as usize);
+    // It has moved down by as many places as blocks were retired since.
+    let known_now = |at: usize, place: usize| place.checked_sub(retired_after(told.among_others, at)).is_none_or(known);
     let lawful = answered_9.len() == waiting.len() + listed.len()
         && waiting.iter().all(|block| answered_9.contains(block))
-        && let_in.clone().all(|listed| known(listed[1]));
+        && (0..replies.len()).all(|at| let_in(at).all(|place| known_now(at, place)));
     (!lawful).then(|| format!("{} got 9, {} wait, {listed:?} ended", answered_9.len(), waiting.len()))
+}
+
+/// How many blocks were retired after a call.
+fn retired_after(story: &Story, at: usize) -> usize {
+    let later = story.calls.iter().zip(&story.replies).skip(at + 1);
+    later.filter(|(call, reply)| matches!(call, Call::Retiring) && reply.answer.refusal == 0).count()
 }
