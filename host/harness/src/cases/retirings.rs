@@ -11,6 +11,7 @@ use crate::leaving;
 use crate::lent::{Lent, Sides};
 use crate::random::Random;
 use crate::retirer::Retirer;
+use crate::sizes::BUFFER_NUMBERS;
 use crate::table::Table;
 
 pub fn run(random: &Random, compare: &mut Compare) -> Result<(), Difference> {
@@ -46,6 +47,12 @@ fn by_hand(random: &Random, compare: &mut Compare) -> Result<(), Difference> {
 
 // ---- Campaigns
 
+/// Two controllers can be joined only where neither has retired.
+fn join(random: &Random, compare: &mut Compare, [left, right]: [&Lent; 2]) -> Result<(), Difference> {
+    let mut sides = Sides::new(Lent::new(left.table.clone(), left.records.clone()));
+    compare.join(&mut sides, right, &any_numbers(random, BUFFER_NUMBERS)).map(|_| ())
+}
+
 /// What the two come to must keep the laws, and a site can go on from there.
 fn campaigns(random: &Random, compare: &mut Compare) -> Result<(), Difference> {
     let campaign = Campaign::drawn(random);
@@ -60,6 +67,7 @@ fn campaigns(random: &Random, compare: &mut Compare) -> Result<(), Difference> {
     let ever = Ever { sites: [&one.kept, &other.kept], site_count: campaign.sites, watched };
     compare.counts.retirings.ended(&ever);
     laws::check_ever(&ever)?;
+    join(random, compare, [one.kept.left(), other.kept.left()])?;
     for retirer in [one, other] {
         retirer.replay(random, compare)?;
         let site = random.below(campaign.sites.into()) as u8;
