@@ -38,11 +38,19 @@ fn not_a_third(seen: &Seen) -> Option<String> {
 
 /// A site has more blocks than sequence numbers only if it has some number twice.
 fn not_more_blocks(seen: &Seen) -> Option<String> {
-    let numbers =
-        |site: u8| seen.table.own(site).map(|place| seen.table.rows[place].sequence).collect::<BTreeSet<u16>>();
-    let more = |site: u8| seen.table.own(site).count() > numbers(site).len();
+    let more = |site: u8| seen.table.own(site).count() > number_count(seen, site);
     let site = (0..seen.table.sites).find(|&site| named(seen, site) != more(site))?;
     Some(format!("site {site}, {:?}", seen.forked))
+}
+
+/// By the parent rule a site has a block of every sequence number up to its greatest; where something was retired, some may
+/// be gone.
+fn number_count(seen: &Seen, site: u8) -> usize {
+    let numbers: BTreeSet<u16> = seen.table.own(site).map(|place| seen.table.rows[place].sequence).collect();
+    match seen.table.retired {
+        0 => numbers.last().map_or(0, |&greatest| usize::from(greatest) + 1),
+        _ => numbers.len(),
+    }
 }
 
 fn named(seen: &Seen, site: u8) -> bool {
