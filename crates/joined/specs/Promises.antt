@@ -23,7 +23,7 @@ abbrev pub joinOf : Site → Site → List ℕ → Site
 joinOf x y third =
     record { table = joined (x .table) (y .table) (x .records) (y .records) third; records = copied (x .table) (y .table) (x .records) (y .records) third }
 
--- no check refuses it
+-- no check refuses it: so neither side has retired anything
 abbrev pub CanJoin : Site → Site → List ℕ → Type 0
 CanJoin x y third = joinAnswer (x .table) (y .table) (x .records) (y .records) third .refusal ≡ 0
 

@@ -19,7 +19,7 @@ fn waits(table: &[u8], i: usize) -> bool
     rows::mark_at(table, i) != 1
 }
 
-// Whether a place below k does.
+// Whether a place below k refers to place 0 and is not interpreted.
 fn any_waits(table: &[u8], k: usize) -> bool
     requires { ⌜ Places (now table) k ⌝ }
     ensures { λ r. ⌜ r ≡ anyBelow (waitsForFirst (viewOf (now (table .entry)))) k ⌝ }
@@ -48,7 +48,7 @@ fn follows(table: &[u8], i: usize, site: u8, sequence: u16) -> bool
     sequence < rows::sequence_at(table, i)
 }
 
-// Whether a place below k does.
+// Whether a place below k holds an interpreted block of this site, of greater sequence number.
 fn any_follows(table: &[u8], k: usize, site: u8, sequence: u16) -> bool
     requires { ⌜ Places (now table) k ⌝ }
     ensures { λ r. ⌜ r ≡ anyBelow (followsOne (now (table .entry)) site sequence) k ⌝ }
