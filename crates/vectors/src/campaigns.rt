@@ -42,6 +42,9 @@ const WATCHED: u8 = b'f';
 // The site builds its next block with these requests; it arrives where it was built.
 const BUILT: u8 = b'b';
 
+// Place 0 is retired.
+const RETIRED: u8 = b'r';
+
 fn digit(character: u8) -> u8 {
     if character < b'0' {
         0
@@ -155,7 +158,7 @@ fn keep_digest(digests: &mut [u8], named: usize, block: &[u8]) {
     base::put(digests, REFERENCE_SIZE * named, &sha256::digest(block));
 }
 
-fn wide(x: u16) -> usize {
+pub fn wide(x: u16) -> usize {
     x as usize
 }
 
@@ -170,7 +173,7 @@ pub fn show_answer(call: &[u8], answer: Answer) {
 }
 
 // What the block at a place made in slot 0.
-fn show_made(place: usize, records: &[u16]) {
+pub fn show_made(place: usize, records: &[u16]) {
     if records.len() != BUFFER_SIZE {
         return;
     }
@@ -360,6 +363,10 @@ fn take_step(
         build(table, records, entry);
         return named;
     }
+    if entry[0] == RETIRED {
+        show_answer(b"retire", retire::retire(table, records));
+        return named;
+    }
     bring(table, records, digests, named, entry[0], entry);
     named + 1
 }
@@ -373,14 +380,19 @@ fn run(table: &mut [u8], records: &mut [u16], digests: &mut [u8], campaign: &[u8
     }
 }
 
+// Runs a campaign on a table and its records.
+pub fn run_on(table: &mut [u8], records: &mut [u16], campaign: &[u8]) {
+    let mut digests = [0u8; DIGESTS_SIZE];
+    run(table, records, &mut digests, campaign);
+}
+
 // Runs a campaign of n sites in which site 0 owns every slot.
 pub fn show(name: &[u8], sites: u8, campaign: &[u8]) {
     Line::new().text(name).show();
     let fresh = table::fresh(sites, [0; SLOTS]);
     let mut table = fresh.table;
     let mut records = [0u16; BUFFER_SIZE];
-    let mut digests = [0u8; DIGESTS_SIZE];
-    run(&mut table, &mut records, &mut digests, campaign);
+    run_on(&mut table, &mut records, campaign);
 }
 
 // Each block refers to the one before; the first requests 7.
