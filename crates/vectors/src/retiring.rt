@@ -273,6 +273,7 @@ fn run_campaign(table: &mut [u8], records: &mut [u16]) {
     take_turns(table, records, 184, 239, &[]);
 }
 
+// The 7 at place 59 is of its own block: no block that stood there before a retiring had it.
 fn show_going_on() {
     Line::new().text(b"n 4, 60 rounds").show();
     let fresh = table::fresh(4, [0, 1, 2, 3, 0, 1, 2, 3]);
@@ -283,6 +284,10 @@ fn show_going_on() {
     show_number(
         b"place 59 has in slot 0: ",
         wide(records[PART_SIZE * 59 + DELIVERY]),
+    );
+    show_number(
+        b"place 59 has in slot 7: ",
+        wide(records[PART_SIZE * 59 + RECORD_SIZE * 7 + DELIVERY]),
     );
 }
 
