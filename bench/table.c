@@ -16,6 +16,7 @@ static uint8_t unmarked[GT_TABLE_BYTES]; /* before the last of them was interpre
 static uint8_t but_one[GT_TABLE_BYTES];  /* before it was admitted */
 static uint8_t lent[GT_TABLE_BYTES];     /* filled anew for each call that changes it */
 static uint16_t records[GT_RECORDS_NUMBERS];
+static uint16_t moving[GT_RECORDS_NUMBERS]; /* for retirings, by which records move on */
 static built_block last;
 static uint8_t sites;
 
@@ -55,11 +56,11 @@ static bool call_interpret(void)
     return gt_interpret(lent, GT_TABLE_BYTES, LAST_PLACE, records, GT_RECORDS_NUMBERS).refusal == 0;
 }
 
-/* The block is put back before each retiring, by a copy that is in the time; the records move on. */
+/* The block is put back before each retiring, by a copy that is in the time. */
 static bool call_retire(void)
 {
     memcpy(lent, full, GT_TABLE_BYTES);
-    return gt_retire(lent, GT_TABLE_BYTES, records, GT_RECORDS_NUMBERS).refusal == 0;
+    return gt_retire(lent, GT_TABLE_BYTES, moving, GT_RECORDS_NUMBERS).refusal == 0;
 }
 
 static bool call_forks(void)
