@@ -112,7 +112,8 @@ int main(void)
     puts("shelves are compared.");
     printf("Measured in CPU time: medians of %d repetitions, each a batch of calls of each of the two in turn, after a batch of\n",
            REPETITIONS);
-    puts("each to warm up. Where blocks are let in, the table and the shelf are put back before each call; that copy, of 12,555");
+    printf("each to warm up. Where blocks are let in, the table and the shelf are put back before each call; that copy, of %d\n",
+           GT_TABLE_BYTES + GT_SHELF_BYTES);
     puts("bytes in ours, is counted with it. The last column is C's time over ours, the median of the repetitions' ratios: above");
     puts("1 ours is the faster one.");
     puts("");
