@@ -1,5 +1,6 @@
--- The theory, from the ground up: histories and what their records keep; agreement in any collection of histories; the histories of a
--- ledger's blocks; site and ledger side by side; the theorem. Then what `replay` needs.
+-- The theory, from the ground up: histories and what their records keep; agreement in any collection of histories; blocks that were admitted in
+-- turn, and their histories by digest; site and ledger side by side, a file for the step of each call; the theorem; what calls reach while nothing
+-- is retired; the watch. Then what `replay` needs.
 pub mod Histories
 pub mod Meanings
 pub mod Validity
