@@ -26,7 +26,7 @@ static built_block next_block(const side *s, uint8_t site)
 {
     const uint8_t request[] = {site, 0, 42};
 
-    return build_next(s->table, site, request, s->table[COUNT] == 0 ? sizeof request : 0);
+    return build_next(s->table, site, request, s->table[GT_TABLE_COUNT] == 0 ? sizeof request : 0);
 }
 
 static void hold(side *s, const built_block *b)
@@ -38,9 +38,9 @@ static void hold(side *s, const built_block *b)
  * there is one, gets the blocks of a round last first. */
 static void go_on(side *s, side *other, uint8_t first, uint8_t last, size_t blocks)
 {
-    while (s->table[COUNT] < blocks) {
+    while (s->table[GT_TABLE_COUNT] < blocks) {
         built_block round[SITES];
-        size_t missing = blocks - s->table[COUNT], sites = last - first + 1u, built = missing < sites ? missing : sites;
+        size_t missing = blocks - s->table[GT_TABLE_COUNT], sites = last - first + 1u, built = missing < sites ? missing : sites;
 
         for (size_t i = 0; i < built; i++)
             round[i] = next_block(s, (uint8_t)(first + i));

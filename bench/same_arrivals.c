@@ -104,8 +104,8 @@ static bool holds(const uint8_t table[GT_TABLE_BYTES], const built_block *block)
     uint8_t digest[GT_DIGEST_BYTES];
 
     gt_digest(block->bytes, block->length, digest, sizeof digest);
-    for (size_t place = 0; place < table[COUNT]; place++)
-        if (memcmp(table + ROWS + ROW_BYTES * place, digest, sizeof digest) == 0)
+    for (size_t place = 0; place < table[GT_TABLE_COUNT]; place++)
+        if (memcmp(table + GT_TABLE_ROWS + GT_ROW_BYTES * place, digest, sizeof digest) == 0)
             return true;
     return false;
 }

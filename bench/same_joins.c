@@ -99,7 +99,7 @@ static void interpret_some(side *s)
     static uint16_t records[GT_RECORDS_NUMBERS];
     size_t left_out = 1 + below(20);
 
-    for (size_t place = 0; place < s->table[COUNT]; place++)
+    for (size_t place = 0; place < s->table[GT_TABLE_COUNT]; place++)
         if (!one_in(left_out))
             gt_interpret(s->table, GT_TABLE_BYTES, place, records, GT_RECORDS_NUMBERS);
 }
@@ -151,24 +151,25 @@ static void make_pair(pair *p)
 /* Of those held, or the one behind them. */
 static uint8_t *some_row(side *s)
 {
-    size_t count = s->table[COUNT];
+    size_t count = s->table[GT_TABLE_COUNT];
 
-    return s->table + ROWS + ROW_BYTES * below(count < GT_MAX_PLACES ? count + 1 : GT_MAX_PLACES);
+    return s->table + GT_TABLE_ROWS + GT_ROW_BYTES * below(count < GT_MAX_PLACES ? count + 1 : GT_MAX_PLACES);
 }
 
-/* An owner; whether something was retired; a row's digest, to that of a row of the other side; its site or its sequence number; or a bit of its fields. */
+/* An owner; whether something was retired; a row's digest, to that of a row of the other side; its site or its sequence
+ * number; or a bit of its fields. */
 static void change(side *s, side *other)
 {
     if (one_in(6))
         s->table[1 + below(GT_SLOTS)] = (uint8_t)below(2);
     else if (one_in(8))
-        s->table[RETIRED] = (uint8_t)below(3);
+        s->table[GT_TABLE_RETIRED] = (uint8_t)below(3);
     else if (one_in(3))
         memcpy(some_row(s), some_row(other), GT_DIGEST_BYTES);
     else if (one_in(2))
-        some_row(s)[SITE + 2 * below(2)] = (uint8_t)below(2);
+        some_row(s)[GT_ROW_SITE + 2 * below(2)] = (uint8_t)below(2);
     else
-        some_row(s)[SITE + below(ROW_BYTES - SITE)] ^= (uint8_t)(1 << below(8));
+        some_row(s)[GT_ROW_SITE + below(GT_ROW_BYTES - GT_ROW_SITE)] ^= (uint8_t)(1 << below(8));
 }
 
 static size_t some_numbers(void) { return one_in(40) ? below(GT_RECORDS_NUMBERS) : GT_RECORDS_NUMBERS; }
@@ -199,7 +200,7 @@ static void join_some(void)
         change_some(&p);
     gt_answer answer = join_at_both(&p, one_in(2) ? some_numbers() : GT_RECORDS_NUMBERS);
     answered[answer.refusal]++;
-    just_full += answer.refusal == 0 && answer.value == GT_MAX_PLACES && p.left.table[COUNT] < GT_MAX_PLACES;
+    just_full += answer.refusal == 0 && answer.value == GT_MAX_PLACES && p.left.table[GT_TABLE_COUNT] < GT_MAX_PLACES;
 }
 
 void expect_same_joins_at_random(size_t pairs)

@@ -1,6 +1,6 @@
 /* The deepest stack of each call, in bytes, from the caller's frame on, over many inputs: tables that are empty, partly
- * filled, full, forked, clashing, out of form, and such that have retired a block; shelves that are empty, full and out of form; blocks up to 16 references
- * and 8 requests; every refusal.
+ * filled, full, forked, clashing, out of form, and such that have retired a block; shelves that are empty, full and out of
+ * form; blocks up to 16 references and 8 requests; every refusal.
  * It prints what it measures. An answer other than the expected one ends it with status 1. */
 #include <stdio.h>
 #include <string.h>
@@ -85,16 +85,13 @@ static void prepare_tables(void)
     out_of_form.bytes[GT_TABLE_BYTES - 1] = 2; /* a mark */
 }
 
-/* Where a table has whether something was retired, and its first place's sequence number. */
-enum { RETIRED = 9, FIRST_SEQUENCE = 11 + 33 };
-
 static void prepare_aged_tables(void)
 {
     aged = reached[GT_MAX_PLACES];
     expect(gt_retire(aged.bytes, sizeof aged.bytes, records, GT_RECORDS_NUMBERS).refusal == 0, "no block was retired");
     last_number = reached[1];
-    last_number.bytes[RETIRED] = 1;
-    memset(last_number.bytes + FIRST_SEQUENCE, 255, 2);
+    last_number.bytes[GT_TABLE_RETIRED] = 1;
+    memset(last_number.bytes + GT_TABLE_ROWS + GT_ROW_SEQUENCE, 255, 2);
 }
 
 /* A twin of each block of the first round: its last request has another number. */

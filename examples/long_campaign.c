@@ -16,9 +16,6 @@ enum { SITES = 4, ROUNDS = 50 };
 /* What these calls are refused with here. */
 enum { NOT_HELD = 9, FULL = 11, NOT_RETIRED = 29 };
 
-/* Where a table's count stands: docs/FORMATS.md. */
-enum { COUNT = 10 };
-
 /* The value of a call that nothing here gives a reason to refuse. */
 static size_t expected(gt_answer answer)
 {
@@ -149,7 +146,7 @@ int main(void)
     second = run_round(1);
     for (size_t round = 2; round < ROUNDS; round++)
         run_round(round);
-    printf("%zu blocks have come, %zu have left, %d are held\n", came, left, table[COUNT]);
+    printf("%zu blocks have come, %zu have left, %d are held\n", came, left, table[GT_TABLE_COUNT]);
     retire();
     come_again("the first block", &first);
     retire();

@@ -13,10 +13,6 @@
 
 enum { SITES = 4, SLOT = 0, NUMBER = 42 };
 
-/* Where the fields of a table stand, and those of a place within its row: docs/FORMATS.md. */
-enum { COUNT = 10, ROWS = 11 };
-enum { SITE = 32, SEQUENCE = 33, MARK = 59, ROW_BYTES = 60 };
-
 /* What is wrong when a join is refused, and what to do. */
 static const char *const causes[] = {
     [2] = "a table is damaged: take a copy of it that is in form",
@@ -75,7 +71,7 @@ static void hold(controller *c, const block *b) { interpret(c, admit(c, b)); }
 static block next_block(const controller *c, uint8_t site)
 {
     const uint8_t request[] = {SLOT, 0, NUMBER};
-    size_t length = site == 0 && c->table[COUNT] == 0 ? sizeof request : 0;
+    size_t length = site == 0 && c->table[GT_TABLE_COUNT] == 0 ? sizeof request : 0;
     block b;
 
     b.length = expected(gt_build(c->table, GT_TABLE_BYTES, site, request, length, b.bytes, sizeof b.bytes));
@@ -90,7 +86,7 @@ static void build_round(const controller *c, block round[SITES])
 
 /* ---- Lists */
 
-static const uint8_t *row_of(const controller *c, size_t place) { return c->table + ROWS + ROW_BYTES * place; }
+static const uint8_t *row_of(const controller *c, size_t place) { return c->table + GT_TABLE_ROWS + GT_ROW_BYTES * place; }
 
 /* The last number of a slot's record is what this block delivers. Only an interpreted place has records. */
 static void list_place(const controller *c, size_t place)
@@ -98,8 +94,9 @@ static void list_place(const controller *c, size_t place)
     const uint8_t *row = row_of(c, place);
     size_t end = GT_PART_NUMBERS * place + GT_RECORD_NUMBERS * (SLOT + 1);
 
-    printf("%5zu %4d %3d %11s ", place, row[SITE], row[SEQUENCE] << 8 | row[SEQUENCE + 1], row[MARK] ? "yes" : "no");
-    if (row[MARK] && c->records[end - 1] != 0)
+    printf("%5zu %4d %3d %11s ", place, row[GT_ROW_SITE], row[GT_ROW_SEQUENCE] << 8 | row[GT_ROW_SEQUENCE + 1],
+           row[GT_ROW_MARK] ? "yes" : "no");
+    if (row[GT_ROW_MARK] && c->records[end - 1] != 0)
         printf("%9" PRIu16 "\n", c->records[end - 1]);
     else
         printf("%9s\n", "-");
@@ -108,7 +105,7 @@ static void list_place(const controller *c, size_t place)
 static void list(const controller *c)
 {
     puts("place site seq interpreted delivered");
-    for (size_t place = 0; place < c->table[COUNT]; place++)
+    for (size_t place = 0; place < c->table[GT_TABLE_COUNT]; place++)
         list_place(c, place);
 }
 
@@ -155,11 +152,11 @@ static void go_on(controller *c)
 {
     block b = next_block(c, 3);
 
-    for (size_t place = 0; place < c->table[COUNT]; place++)
-        if (!row_of(c, place)[MARK])
+    for (size_t place = 0; place < c->table[GT_TABLE_COUNT]; place++)
+        if (!row_of(c, place)[GT_ROW_MARK])
             interpret(c, place);
     hold(c, &b);
-    list_place(c, c->table[COUNT] - 1u);
+    list_place(c, c->table[GT_TABLE_COUNT] - 1u);
 }
 
 int main(void)

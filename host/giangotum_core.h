@@ -23,8 +23,21 @@
 extern "C" {
 #endif
 
-/* Bytes of a table. */
+/* Bytes of a table, and where its fields begin: the owners; 1 if something has been retired, 0 if not; how many blocks are
+ * held; and a row for each place. */
 #define GT_TABLE_BYTES 3851
+#define GT_TABLE_OWNERS 1
+#define GT_TABLE_RETIRED 9
+#define GT_TABLE_COUNT 10
+#define GT_TABLE_ROWS 11
+/* Bytes of a row, and where its fields begin behind the digest: the site; the sequence number, high byte first; the places
+ * referred to, low byte first; the eight requests, high byte first; 1 if the place is interpreted, 0 if not. */
+#define GT_ROW_BYTES 60
+#define GT_ROW_SITE 32
+#define GT_ROW_SEQUENCE 33
+#define GT_ROW_REFERENCES 35
+#define GT_ROW_REQUESTS 43
+#define GT_ROW_MARK 59
 /* The most blocks that a table holds: places 0 to 63. */
 #define GT_MAX_PLACES 64
 /* Slots, and so owners. */

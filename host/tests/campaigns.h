@@ -5,7 +5,7 @@
 #include "checks.h"
 #include "giangotum_core.h"
 
-/* Where the fields of a table stand, and those of a place within its row. */
+/* Where the fields of a table stand, and those of a place within its row: the numbers of docs/FORMATS.md, not the header's. */
 enum { OWNERS = 1, RETIRED = 9, COUNT = 10, ROWS = 11 };
 enum { SITE = 32, SEQUENCE = 33, REFERENCES = 35, REQUESTS = 43, MARK = 59, ROW_BYTES = 60 };
 

@@ -10,7 +10,17 @@ WARNINGS = ["-Wall", "-Wextra", "-Wpedantic", "-Werror", "-fsyntax-only"]
 
 # The layouts of docs/FORMATS.md; and the most places that a campaign holds are those that the others' reserved ones leave.
 AGREEMENTS = ["GT_MAX_BLOCK_BYTES == 5 + GT_DIGEST_BYTES * GT_MAX_REFERENCES + 3 * GT_MAX_REQUESTS",
-              "GT_TABLE_BYTES == 1 + GT_SLOTS + 1 + 1 + GT_MAX_PLACES * (GT_DIGEST_BYTES + 1 + 2 + GT_MAX_PLACES / 8 + 2 * GT_SLOTS + 1)",
+              "GT_TABLE_OWNERS == 1",
+              "GT_TABLE_RETIRED == GT_TABLE_OWNERS + GT_SLOTS",
+              "GT_TABLE_COUNT == GT_TABLE_RETIRED + 1",
+              "GT_TABLE_ROWS == GT_TABLE_COUNT + 1",
+              "GT_TABLE_BYTES == GT_TABLE_ROWS + GT_MAX_PLACES * GT_ROW_BYTES",
+              "GT_ROW_SITE == GT_DIGEST_BYTES",
+              "GT_ROW_SEQUENCE == GT_ROW_SITE + 1",
+              "GT_ROW_REFERENCES == GT_ROW_SEQUENCE + 2",
+              "GT_ROW_REQUESTS == GT_ROW_REFERENCES + GT_MAX_PLACES / 8",
+              "GT_ROW_MARK == GT_ROW_REQUESTS + 2 * GT_SLOTS",
+              "GT_ROW_BYTES == GT_ROW_MARK + 1",
               "GT_PART_NUMBERS == GT_SLOTS * GT_RECORD_NUMBERS",
               "GT_RECORDS_NUMBERS == GT_MAX_PLACES * GT_PART_NUMBERS",
               "GT_SHELF_BYTES == 1 + GT_SHELF_PLACES * (1 + 2 + GT_MAX_BLOCK_BYTES)",

@@ -1,5 +1,5 @@
--- What every site has that calls reached and that has retired nothing: its table's rows stand as their bytes and show the blocks of its ledger, all of which the reader
--- accepts; and the part of each marked place is what interpreting it now would write. Assumes nothing.
+-- What every site has that calls reached and that has retired nothing: its table's rows stand as their bytes and show the blocks of its ledger,
+-- all of which the reader accepts; and the part of each marked place is what interpreting it now would write. Assumes nothing.
 use mathlib.Core.Path.{_≡_, refl, sym, ap, _∙_, subst}
 use mathlib.Core.Bool.{true}
 use mathlib.Core.Logic.{_≢_, inl, inr}

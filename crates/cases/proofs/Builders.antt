@@ -1,10 +1,10 @@
--- A site builds by the building rule, by computing, and so it is full, by the theorem. Assumes nothing.
-use mathlib.Core.Path.{_≡_, refl, ap}
+-- A site builds by the building rule, by computing, and so it is full, by the theorem; one that has retired something is not. Assumes nothing.
+use mathlib.Core.Path.{_≡_, refl, ap, _∙_}
 use mathlib.Core.Bool.{Bool, true, false, not, _&&_}
 use mathlib.Core.List.{List, [], _∷_, _++_, List·Memᴰ}
 use Prim.Native.Nat.{ℕ}
 use lib.Dec.{eqb}
-use lib.ListN.{take}
+use lib.ListN.{length, take}
 use borrow.Author.Tests.{eqb-true, eq-eqb}
 use Rattle.base.specs.Bytes.{Bytes, sameBytes}
 use Rattle.base.specs.List.{someIn}
@@ -13,24 +13,30 @@ use Rattle.base.proofs.List.{some-at}
 use Rattle.base.proofs.Bytes.{same-equal}
 use Rattle.block.specs.Limits.{blockSize}
 use Rattle.block.specs.Layout.{siteOf}
+use Rattle.table.specs.Layout.{withMark}
 use Rattle.table.specs.Fresh.{freshTable}
+use Rattle.admission.specs.Admission.{admission, admitted}
+use Rattle.interpret.specs.Interpretation.{interpretation, marked}
+use Rattle.interpret.proofs.Promises as interpreting
+use Rattle.retire.specs.Retiring.{movedBytes, moveDown, retiring, retiredTable}
+use Rattle.retire.proofs.Promises as retired
 use Rattle.build.specs.Building.{building, built}
 use Rattle.agreement.specs.Ledger.{Call, admit, interpret, retire, Ledger}
 use Rattle.agreement.specs.Run.{Site, started, siteAnswer, siteStep}
-use Rattle.agreement.specs.Promises.{NoCollision}
-use Rattle.arrival.specs.Full.{BlockBy}
+use Rattle.agreement.specs.Promises.{forked, NoCollision}
+use Rattle.arrival.specs.Full.{BlockBy, Full}
 use Rattle.arrival.specs.Building.{OwnIsBuilt, BuildsByRule, BuildersFull}
 use Rattle.arrival.proofs.Building.{builders-full}
 use Rattle.cases.specs.Toy.{toy}
 use Rattle.cases.specs.Run.{zeros, callsOf, ledgerLeft}
-use Rattle.cases.specs.Blocks.{sites}
+use Rattle.cases.specs.Blocks.{sites, first}
 use Rattle.cases.specs.Building.{room}
-use Rattle.cases.specs.Builders.{firstBuilt, nextBuilt, ownTurns, otherTurns, BuilderCases}
+use Rattle.cases.specs.Builders.{firstBuilt, nextBuilt, ownTurns, otherTurns, builtLate, lateTurns, BuilderCases}
 use Rattle.cases.proofs.Toy.{toyDigest}
 use Rattle.cases.proofs.Told.{session, ledgerFrom, ledger-left}
 use Rattle.cases.proofs.Opened.{openedLedger, openedWatch}
 use Rattle.cases.proofs.Premises.{collision, no-collision, lawful-setup}
-use Rattle.cases.proofs.Covered.{holds, is-held}
+use Rattle.cases.proofs.Covered.{holds, is-held, refersTo, near, misses, not-full}
 
 -- ---- building
 
@@ -45,37 +51,50 @@ module _ (p : ℕ) (requests output : Bytes) where
   writes t b = eqb (building t p requests output .refusal) 0 && sameBytes (take (building t p requests output .value) (built t p requests output)) b
 
   -- if it is a block of site p, and is admitted
-  unfoldable admittedOwn : Site → Bytes → ℕ → Bool
-  admittedOwn x b verdict = eqb (siteOf b) p && eqb (siteAnswer toy x (admit b verdict) .refusal) 0
+  unfoldable admittedOwn : Bytes → Bytes → ℕ → Bool
+  admittedOwn t b verdict = eqb (siteOf b) p && eqb (admission toy t b verdict .refusal) 0
 
-  unfoldable kept : Site → Bytes → ℕ → Bool
-  kept x b verdict = elim (admittedOwn x b verdict) [ true ↦ writes (x .table) b | false ↦ true ]
+  unfoldable kept : Bytes → Bytes → ℕ → Bool
+  kept t b verdict = elim (admittedOwn t b verdict) [ true ↦ writes t b | false ↦ true ]
 
-  -- and so for each block that is brought, from the table as it stands
-  unfoldable allKept : Site → List Call → Bool
-  allKept x [] = true
-  allKept x (admit b verdict ∷ cs) = kept x b verdict && allKept (siteStep toy x (admit b verdict)) cs
-  allKept x (interpret place ∷ cs) = allKept (siteStep toy x (interpret place)) cs
-  allKept x (retire ∷ cs) = allKept (siteStep toy x retire) cs
+  -- and so for each block that is brought, from the table as it stands. What the records are is no matter, but how many they are
+  unfoldable allKept : Bytes → List Call → Bool
+  allKept t [] = true
+  allKept t (admit b verdict ∷ cs) = kept t b verdict && allKept (admitted toy t b verdict) cs
+  allKept t (interpret place ∷ cs) = allKept (marked t zeros place) cs
+  allKept t (retire ∷ cs) = allKept (retiredTable t zeros) cs
 
-  is-built : (x : Site) (b : Bytes) (verdict : ℕ) → kept x b verdict ≡ true → OwnIsBuilt toy p x (admit b verdict)
-  unfolding writes admittedOwn kept OwnIsBuilt
+  is-built : (x : Site) (b : Bytes) (verdict : ℕ) → kept (x .table) b verdict ≡ true → OwnIsBuilt toy p x (admit b verdict)
+  unfolding writes admittedOwn kept siteAnswer OwnIsBuilt
   is-built x b verdict e own passes =
-      let asked : admittedOwn x b verdict ≡ true = rw (eq-eqb (siteOf b) p own, eq-eqb (siteAnswer toy x (admit b verdict) .refusal) 0 passes) refl in
-      let y = passes-where (admittedOwn x b verdict) (writes (x .table) b) e asked in
+      let asked : admittedOwn (x .table) b verdict ≡ true = rw (eq-eqb (siteOf b) p own, eq-eqb (admission toy (x .table) b verdict .refusal) 0 passes) refl in
+      let y = passes-where (admittedOwn (x .table) b verdict) (writes (x .table) b) e asked in
       record { requests = requests; output = output; success = eqb-true _ _ (search and-left); writes = same-equal _ _ (search and-right) }
 
-  by-rule : (x : Site) (cs : List Call) → allKept x cs ≡ true → BuildsByRule toy p x cs
-  unfolding allKept OwnIsBuilt BuildsByRule
-  by-rule x [] e = tt
-  by-rule x (admit b verdict ∷ cs) e =
-      (is-built x b verdict (and-left (kept x b verdict) _ e), by-rule _ cs (and-right (kept x b verdict) _ e))
-  by-rule x (interpret place ∷ cs) e = (tt, by-rule _ cs e)
-  by-rule x (retire ∷ cs) e = (tt, by-rule _ cs e)
+  marked-same : (x : Site) → length (x .records) ≡ length zeros → (place : ℕ) → marked (x .table) (x .records) place ≡ marked (x .table) zeros place
+  unfolding interpretation marked
+  marked-same x w place = rw w
+
+  retired-same : (x : Site) → length (x .records) ≡ length zeros → retiredTable (x .table) (x .records) ≡ retiredTable (x .table) zeros
+  unfolding retiring retiredTable
+  retired-same x w = rw w
+
+  by-rule : (x : Site) (cs : List Call) → length (x .records) ≡ length zeros → allKept (x .table) cs ≡ true → BuildsByRule toy p x cs
+  unfolding allKept siteStep OwnIsBuilt BuildsByRule
+  by-rule x [] w e = tt
+  by-rule x (admit b verdict ∷ cs) w e =
+      (is-built x b verdict (and-left (kept (x .table) b verdict) _ e), by-rule _ cs w (and-right (kept (x .table) b verdict) _ e))
+  by-rule x (interpret place ∷ cs) w e =
+      (tt, by-rule _ cs (interpreting.promises .sized (x .table) (x .records) place ∙ w) (rw (marked-same x w place) e))
+  by-rule x (retire ∷ cs) w e = (tt, by-rule _ cs (retired.promises .sized (x .table) (x .records) ∙ w) (rw (retired-same x w) e))
 
 own-by-rule : BuildsByRule toy 1 (started (sites 4) zeros) (callsOf ownTurns)
 unfolding openedWatch freshTable firstBuilt nextBuilt ownTurns writes admittedOwn kept allKept
-own-by-rule = by-rule 1 (3 ∷ 0 ∷ 7 ∷ []) (room (blockSize 4 1)) (started (sites 4) zeros) (callsOf ownTurns) refl
+own-by-rule = by-rule 1 (3 ∷ 0 ∷ 7 ∷ []) (room (blockSize 4 1)) (started (sites 4) zeros) (callsOf ownTurns) refl refl
+
+late-by-rule : BuildsByRule toy 1 (started (sites 4) zeros) (callsOf lateTurns)
+unfolding openedWatch freshTable marked withMark movedBytes moveDown retiredTable builtLate lateTurns writes admittedOwn kept allKept
+late-by-rule = by-rule 1 [] (room (blockSize 1 0)) (started (sites 4) zeros) (callsOf lateTurns) refl refl
 
 -- ---- two ledgers
 
@@ -113,13 +132,23 @@ none-retired : ledgerLeft (sites 4) ownTurns .retired ≡ []
 unfolding openedBuilders
 none-retired = ap (λ (l : Ledger). l .retired) own-is
 
+-- ---- a third, with a block retired
+
+unfoldable openedLate : Bool
+unfolding openedLedger builtLate lateTurns someIn forked holds refersTo near misses
+openedLate = true
+
+late-not-full : Full toy (ledgerLeft (sites 4) lateTurns .blocks) 1 → ⊥
+unfolding openedLate
+late-not-full = rw (ledger-left (sites 4) lateTurns lawful-setup refl) (not-full toy (ledgerFrom lateTurns .blocks) builtLate first refl)
+
 -- ---- what the theorem on builders says of them
 
 theorem : BuildersFull toy (sites 4) zeros zeros (callsOf ownTurns) (callsOf otherTurns) 1
 theorem = builders-full toy (toyDigest .size) (sites 4) lawful-setup zeros zeros (callsOf ownTurns) (callsOf otherTurns) 1
 
 pub builderCases : BuilderCases
-unfolding openedBuilders
+unfolding openedBuilders openedLate
 builderCases =
     record {
       builderFull = record { taken = session (sites 4) ownTurns lawful-setup refl; byRule = own-by-rule; full = theorem .here none-retired own-by-rule };
@@ -129,4 +158,5 @@ builderCases =
         known = known;
         full = theorem .elsewhere none-retired own-by-rule no-collisions known;
       };
+      builderLate = record { taken = session (sites 4) lateTurns lawful-setup refl; byRule = late-by-rule; notFull = late-not-full };
     }

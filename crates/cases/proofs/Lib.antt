@@ -19,3 +19,4 @@ pub mod Shelf
 pub mod Arrivals
 pub mod Joins
 pub mod Retiring
+pub mod Encoding

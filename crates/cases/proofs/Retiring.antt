@@ -50,6 +50,7 @@ order =
       formBeforeRetirable = (refl, refl);
       sizeBeforePlace = (refl, refl);
       sizeBeforeRetirable = (refl, refl);
+      placeBeforeRetirable = (refl, refl);
     }
 
 pub retirableCases : RetirableCases
@@ -92,6 +93,10 @@ leftCases =
       refusedRecords = four-stays .1;
       named = refl;
       notNamed = twin-left;
+      threeAncestors = refl;
+      twoAncestors = refl;
+      referredBefore = refl;
+      referredAgain = refl;
     }
 
 -- ---- ledgers

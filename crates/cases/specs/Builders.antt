@@ -1,16 +1,18 @@
 -- A site that builds by the building rule is full (crates/arrival, specs/Building.antt), on a run. n 4, owner 0. Site 1's table holds a fork of
 -- site 0 and two blocks of site 3; site 1 builds and admits what it built, a block of site 2 and its own block arrive, and site 1 builds again, each
--- time with a request. Another site holds its first block, and one that site 1 does not hold. The digest is the toy one.
+-- time with a request. Another site holds its first block, and one that site 1 does not hold. In a third run site 1 retires a block before it
+-- builds, and is not full. The digest is the toy one.
 use mathlib.Core.List.{List, [], _∷_, _++_, List·Memᴰ}
 use Rattle.base.specs.Bytes.{Bytes}
 use Rattle.table.specs.Checks.{refused}
+use Rattle.agreement.specs.Ledger.Call.{interpret, retire}
 use Rattle.agreement.specs.Run.{started}
 use Rattle.agreement.specs.Promises.{NoCollision}
 use Rattle.arrival.specs.Full.{BlockBy, Full}
 use Rattle.arrival.specs.Building.{BuildsByRule}
 use Rattle.cases.specs.Toy.{toy, request, block}
-use Rattle.cases.specs.Run.{good, placed, zeros, Turn, _giving_, callsOf, ledgerLeft, Session}
-use Rattle.cases.specs.Blocks.{sites, first, fork, third, fourth, echoing}
+use Rattle.cases.specs.Run.{good, placed, done, zeros, Turn, _giving_, callsOf, ledgerLeft, Session}
+use Rattle.cases.specs.Blocks.{sites, first, fork, second, third, fourth, echoing}
 
 -- site 1's blocks: one refers to all four blocks that it holds, the next to that one and to the block that arrived since
 unfoldable pub firstBuilt : Bytes
@@ -41,6 +43,20 @@ otherTurns =
     ∷ good (block 3 2 (toy fourth ∷ toy firstBuilt ∷ []) []) giving placed 5
     ∷ []
 
+-- what site 1 builds when site 0's first block is retired: a block that refers to site 0's second, and so is above the first
+unfoldable pub builtLate : Bytes
+builtLate = block 1 0 (toy second ∷ []) []
+
+unfoldable pub lateTurns : List Turn
+lateTurns =
+    good first giving placed 0
+    ∷ interpret 0 giving done
+    ∷ good second giving placed 1
+    ∷ interpret 1 giving done
+    ∷ retire giving done
+    ∷ good builtLate giving placed 1
+    ∷ []
+
 -- site 1 builds both of its blocks by the rule, and so it is full
 pub record BuilderFull : Type 0 where
   pub taken : Session (sites 4) ownTurns
@@ -54,6 +70,13 @@ pub record FullElsewhere : Type 0 where
   pub known : (b : Bytes) → BlockBy (ledgerLeft (sites 4) otherTurns .blocks) 1 b → List·Memᴰ b (ledgerLeft (sites 4) ownTurns .blocks)
   pub full : Full toy (ledgerLeft (sites 4) otherTurns .blocks) 1
 
+-- where something was retired, a site may build by the rule and not be full: it cannot refer to what its table does not hold any more
+pub record BuilderLate : Type 0 where
+  pub taken : Session (sites 4) lateTurns
+  pub byRule : BuildsByRule toy 1 (started (sites 4) zeros) (callsOf lateTurns)
+  pub notFull : Full toy (ledgerLeft (sites 4) lateTurns .blocks) 1 → ⊥
+
 pub record BuilderCases : Type 0 where
   pub builderFull : BuilderFull
   pub fullElsewhere : FullElsewhere
+  pub builderLate : BuilderLate

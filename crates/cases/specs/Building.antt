@@ -32,8 +32,8 @@ numberedTo k sequence = layout (sites 4) (record {
   row = λ i. record { digest = toy (numbered i); site = 0; sequence = sequence; refersTo = λ j. false; request = λ slot. 0; mark = 1 };
 })
 
--- "Checks 2, 4, 3, 6, 16, 17", and 30 "straight after 16": a row for each two neighbours. Of the two calls the first has both causes and gets the earlier number; in the
--- second only the earlier cause is mended, and it gets the later number.
+-- "Checks 2, 4, 3, 6, 16, 17", and 30 "straight after 16": a row for each two neighbours. Of the two calls the first has both causes and gets
+-- the earlier number; in the second only the earlier cause is mended, and it gets the later number.
 pub record BuildingOrderCases : Type 0 where
   -- 2, 4: site 4, on a table of three sites, and on one of four
   pub formBeforeSite : (building unlawful 4 [] [] ≡ refused 2 0) × (building fresh 4 [] [] ≡ refused 4 0)

@@ -141,8 +141,8 @@ rightSite = siteWith toy (sites 4) rightRecords (good fork ∷ interpret 0 ∷ g
 
 -- ---- cases
 
--- "in that order after 2 and 12": a row for each two neighbours of 2, 12, 31, 23, 24, 25, "31 .. when joining, before 23". The first call has both causes and gets the earlier number;
--- in the second only the earlier cause is mended, and it gets the later number.
+-- "in that order after 2 and 12", and 31 "when joining, before 23": a row for each two neighbours of 2, 12, 31, 23, 24, 25. The first call has both
+-- causes and gets the earlier number; in the second only the earlier cause is mended, and it gets the later number.
 pub record JoinOrderCases : Type 0 where
   -- nothing is right
   pub twoFirst : joinAnswer [] [] [] [] [] ≡ refused 2 0

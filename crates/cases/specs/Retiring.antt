@@ -11,13 +11,15 @@ use Rattle.base.specs.List.{listBelow, passing}
 use Rattle.broadcast.specs.declared.Sent.{Sent}
 use Rattle.broadcast.specs.Record.{none}
 use Rattle.table.specs.View.{Row, markedIf}
-use Rattle.table.specs.Layout.{layout}
+use Rattle.table.specs.Layout.{viewOf, layout}
 use Rattle.table.specs.Fresh.{nothing}
 use Rattle.table.specs.Checks.{refused}
-use Rattle.admission.specs.Admission.{rowFor}
+use Rattle.admission.specs.Admission.{rowFor, admitted}
 use Rattle.interpret.specs.Buffer.{bufferSize, partStart, partOf, recordIn}
 use Rattle.retire.specs.Retiring.{retiredTable, retiredRecords}
-use Rattle.watch.specs.Forks.{forks}
+use Rattle.watch.specs.Forks.{everywhere, forks}
+use Rattle.watch.specs.Ancestors.{ancestors}
+use Rattle.build.specs.Building.{nextBlock}
 use Rattle.agreement.specs.Ledger.{viewIn}
 use Rattle.agreement.specs.Ledger.Call.{interpret, retire}
 use Rattle.agreement.specs.Run.{siteAnswers}
@@ -27,7 +29,7 @@ use Rattle.cases.specs.Run.{good, placed, done, answers, Turn, _giving_,
 use Rattle.cases.specs.Blocks.{sites, fresh, unlawful, first, fork, second, fourSites, echoing, four}
 use Rattle.cases.specs.Form.{marked}
 use Rattle.cases.specs.Interpretation.{lent}
-use Rattle.cases.specs.Watch.{naming}
+use Rattle.cases.specs.Watch.{naming, resting}
 use Rattle.cases.specs.Arrivals.{tableOf}
 use Rattle.cases.specs.Joins.{rising}
 
@@ -53,6 +55,8 @@ pub record RetiringOrderCases : Type 0 where
   pub sizeBeforeRetirable :
       (siteAnswers toy (lent four (suc bufferSize)) (retire ∷ []) ≡ refused 12 0 ∷ [])
       × (siteAnswers toy (lent four bufferSize) (retire ∷ []) ≡ refused 29 0 ∷ [])
+  -- 13, 29: nothing is held, then four blocks are
+  pub placeBeforeRetirable : (answers toy fresh (retire ∷ []) ≡ refused 13 0 ∷ []) × (answers toy four (retire ∷ []) ≡ refused 29 0 ∷ [])
 
 -- ---- 29: one condition is missing, and then it is met
 
@@ -141,6 +145,13 @@ pub record LeftCases : Type 0 where
   -- the watch names a fork as long as both blocks are held
   pub named : forks twins ≡ naming 1 1 true
   pub notNamed : forks (retiredTable twins numbers) ≡ naming 0 0 true
+  -- and an ancestor as long as it is held: of the last one, all three others, and then the two that are left
+  pub threeAncestors : ancestors threeMarked 3 ≡ resting 7 3
+  pub twoAncestors : ancestors (retiredTable threeMarked numbers) 2 ≡ resting 3 2
+  -- site 2, whose block refers to the first, refers to it once more if it is admitted again
+  pub referredBefore : nextBlock everywhere (viewOf threeMarked) 2 [] ≡ block 2 1 (map toy (echoing 2 ∷ second ∷ lastOne ∷ [])) []
+  pub referredAgain : nextBlock everywhere (viewOf (admitted toy (retiredTable threeMarked numbers) first 1)) 2 []
+      ≡ block 2 1 (map toy (echoing 2 ∷ second ∷ lastOne ∷ first ∷ [])) []
 
 -- ---- afterwards
 
