@@ -1,4 +1,5 @@
--- A site that builds by the rule is full, at its own table and at every other site that holds no further block of it. Assumes nothing.
+-- A site that has retired nothing and builds by the rule is full, at its own table and at every other site that holds no further block of it.
+-- Assumes nothing.
 use mathlib.Core.Path.{_≡_}
 use mathlib.Core.Bool.{true}
 use mathlib.Core.List.{List, [], _∷_, _++_, List·Memᴰ, Memᴰ·append-right}

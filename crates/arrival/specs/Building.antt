@@ -1,6 +1,6 @@
--- Document 01, "Building", and change request fourteen, "Call a site full": a site that only builds by the building rule, whose every block
--- was built from its table as it stood and admitted there, is full with respect to what its table holds; and it is so at every other site
--- that holds no further block of it.
+-- Document 01, "Building", and change request fourteen, "Call a site full": a site that has retired nothing and only builds by the building
+-- rule, whose every block was built from its table as it stood and admitted there, is full with respect to what its table holds; and it is so
+-- at every other site that holds no further block of it.
 use mathlib.Core.Path.{_≡_}
 use mathlib.Core.List.{List, [], _∷_, _++_, List·Memᴰ}
 use Prim.Native.Nat.{ℕ}
