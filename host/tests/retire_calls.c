@@ -569,6 +569,21 @@ static void check_last_sequence(void)
     check("building: 30 before 17", not_built(last, 0, 0, 0, 30, 0) && not_built(at_sequence(65534), 0, 0, 0, 17, 37));
 }
 
+/* ---- Building refers to what is held */
+
+/* A block of site 2 refers to site 0's first one, so site 2 does not do so again, until that has left and has come again: then
+ * it has three references, where it had two. */
+static bool refers_once_more(void)
+{
+    side s = fresh_side(4);
+
+    hold(&s, example_block(0), 0);
+    hold(&s, referring_to(block_of(2, 0), example_block(0)), 1);
+    hold(&s, example_block(1), 2);
+    return builds(s.table, 2, 1, 69) && is(retire(&s), 0, 0) && builds(s.table, 2, 1, 69) && hold(&s, example_block(0), 2)
+        && builds(s.table, 2, 1, 101);
+}
+
 /* ---- 31: joining a table that has retired something */
 
 static bool not_joined(table left, table right, size_t numbers, uint8_t refusal)
@@ -701,6 +716,7 @@ int main(void)
     check_chain();
     check_gone();
     check_last_sequence();
+    check("building, a block that has come again", refers_once_more());
     check_joined();
     check_replay();
     check("what may only be read stays as it was", only_read);
