@@ -1,8 +1,8 @@
 -- The call at the front of an encoded list: when there is one, and that the list is that call and those of the bytes behind it.
 -- Assumes nothing.
 use mathlib.Core.Path.{_≡_, refl, sym, ap, _∙_}
-use mathlib.Core.Bool.{false}
-use mathlib.Core.Logic.{_≢_}
+use mathlib.Core.Bool.{true, false, _||_}
+use mathlib.Core.Logic.{_≢_, inl, inr}
 use mathlib.Core.List.{List, [], _∷_}
 use Prim.Native.Nat.{ℕ, zero, suc, _+_, _-_, _≤_, _<_}
 use native.Mathlib.Omega.{arith}
@@ -11,37 +11,42 @@ use lib.ListN.{length, getD, drop, length-drop}
 use borrow.Author.Tests.{eq-eqb, ne-eqb, eqb-true, eqb-false, le-leb, lt-leb, leb-true}
 use Rattle.base.specs.Bytes.{Bytes}
 use Rattle.base.specs.Word.{wordAt}
-use Rattle.base.proofs.Tests.{by-test, and-left, and-right, and-false}
+use Rattle.base.proofs.Tests.{by-test, and-left, and-right, and-false, or-cases}
 use Rattle.agreement.specs.Ledger.{Call}
-use Rattle.agreement.specs.Encoding.{admissionByte, interpretationByte, retiringByte, admissionHeader, interpretationSize, retiringSize, admissionFirst, interpretationFirst, retiringFirst, firstSize, firstCall, firstCalls, callsIn}
+use Rattle.agreement.specs.Encoding.{admissionByte, interpretationByte, retiringByte, takingBackByte, admissionHeader, interpretationSize, bareSize, admissionFirst, interpretationFirst, bareFirst, firstSize, firstCall, firstCalls, callsIn}
 use Rattle.agreement.specs.Steps.{Whole}
 
 module _ (b : Bytes) where
   -- ---- the ways out of the code that reads it
 
-  pub way-empty : length b < retiringSize → 0 ≡ firstSize b
+  pub way-empty : length b < bareSize → 0 ≡ firstSize b
   unfolding firstSize
   way-empty h =
       rw (
         lt-leb admissionHeader (length b) (omega arith),
         lt-leb interpretationSize (length b) (omega arith),
-        lt-leb retiringSize (length b) h,
+        lt-leb bareSize (length b) h,
         and-false (eqb (getD b 0 0) admissionByte),
         and-false (eqb (getD b 0 0) interpretationByte),
-        and-false (eqb (getD b 0 0) retiringByte),
+        and-false (eqb (getD b 0 0) retiringByte || eqb (getD b 0 0) takingBackByte),
       )
 
-  pub way-retiring : retiringSize ≤ length b → getD b 0 0 ≡ retiringByte → retiringSize ≡ firstSize b
+  pub way-retiring : bareSize ≤ length b → getD b 0 0 ≡ retiringByte → bareSize ≡ firstSize b
   unfolding firstSize
-  way-retiring h e = rw (e, le-leb retiringSize (length b) h)
+  way-retiring h e = rw (e, le-leb bareSize (length b) h)
 
-  pub way-short : getD b 0 0 ≢ retiringByte → length b < interpretationSize → 0 ≡ firstSize b
+  pub way-taking-back : bareSize ≤ length b → getD b 0 0 ≡ takingBackByte → bareSize ≡ firstSize b
   unfolding firstSize
-  way-short n h =
+  way-taking-back h e = rw (e, le-leb bareSize (length b) h)
+
+  pub way-short : getD b 0 0 ≢ retiringByte → getD b 0 0 ≢ takingBackByte → length b < interpretationSize → 0 ≡ firstSize b
+  unfolding firstSize
+  way-short n m h =
       rw (
         lt-leb admissionHeader (length b) (omega arith),
         lt-leb interpretationSize (length b) h,
         ne-eqb (getD b 0 0) retiringByte n,
+        ne-eqb (getD b 0 0) takingBackByte m,
         and-false (eqb (getD b 0 0) admissionByte),
         and-false (eqb (getD b 0 0) interpretationByte),
       )
@@ -50,9 +55,10 @@ module _ (b : Bytes) where
   unfolding firstSize
   way-interpretation h e = rw (e, le-leb interpretationSize (length b) h)
 
-  pub way-other : getD b 0 0 ≢ retiringByte → getD b 0 0 ≢ interpretationByte → getD b 0 0 ≢ admissionByte → 0 ≡ firstSize b
+  pub way-other : getD b 0 0 ≢ retiringByte → getD b 0 0 ≢ takingBackByte → getD b 0 0 ≢ interpretationByte → getD b 0 0 ≢ admissionByte → 0 ≡ firstSize b
   unfolding firstSize
-  way-other o n m = rw (ne-eqb (getD b 0 0) admissionByte m, ne-eqb (getD b 0 0) interpretationByte n, ne-eqb (getD b 0 0) retiringByte o)
+  way-other o p n m =
+      rw (ne-eqb (getD b 0 0) admissionByte m, ne-eqb (getD b 0 0) interpretationByte n, ne-eqb (getD b 0 0) retiringByte o, ne-eqb (getD b 0 0) takingBackByte p)
 
   module _ (e : getD b 0 0 ≡ admissionByte) where
     pub way-cut : length b < admissionHeader → 0 ≡ firstSize b
@@ -76,11 +82,17 @@ module _ (b : Bytes) where
   size-within = by-test (admissionFirst b)
       (λ y. rw y (leb-true (admissionHeader + wordAt b 2) (length b) (search (and-right, y))))
       (λ n. by-test (interpretationFirst b) (λ y. rw (n, y) (leb-true interpretationSize (length b) (search (and-right, y))))
-      (λ m. by-test (retiringFirst b) (λ y. rw (n, m, y) (leb-true retiringSize (length b) (search (and-right, y)))) (λ o. rw (n, m, o) (omega arith))))
+      (λ m. by-test (bareFirst b) (λ y. rw (n, m, y) (leb-true bareSize (length b) (search (and-right, y)))) (λ o. rw (n, m, o) (omega arith))))
 
-  none-first : admissionFirst b ≡ false → interpretationFirst b ≡ false → retiringFirst b ≡ false → firstSize b ≡ 0
+  none-first : admissionFirst b ≡ false → interpretationFirst b ≡ false → bareFirst b ≡ false → firstSize b ≡ 0
   unfolding firstSize
   none-first n m o = rw (n, m, o)
+
+  bare-byte : (eqb (getD b 0 0) retiringByte || eqb (getD b 0 0) takingBackByte) ≡ true → (getD b 0 0 ≢ interpretationByte) × (getD b 0 0 ≢ admissionByte)
+  bare-byte y = elim (or-cases (eqb (getD b 0 0) retiringByte) _ y) [
+    | inl z ↦ let e = eqb-true (getD b 0 0) retiringByte z in (λ q. omega arith, λ q. omega arith)
+    | inr z ↦ let e = eqb-true (getD b 0 0) takingBackByte z in (λ q. omega arith, λ q. omega arith)
+  ]
 
   pub first-whole : firstSize b ≢ 0 → Whole b
   first-whole some = by-test (admissionFirst b)
@@ -92,10 +104,10 @@ module _ (b : Bytes) where
       let first : getD b 0 0 ≡ interpretationByte = eqb-true (getD b 0 0) interpretationByte (search (and-left, y)) in
       let word : interpretationSize ≤ length b = leb-true interpretationSize (length b) (search (and-right, y)) in
       record { some = omega arith; word = λ _. word; block = λ e. absurd (omega arith) })
-      (λ m. by-test (retiringFirst b)
+      (λ m. by-test (bareFirst b)
       (λ y.
-      let first : getD b 0 0 ≡ retiringByte = eqb-true (getD b 0 0) retiringByte (search (and-left, y)) in
-      record { some = leb-true retiringSize (length b) (search (and-right, y)); word = λ e. absurd (omega arith); block = λ e. absurd (omega arith) })
+      let bare = bare-byte (search (and-left, y)) in
+      record { some = leb-true bareSize (length b) (search (and-right, y)); word = λ e. absurd (bare .0 e); block = λ e. absurd (bare .1 e) })
       (λ o. absurd (some (none-first n m o)))))
 
 -- ---- the list is the call at the front and the calls behind it

@@ -14,9 +14,10 @@ use Rattle.sha256.specs.Sha256.{sha256}
 use Rattle.admission.specs.Admission.{admission, admitted}
 use Rattle.interpret.specs.Interpretation.{interpretation, marked, recorded}
 use Rattle.retire.specs.Retiring.{retiring, retiredTable, retiredRecords}
-use Rattle.agreement.specs.Ledger.{Call, admit, interpret, retire}
+use Rattle.take_back.specs.TakingBack.{takingBack, takenBack}
+use Rattle.agreement.specs.Ledger.{Call, admit, interpret, retire, takeBack}
 use Rattle.agreement.specs.Run.{Site, siteAnswer, siteStep}
-use Rattle.agreement.specs.Encoding.{admissionByte, interpretationByte, admissionHeader, firstCall}
+use Rattle.agreement.specs.Encoding.{admissionByte, interpretationByte, retiringByte, admissionHeader, firstCall}
 
 module _ (t : Bytes) (records : List ℕ) (b : Bytes) where
   abbrev site : Site
@@ -50,7 +51,13 @@ module _ (t : Bytes) (records : List ℕ) (b : Bytes) where
       ran (interpret (wordAt b 1)) (rw e) r t′ records′
       (p ∙ ap (interpretation t records) w) (q ∙ ap (marked t records) w) (s ∙ ap (recorded t records) w)
 
-  pub ran-retiring : getD b 0 0 ≢ admissionByte → getD b 0 0 ≢ interpretationByte → (r : Answer) (t′ : Bytes) (records′ : List ℕ)
+  pub ran-retiring : getD b 0 0 ≡ retiringByte → (r : Answer) (t′ : Bytes) (records′ : List ℕ)
       → r ≡ retiring t records → t′ ≡ retiredTable t records → records′ ≡ retiredRecords t records → Ran r t′ records′
   unfolding siteAnswer siteStep firstCall
-  ran-retiring n m = ran retire (rw (ne-eqb (getD b 0 0) admissionByte n, ne-eqb (getD b 0 0) interpretationByte m))
+  ran-retiring e = ran retire (rw e)
+
+  pub ran-taking-back : getD b 0 0 ≢ admissionByte → getD b 0 0 ≢ interpretationByte → getD b 0 0 ≢ retiringByte → (r : Answer) (t′ : Bytes)
+      → r ≡ takingBack t → t′ ≡ takenBack t → Ran r t′ records
+  unfolding siteAnswer siteStep firstCall
+  ran-taking-back n m o r t′ p q =
+      ran takeBack (rw (ne-eqb (getD b 0 0) admissionByte n, ne-eqb (getD b 0 0) interpretationByte m, ne-eqb (getD b 0 0) retiringByte o)) r t′ records p q refl

@@ -16,6 +16,7 @@ pub mod PlaceHistories
 pub mod AdmissionStep
 pub mod InterpretationStep
 pub mod RetiringStep
+pub mod TakingBackStep
 pub mod Runs
 pub mod Growth
 pub mod Standing

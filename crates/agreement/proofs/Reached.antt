@@ -4,7 +4,7 @@ use mathlib.Core.Path.{_≡_, refl, sym, ap, _∙_, subst}
 use mathlib.Core.Bool.{true}
 use mathlib.Core.Logic.{_≢_, inl, inr}
 use mathlib.Core.List.{List, [], _∷_, List·Memᴰ}
-use Prim.Native.Nat.{ℕ, _+_, _≤_, _<_}
+use Prim.Native.Nat.{ℕ, _+_, _-_, _≤_, _<_}
 use native.Mathlib.Nat.{eq-or-lt-of-le}
 use native.Mathlib.Omega.{arith}
 use lib.Dec.{eqb}
@@ -19,10 +19,10 @@ use Rattle.block.specs.declared.Reading.the-variants.{Block}
 use Rattle.block.specs.Steps.{Shaped}
 use Rattle.block.proofs.Accepted.{reading-accepted}
 use Rattle.setup.specs.Setup.{Setup, lawful}
-use Rattle.table.specs.View.{maxPlaces}
+use Rattle.table.specs.View.{maxPlaces, SameRow}
 use Rattle.table.specs.Layout.{setupOf, retiredOf, countOf, digestAt, siteAt, sequenceAt, requestAt, markAt, rowAt, viewOf, withMark}
 use Rattle.table.specs.Form.{inForm}
-use Rattle.table.specs.Promises.{Grown, Marked}
+use Rattle.table.specs.Promises.{Grown, Marked, Shows}
 use Rattle.table.proofs.Views.{RowForm}
 use Rattle.table.proofs.Formed.{formed-of, formed-row, formed-parent}
 use Rattle.table.proofs.Canonical.{Canonical, row-canonical, mark-canonical}
@@ -35,7 +35,10 @@ use Rattle.interpret.proofs.Causes.{causes}
 use Rattle.interpret.proofs.Parts.{part-written, part-other}
 use Rattle.interpret.proofs.Directs.{written-kept}
 use Rattle.interpret.proofs.Kept.{here, low, whole, is-marked, written-length, marked-passed, recorded-passed}
-use Rattle.agreement.specs.Ledger.{Call, admit, interpret, retire, Ledger, empty, taken, retiredMark, ledgerStep, ledgerAfter}
+use Rattle.take_back.specs.TakingBack.{withoutLast, takingBack, takenBack}
+use Rattle.take_back.proofs.Promises.{promises as taking-back-promises}
+use Rattle.take_back.proofs.TakenBack.{taken-canonical}
+use Rattle.agreement.specs.Ledger.{Call, admit, interpret, retire, takeBack, Ledger, empty, taken, retiredMark, ledgerStep, ledgerAfter}
 use Rattle.agreement.specs.Run.{Site, started, siteAnswer, siteStep, siteAfter}
 use Rattle.agreement.specs.Promises.{ledgerOf, siteWith}
 use Rattle.agreement.proofs.Tied.{Tied}
@@ -132,6 +135,25 @@ module _ (digest : Bytes → Bytes) (sized : (b : Bytes) → length (digest b) �
             unmarked : markAt t i ≢ 1
             unmarked = causes t (x .records) i .none .0 e .0 .unmarked
 
+    takes-back-fixed : takingBack t .refusal ≡ 0 → Fixed s (takenBack t) (x .records)
+    takes-back-fixed e i h m =
+        k i below (sym (row i below-last .mark) ∙ m)
+        ∙ written-kept s t (takenBack t) (x .records) (x .records) i (omega (arith, below, few)) (formed-parent t f unretired i below) (sym (row i below-last .site))
+        (sym (row i below-last .sequence)) (λ slot l. sym (row i below-last .request slot l)) (λ j a. sym (row i below-last .refersTo j (omega (arith, below, few))))
+        (λ j a y. let r = row j (omega (arith, below-last)) in (sym (r .site), sym (r .sequence), refl))
+      where
+        shows : Shows (setupOf t) (withoutLast (viewOf t)) (takenBack t)
+        shows = taking-back-promises .shown t e
+
+        row : (j : ℕ) → j < countOf t - 1 → SameRow (rowAt (takenBack t) j) (rowAt t j)
+        row = shows .rows
+
+        below-last : i < countOf t - 1
+        below-last = omega (arith, shows .count)
+
+        below : i < countOf t
+        below = omega (arith, below-last)
+
   -- ---- what calls reach
 
   pub record Reached (size : ℕ) (l : Ledger) (x : Site) : Type 0 where
@@ -155,6 +177,7 @@ module _ (digest : Bytes → Bytes) (sized : (b : Bytes) → length (digest b) �
     pass-canonical (admit b verdict) e o = admits-canonical x (tied .formed) none (tied .setup) (r .canonical) (r .fixed) b verdict e
     pass-canonical (interpret i) e o = rw (marked-passed (x .table) (x .records) i e) (interprets-canonical x (tied .formed) none (tied .setup) (r .canonical) (r .fixed) i e)
     pass-canonical retire e o = absurd (some-retired (l .block 0) (l .retired) o)
+    pass-canonical takeBack e o = taken-canonical (x .table) (r .canonical)
 
     pass-fixed : (c : Call) → siteAnswer digest x c .refusal ≡ 0 → taken l c .retired ≡ [] → Fixed s (siteStep digest x c .table) (siteStep digest x c .records)
     unfolding siteAnswer siteStep taken
@@ -163,6 +186,7 @@ module _ (digest : Bytes → Bytes) (sized : (b : Bytes) → length (digest b) �
         rw (marked-passed (x .table) (x .records) i e, recorded-passed (x .table) (x .records) i e)
         (interprets-fixed x (tied .formed) none (tied .setup) (r .canonical) (r .fixed) i e)
     pass-fixed retire e o = absurd (some-retired (l .block 0) (l .retired) o)
+    pass-fixed takeBack e o = takes-back-fixed x (tied .formed) none (tied .setup) (r .canonical) (r .fixed) e
 
     pass-accepted : (c : Call) → siteAnswer digest x c .refusal ≡ 0 → taken l c .retired ≡ []
         → (p : ℕ) → p < taken l c .held → reading (taken l c .block p) ≡ Block (fieldsOf (taken l c .block p))
@@ -172,6 +196,7 @@ module _ (digest : Bytes → Bytes) (sized : (b : Bytes) → length (digest b) �
         (λ n. rw n (r .accepted p (omega (arith, eqb-false p (l .held) n))))
     pass-accepted (interpret i) e o p h = r .accepted p h
     pass-accepted retire e o p h = absurd (some-retired (l .block 0) (l .retired) o)
+    pass-accepted takeBack e o p h = r .accepted p (omega arith)
 
     call-reached : (c : Call) → ledgerStep digest s size l c .retired ≡ [] → Reached size (ledgerStep digest s size l c) (siteStep digest x c)
     call-reached c o = by-test (eqb (siteAnswer digest x c .refusal) 0) (λ y. pass (eqb-true _ 0 y)) (λ n. stay (eqb-false _ 0 n))

@@ -13,6 +13,7 @@ use lib.ListN.{length, drop, length-drop}
 use lib.Seq.{length-take-le}
 use borrow.Author.Tests.{eq-eqb, eqb-true, eqb-false, lt-ltb, le-ltb, ltb-true, ltb-false}
 use Rattle.base.specs.Bytes.{Bytes, splice}
+use Rattle.base.proofs.Members.{member-behind}
 use Rattle.base.proofs.Tests.{by-test, true-not-false, not-true-false}
 use Rattle.base.proofs.Splice.{length-splice}
 use Rattle.block.specs.Limits.{referenceSize}
@@ -39,7 +40,7 @@ use Rattle.interpret.proofs.Causes.{causes}
 use Rattle.interpret.proofs.Parts.{part-written, part-other}
 use Rattle.interpret.proofs.Directs.{written-kept}
 use Rattle.interpret.proofs.Kept.{is-marked, marked-passed, recorded-passed}
-use Rattle.agreement.specs.Ledger.{Call, admit, interpret, retire, Ledger, empty, taken, retiredMark, ledgerAnswer, ledgerStep, ledgerAfter}
+use Rattle.agreement.specs.Ledger.{Call, admit, interpret, retire, takeBack, Ledger, empty, taken, retiredMark, ledgerAnswer, ledgerStep, ledgerAfter}
 use Rattle.agreement.specs.Run.{Site, started, siteStep, siteAfter}
 use Rattle.agreement.specs.Promises.{ledgerOf, siteWith}
 use Rattle.agreement.proofs.Tied.{Tied}
@@ -89,6 +90,9 @@ module _ (digest : Bytes → Bytes) (s : Setup) (size : ℕ) where
   step-blocks l retire b k = by-test (eqb (ledgerAnswer digest s size l retire .refusal) 0)
       (λ y. inl (rw y at k))
       (λ z. inl (rw z at k))
+  step-blocks l takeBack b k = by-test (eqb (ledgerAnswer digest s size l takeBack .refusal) 0)
+      (λ y. inl (member-behind (l .blocks) b (rw y at k)))
+      (λ z. inl (rw z at k))
 
   after-blocks : (l : Ledger) (cs : List Call) (b : Bytes) → List·Memᴰ b (ledgerAfter digest s size l cs .blocks)
       → List·Memᴰ b (l .blocks) ⊎ ((verdict : ℕ) × List·Memᴰ (admit b verdict) cs)
@@ -105,11 +109,13 @@ abbrev isAdmission : Call → Bool
 isAdmission (admit b verdict) = true
 isAdmission (interpret i) = false
 isAdmission retire = false
+isAdmission takeBack = false
 
 abbrev bytesOf : Call → Bytes
 bytesOf (admit b verdict) = b
 bytesOf (interpret i) = []
 bytesOf retire = []
+bytesOf takeBack = []
 
 admitting-from : (block : ℕ → Bytes) (k : ℕ) (b : Bytes) (verdict : ℕ) → List·Memᴰ (admit b verdict) (admitting block k) → (i : ℕ) × (i < k) × (b ≡ block i)
 unfolding admitting

@@ -25,13 +25,15 @@ use Rattle.interpret.specs.Interpretation.{interpretationChecks, interpretation
 use Rattle.interpret.proofs.Kept.{marked-passed, recorded-passed}
 use Rattle.retire.specs.Retiring.{retiringChecks, retiring, retiredTable, retiredRecords}
 use Rattle.agreement.specs.History.{meaning}
-use Rattle.agreement.specs.Ledger.{Call, admit, interpret, retire, Ledger, taken, viewIn, ledgerAnswer, ledgerStep, ledgerAfter, ledgerAnswers}
+use Rattle.take_back.specs.TakingBack.{takingBackChecks, takingBack, takenBack}
+use Rattle.agreement.specs.Ledger.{Call, admit, interpret, retire, takeBack, Ledger, taken, viewIn, ledgerAnswer, ledgerStep, ledgerAfter, ledgerAnswers}
 use Rattle.agreement.specs.Run.{Site, siteAnswer, siteStep, siteAfter, siteAnswers}
-use Rattle.agreement.proofs.Tied.{Tied, ledger-formed, answers-same, admitted-tied, interpreted-tied, retired-tied}
+use Rattle.agreement.proofs.Tied.{Tied, ledger-formed, answers-same, admitted-tied, interpreted-tied, retired-tied, taken-back-tied}
 use Rattle.agreement.proofs.PlaceHistories.{PlaceHistories}
 use Rattle.agreement.proofs.AdmissionStep.{admits}
 use Rattle.agreement.proofs.InterpretationStep.{records-sized, interprets}
 use Rattle.agreement.proofs.RetiringStep.{retires}
+use Rattle.agreement.proofs.TakingBackStep.{takes-back}
 
 -- a list of calls, then another
 pub after-append : (digest : Bytes → Bytes) (x : Site) (cs ds : List Call) → siteAfter digest x (cs ++ ds) ≡ siteAfter digest (siteAfter digest x cs) ds
@@ -68,6 +70,10 @@ interpretation-not-two v size i f y e = never-answered 2 _ 0 refl (past-check _ 
 retiring-not-two : (v : View) (size : ℕ) (f : Bool) → f ≡ true → answerTo (retiringChecks f v size) 0 .refusal ≢ 2
 unfolding elsewhere
 retiring-not-two v size f y e = never-answered 2 _ 0 refl (past-check _ _ _ 2 (λ n. true-not-false y n) .0 e .1)
+
+taking-back-not-two : (v : View) (f : Bool) → f ≡ true → answerTo (takingBackChecks f v) 0 .refusal ≢ 2
+unfolding elsewhere
+taking-back-not-two v f y e = never-answered 2 _ 0 refl (past-check _ _ _ 2 (λ n. true-not-false y n) .0 e .1)
 
 -- ---- one call
 
@@ -108,6 +114,10 @@ module _ (digest : Bytes → Bytes) (sized : (b : Bytes) → length (digest b) �
     retiring-together e =
         record { tied = retired-tied digest s size l x (t .tied) e; known = retires digest s size l x (t .tied) (t .known) e _ }
 
+    taking-back-together : takingBack (x .table) .refusal ≡ 0 → Together (taken l takeBack) (record { table = takenBack (x .table); records = x .records })
+    taking-back-together e =
+        record { tied = taken-back-tied digest s size l x (t .tied) e; known = takes-back digest s size l x (t .tied) (t .known) e _ }
+
     -- what the call does to the ledger, and what a refused call does to the site
     pub passed : (c : Call) → siteAnswer digest x c .refusal ≡ 0 → ledgerStep digest s size l c ≡ taken l c
     unfolding ledgerStep
@@ -118,16 +128,18 @@ module _ (digest : Bytes → Bytes) (sized : (b : Bytes) → length (digest b) �
     refused c n = rw (ne-eqb (ledgerAnswer digest s size l c .refusal) 0 (λ z. n (ap (λ (a : Answer). a .refusal) (same c) ∙ z)))
 
     pub site-stays : (c : Call) → siteAnswer digest x c .refusal ≢ 0 → siteStep digest x c ≡ x
-    unfolding siteAnswer siteStep admitted marked recorded retiredTable retiredRecords
+    unfolding siteAnswer siteStep admitted marked recorded retiredTable retiredRecords takenBack
     site-stays (admit b verdict) n = rw (ne-eqb (admission digest (x .table) b verdict .refusal) 0 n)
     site-stays (interpret i) n = rw (ne-eqb (interpretation (x .table) (x .records) i .refusal) 0 n)
     site-stays retire n = rw (ne-eqb (retiring (x .table) (x .records) .refusal) 0 n)
+    site-stays takeBack n = rw (ne-eqb (takingBack (x .table) .refusal) 0 n)
 
     pass : (c : Call) → siteAnswer digest x c .refusal ≡ 0 → Together (taken l c) (siteStep digest x c)
     unfolding siteAnswer siteStep
     pass (admit b verdict) e = admission-together b verdict e
     pass (interpret i) e = interpretation-together i e
     pass retire e = retiring-together e
+    pass takeBack e = taking-back-together e
 
     pub step-together : (c : Call) → Together (ledgerStep digest s size l c) (siteStep digest x c)
     step-together c = by-test (eqb (siteAnswer digest x c .refusal) 0)
@@ -143,6 +155,8 @@ module _ (digest : Bytes → Bytes) (sized : (b : Bytes) → length (digest b) �
         interpretation-not-two (viewIn digest l) size i _ (ledger-formed digest s size l x (t .tied)) (ap (λ (a : Answer). a .refusal) (sym (same (interpret i))) ∙ e)
     never-two retire e =
         retiring-not-two (viewIn digest l) size _ (ledger-formed digest s size l x (t .tied)) (ap (λ (a : Answer). a .refusal) (sym (same retire)) ∙ e)
+    never-two takeBack e =
+        taking-back-not-two (viewIn digest l) _ (ledger-formed digest s size l x (t .tied)) (ap (λ (a : Answer). a .refusal) (sym (same takeBack)) ∙ e)
 
   -- ---- a list of calls
 

@@ -2,7 +2,7 @@
 use mathlib.Core.Path.{_≡_, refl, ap, ap₂, _∙_}
 use mathlib.Core.Bool.{Bool, true, false, not, _&&_}
 use mathlib.Core.List.{List, [], _∷_}
-use Prim.Native.Nat.{ℕ, _≤_, _<_}
+use Prim.Native.Nat.{ℕ, _-_, _≤_, _<_}
 use native.Mathlib.Omega.{arith}
 use lib.Dec.{eqb, ltb}
 use borrow.Author.Tests.{ltb-true}
@@ -21,6 +21,7 @@ use Rattle.admission.specs.Admission.{lists, missing, rowFor, admissionChecks}
 use Rattle.interpret.specs.Buffer.{bufferSize}
 use Rattle.interpret.specs.Interpretation.{interpretationChecks}
 use Rattle.retire.specs.Retiring.{waitsForFirst, followsFirst, retirable, retiringChecks}
+use Rattle.take_back.specs.TakingBack.{takingBackChecks}
 
 -- where a check fails, those after it are not made
 cut : (c : Check) (cs ds : List Check) (value : ℕ) → c .holds ≡ false → answerTo (c ∷ cs) value ≡ answerTo (c ∷ ds) value
@@ -106,4 +107,17 @@ module _ (v w : View) (n : v .held ≡ w .held) (e : SameBelow v w (v .held)) (f
       ∷ check 12 (eqb size bufferSize) 0
       ∷ check 13 (ltb 0 (n k)) 0
       ∷ check 29 (retirable w) 0
+      ∷ []) 0)
+
+  -- ---- taking back
+
+  pub taking-back-same : answerTo (takingBackChecks f v) 0 ≡ answerTo (takingBackChecks g w) 0
+  taking-back-same =
+      rest-same _ _ _ 0 (λ _. rest-same _ _ _ 0 (λ y.
+      let h : 0 < v .held = ltb-true 0 (v .held) y in
+      ap (λ (m : ℕ). answerTo (check 33 (not (eqb m 1)) 0 ∷ []) 0) (e (v .held - 1) (omega arith) .mark ∙ ap (λ (k : ℕ). w .row (k - 1) .mark) n)))
+      ∙ (λ k. answerTo (
+      check 2 (formed k) 0
+      ∷ check 32 (ltb 0 (n k)) 0
+      ∷ check 33 (not (interpreted (w .row (w .held - 1)))) 0
       ∷ []) 0)

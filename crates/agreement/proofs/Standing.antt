@@ -1,4 +1,4 @@
--- The places of a site's table and its ledger: each block ever admitted stands at one of them or was retired, and a place refers to lower places
+-- The places of a site's table and its ledger: each block that counts stands at one of them or was retired, and a place refers to lower places
 -- whose digests its block lists. Where no retired block shares a digest with another, each block has one history. Assumes nothing.
 use mathlib.Core.Path.{_≡_, refl, sym, ap, ap₂, _∙_, subst}
 use mathlib.Core.Bool.{true, _&&_}
@@ -182,6 +182,6 @@ module _ (digest : Bytes → Bytes) (sized : (b : Bytes) → length (digest b) �
   pub unretired-clear : l .retired ≡ [] → RetiredClear digest l
   unretired-clear e a b m n d = absurd (none-retired e a m)
 
-  -- where no two different blocks ever admitted share a digest, the retired ones share none
+  -- where no two different blocks of the ledger share a digest, the retired ones share none
   pub safe-clear : NoCollision digest (l .blocks) → RetiredClear digest l
   safe-clear safe a b m n d = safe a b (placed a .1 (inr m)) n d

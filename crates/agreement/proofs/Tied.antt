@@ -8,11 +8,11 @@ use Prim.Native.Nat.{ℕ, suc, _-_, _≤_, _<_}
 use native.Mathlib.Nat.{eq-or-lt-of-le}
 use native.Mathlib.Omega.{arith}
 use lib.Dec.{eqb, ltb}
-use lib.ListN.{length}
+use lib.ListN.{length, drop}
 use borrow.Author.Tests.{eq-eqb, ne-eqb, lt-ltb, le-ltb, ltb-true, ltb-false}
 use Rattle.base.specs.Bytes.{Bytes}
 use Rattle.base.proofs.Tests.{by-test, and-false}
-use Rattle.base.proofs.Members.{newest, newest-same, newest-all}
+use Rattle.base.proofs.Members.{newest, newest-same, newest-all, newest-last}
 use Rattle.block.specs.Layout.{siteOf, sequenceOf, requestFor}
 use Rattle.setup.specs.Setup.{Setup}
 use Rattle.table.specs.View.{maxPlaces, Row, SameRow, markedIf, SameBelow}
@@ -28,12 +28,14 @@ use Rattle.interpret.specs.Interpretation.{interpretationChecks, interpretation
 use Rattle.interpret.proofs.Kept.{is-marked, still-formed}
 use Rattle.retire.specs.Retiring.{movedRow, withoutFirst, retiringChecks, retiring, retiredTable, retiredRecords}
 use Rattle.retire.proofs.Promises.{promises as retiring-promises}
-use Rattle.agreement.specs.Ledger.{Call, admit, interpret, retire, Ledger, taken, retiredMark, viewIn, ledgerAnswer}
+use Rattle.take_back.specs.TakingBack.{withoutLast, takingBack, takenBack}
+use Rattle.take_back.proofs.Promises.{promises as taking-back-promises}
+use Rattle.agreement.specs.Ledger.{Call, admit, interpret, retire, takeBack, Ledger, taken, retiredMark, viewIn, ledgerAnswer}
 use Rattle.agreement.specs.Run.{Site, siteAnswer}
-use Rattle.agreement.proofs.Same.{admission-same, interpretation-same, retiring-same}
+use Rattle.agreement.proofs.Same.{admission-same, interpretation-same, retiring-same, taking-back-same}
 
 module _ (digest : Bytes → Bytes) where
-  -- the table shows what the ledger does; and the blocks ever admitted are those at the places and the retired ones
+  -- the table shows what the ledger does; and the blocks that count are those at the places and the retired ones
   pub record Tied (s : Setup) (size : ℕ) (l : Ledger) (x : Site) : Type 0 where
     pub formed : inForm (x .table) ≡ true
     pub setup : setupOf (x .table) ≡ s
@@ -60,7 +62,7 @@ module _ (digest : Bytes → Bytes) where
     both = t .formed ∙ sym ledger-formed
 
     pub answers-same : (c : Call) → siteAnswer digest x c ≡ ledgerAnswer digest s size l c
-    unfolding siteAnswer ledgerAnswer admission interpretation retiring
+    unfolding siteAnswer ledgerAnswer admission interpretation retiring takingBack
     answers-same (admit b verdict) =
         admission-same (viewOf table) (viewIn digest l) (t .count) (t .rows) (inForm table) (heldInForm s (viewIn digest l)) both digest b (setupOf table) verdict
         ∙ ap (λ (z : Setup). answerTo (admissionChecks digest (heldInForm s (viewIn digest l)) z (viewIn digest l) b verdict) (l .held)) (t .setup)
@@ -70,6 +72,7 @@ module _ (digest : Bytes → Bytes) where
     answers-same retire =
         retiring-same (viewOf table) (viewIn digest l) (t .count) (t .rows) (inForm table) (heldInForm s (viewIn digest l)) both (length (x .records))
         ∙ ap (λ (n : ℕ). answerTo (retiringChecks (heldInForm s (viewIn digest l)) (viewIn digest l) n) 0) (t .sized)
+    answers-same takeBack = taking-back-same (viewOf table) (viewIn digest l) (t .count) (t .rows) (inForm table) (heldInForm s (viewIn digest l)) both
 
     -- ---- an admission that passes
 
@@ -253,4 +256,36 @@ module _ (digest : Bytes → Bytes) where
             rows = rows-left;
             sized = retiring-promises .sized table (x .records) ∙ t .sized;
             stand = blocks-left;
+          }
+
+    -- ---- a taking back that passes
+
+    module _ (e : takingBack table .refusal ≡ 0) where
+      shows-before : Shows (setupOf table) (withoutLast (viewOf table)) (takenBack table)
+      shows-before = taking-back-promises .shown table e
+
+      pub one-held : 0 < l .held
+      one-held = omega (arith, taking-back-promises .causes table .none .0 e .0 .some, t .count)
+
+      rows-before : SameBelow (viewOf (takenBack table)) (viewIn digest (taken l takeBack)) (countOf (takenBack table))
+      unfolding taken
+      rows-before i h =
+          let k : i < countOf table - 1 = omega (arith, shows-before .count) in
+          row-trans (rowAt (takenBack table) i) (rowAt table i) (viewIn digest l .row i) (shows-before .rows i k) (t .rows i (omega arith))
+
+      blocks-before : taken l takeBack .blocks ≡ newest (l .block) (l .held - 1) ++ l .retired
+      unfolding taken
+      blocks-before = ap (drop 1) (t .stand ∙ ap (λ (bs : List Bytes). bs ++ l .retired) (newest-last (l .block) (l .held) one-held))
+
+      pub taken-back-tied : Tied s size (taken l takeBack) (record { table = takenBack table; records = x .records })
+      unfolding taken
+      taken-back-tied =
+          record {
+            formed = taking-back-promises .kept table (t .formed);
+            setup = shows-before .setup ∙ t .setup;
+            retired = shows-before .retired ∙ t .retired;
+            count = shows-before .count ∙ ap (λ (k : ℕ). k - 1) (t .count);
+            rows = rows-before;
+            sized = t .sized;
+            stand = blocks-before;
           }

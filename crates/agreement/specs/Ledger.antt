@@ -4,6 +4,7 @@ use mathlib.Core.Bool.{cond, _&&_}
 use mathlib.Core.List.{List, [], _∷_}
 use Prim.Native.Nat.{ℕ, suc, _-_}
 use lib.Dec.{eqb, ltb}
+use lib.ListN.{drop}
 use Rattle.base.specs.Bytes.{Bytes}
 use Rattle.block.specs.Layout.{siteOf, sequenceOf, requestFor}
 use Rattle.block.specs.declared.Answer.{Answer}
@@ -14,15 +15,17 @@ use Rattle.table.specs.Checks.{answerTo}
 use Rattle.admission.specs.Admission.{lists, admissionChecks}
 use Rattle.interpret.specs.Interpretation.{interpretationChecks}
 use Rattle.retire.specs.Retiring.{retiringChecks}
+use Rattle.take_back.specs.TakingBack.{takingBackChecks}
 
--- "bytes and verdict of an admission, place of an interpretation"; a retiring has nothing to tell
+-- "bytes and verdict of an admission, place of an interpretation"; a retiring and a taking back have nothing to tell
 pub data Call : Type 0 where
   admit : Bytes → ℕ → Call
   interpret : ℕ → Call
   retire : Call
+  takeBack : Call
 
 pub record Ledger : Type 0 where
-  -- the blocks ever admitted, the newest first
+  -- the blocks that count, the newest first: "a block counts only if some admission of it .. was not taken back"
   pub blocks : List Bytes
   -- those without a place, the last that was retired first: each was marked when it was retired, and keeps its mark
   pub retired : List Bytes
@@ -56,6 +59,8 @@ taken l retire =
       block = λ i. l .block (suc i);
       mark = λ i. l .mark (suc i);
     }
+-- "the ledger then loses that last place": the block there is the newest
+taken l takeBack = record { blocks = drop 1 (l .blocks); retired = l .retired; held = l .held - 1; block = l .block; mark = l .mark }
 
 -- whether something was retired, as a table keeps it
 abbrev pub retiredMark : List Bytes → ℕ
@@ -86,6 +91,7 @@ module _ (digest : Bytes → Bytes) where
     ledgerAnswer l (admit b verdict) = answerTo (admissionChecks digest (heldInForm s (viewIn l)) s (viewIn l) b verdict) (l .held)
     ledgerAnswer l (interpret place) = answerTo (interpretationChecks (heldInForm s (viewIn l)) (viewIn l) size place) 0
     ledgerAnswer l retire = answerTo (retiringChecks (heldInForm s (viewIn l)) (viewIn l) size) 0
+    ledgerAnswer l takeBack = answerTo (takingBackChecks (heldInForm s (viewIn l)) (viewIn l)) 0
 
     -- "a refused call changes nothing"
     unfoldable pub ledgerStep : Ledger → Call → Ledger

@@ -50,7 +50,7 @@ module _ (digest : Bytes → Bytes) where
   NoCollision blocks = (a b : Bytes) → List·Memᴰ a blocks → List·Memᴰ b blocks → digest a ≡ digest b → a ≡ b
 
   -- no retired block shares its digest with a different block of the ledger: where nothing was retired this asks nothing, and where no two
-  -- different blocks ever admitted share a digest it holds
+  -- different blocks of the ledger share a digest it holds
   abbrev pub RetiredClear : Ledger → Type 0
   RetiredClear l = (a b : Bytes) → List·Memᴰ a (l .retired) → List·Memᴰ b (l .blocks) → digest a ≡ digest b → a ≡ b
 
@@ -92,7 +92,7 @@ module _ (digest : Bytes → Bytes) where
     pub count : countOf (x .table) ≡ l .held
     pub rows : SameBelow (viewOf (x .table)) (viewIn digest l) (l .held)
     pub rest : allZero (drop (rowStart (l .held)) (x .table)) ≡ true
-    -- the blocks ever admitted are those at the places and the retired ones
+    -- the blocks that count are those at the places and the retired ones
     pub placed : (b : Bytes) → List·Memᴰ b (l .blocks) ↔ (Placed l b ⊎ List·Memᴰ b (l .retired))
     -- "At every marked place the place's part of the buffer equals its block's meaning"
     pub shown : RetiredClear l → (place : ℕ) → Interpreted l place → partOf (x .records) place ≡ meaning s (historyAt l place)

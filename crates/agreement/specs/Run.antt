@@ -1,5 +1,5 @@
 -- A site's run: "A call gets the table and buffer that the last one left; nobody else writes them". Each step is what the contracts of
--- `admit`, `interpret` and `retire` say; `digest` is SHA-256 there.
+-- `admit`, `interpret`, `retire` and `take_back` say; `digest` is SHA-256 there.
 use mathlib.Core.List.{List, [], _∷_}
 use Prim.Native.Nat.{ℕ}
 use Rattle.base.specs.Bytes.{Bytes}
@@ -9,7 +9,8 @@ use Rattle.table.specs.Fresh.{freshTable}
 use Rattle.admission.specs.Admission.{admission, admitted}
 use Rattle.interpret.specs.Interpretation.{interpretation, marked, recorded}
 use Rattle.retire.specs.Retiring.{retiring, retiredTable, retiredRecords}
-use Rattle.agreement.specs.Ledger.{Call, admit, interpret, retire}
+use Rattle.take_back.specs.TakingBack.{takingBack, takenBack}
+use Rattle.agreement.specs.Ledger.{Call, admit, interpret, retire, takeBack}
 
 pub record Site : Type 0 where
   pub table : Bytes
@@ -24,12 +25,14 @@ module _ (digest : Bytes → Bytes) where
   siteAnswer x (admit b verdict) = admission digest (x .table) b verdict
   siteAnswer x (interpret place) = interpretation (x .table) (x .records) place
   siteAnswer x retire = retiring (x .table) (x .records)
+  siteAnswer x takeBack = takingBack (x .table)
 
   unfoldable pub siteStep : Site → Call → Site
   siteStep x (admit b verdict) = record { table = admitted digest (x .table) b verdict; records = x .records }
   siteStep x (interpret place) =
       record { table = marked (x .table) (x .records) place; records = recorded (x .table) (x .records) place }
   siteStep x retire = record { table = retiredTable (x .table) (x .records); records = retiredRecords (x .table) (x .records) }
+  siteStep x takeBack = record { table = takenBack (x .table); records = x .records }
 
   -- the table and the buffer that a list of calls leaves, and the answer of each call
   unfoldable pub siteAfter : Site → List Call → Site

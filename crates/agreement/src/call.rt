@@ -15,11 +15,14 @@ const INTERPRETATION: u8 = 1;
 
 const RETIRING: u8 = 2;
 
+const TAKING_BACK: u8 = 3;
+
 const ADMISSION_HEADER: usize = 2 + base::WORD_SIZE;
 
 const INTERPRETATION_SIZE: usize = 1 + base::WORD_SIZE;
 
-const RETIRING_SIZE: usize = 1;
+// A retiring or a taking back: its first byte alone.
+const BARE_SIZE: usize = 1;
 
 // The number of the eight bytes from an index on.
 fn word_at(calls: &[u8], at: usize) -> usize
@@ -33,11 +36,14 @@ fn word_at(calls: &[u8], at: usize) -> usize
 pub fn first_size(calls: &[u8]) -> usize
     ensures { λ r. ⌜ r ≡ firstSize (now (calls .entry)) ⌝ }
 {
-    if calls.len() < RETIRING_SIZE {
+    if calls.len() < BARE_SIZE {
         return 0;
     }
     if calls[0] == RETIRING {
-        return RETIRING_SIZE;
+        return BARE_SIZE;
+    }
+    if calls[0] == TAKING_BACK {
+        return BARE_SIZE;
     }
     if calls.len() < INTERPRETATION_SIZE {
         return 0;
@@ -76,5 +82,8 @@ pub fn run_first(table: &mut [u8], records: &mut [u16], calls: &[u8]) -> Answer
     if calls[0] == INTERPRETATION {
         return interpret::interpret(table, word_at(calls, 1), records);
     }
-    retire::retire(table, records)
+    if calls[0] == RETIRING {
+        return retire::retire(table, records);
+    }
+    take_back::take_back(table)
 }

@@ -6,6 +6,7 @@ use mathlib.Core.List.{List, [], _∷_, List·Memᴰ, List·Memᴰ·tail, List·
 use Prim.Native.Nat.{ℕ, zero, suc, _+_, _-_, _≤_, _<_}
 use native.Mathlib.Omega.{arith}
 use lib.Dec.{eqb}
+use lib.ListN.{drop}
 use borrow.Author.Tests.{eqb-true, eqb-false}
 use Rattle.base.specs.Bytes.{Bytes}
 use Rattle.base.proofs.Tests.{by-test}
@@ -36,6 +37,11 @@ module _ (digest : Bytes → Bytes) (p : ℕ) where
   abbrev pub Built : List Bytes → Type 0
   Built [] = Unit {0}
   Built (b ∷ older) = (siteOf b ≡ p → Picks older b) × Built older
+
+  -- and so where the newest is taken back
+  pub built-behind : (bs : List Bytes) → Built bs → Built (drop 1 bs)
+  built-behind [] k = k
+  built-behind (b ∷ older) k = k .1
 
   -- a block of the list, and the blocks held when it was admitted
   record Since (bs : List Bytes) (b : Bytes) : Type 0 where

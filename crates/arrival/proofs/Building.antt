@@ -13,7 +13,7 @@ use Rattle.block.specs.Limits.{referenceSize}
 use Rattle.setup.specs.Setup.{Setup, lawful}
 use Rattle.sha256.specs.Sha256.{sha256}
 use Rattle.sha256.proofs.Laws.{sha256-length}
-use Rattle.agreement.specs.Ledger.{Call, admit, interpret, retire, Ledger, empty, taken, ledgerStep, ledgerAfter}
+use Rattle.agreement.specs.Ledger.{Call, admit, interpret, retire, takeBack, Ledger, empty, taken, ledgerStep, ledgerAfter}
 use Rattle.agreement.specs.Run.{Site, started, siteAnswer, siteStep}
 use Rattle.agreement.specs.Promises.{NoCollision, ledgerOf}
 use Rattle.agreement.proofs.Ancestry.{OneHistory}
@@ -24,7 +24,7 @@ use Rattle.agreement.proofs.Worlds.{across}
 use Rattle.agreement.proofs.Theorem.{start, run}
 use Rattle.arrival.specs.Full.{BlockBy, Full}
 use Rattle.arrival.specs.Building.{OwnIsBuilt, BuildsByRule, BuildersFull}
-use Rattle.arrival.proofs.Builders.{Built, built-full, full-elsewhere}
+use Rattle.arrival.proofs.Builders.{Built, built-behind, built-full, full-elsewhere}
 use Rattle.arrival.proofs.Picking.{picks}
 
 -- ---- each call keeps the site's blocks built by the rule, and so does every list of calls
@@ -36,6 +36,7 @@ module _ (digest : Bytes → Bytes) (sized : (b : Bytes) → length (digest b) �
   call-built l x t none k (admit b verdict) own e = (λ by. picks digest sized s size l x t none p b (own by e), k)
   call-built l x t none k (interpret i) own e = k
   call-built l x t none k retire own e = k
+  call-built l x t none k takeBack own e = built-behind digest p (l .blocks) k
 
   step-built : (l : Ledger) (x : Site) → Together digest sized s size l x → l .retired ≡ [] → Built digest p (l .blocks) → (c : Call) → OwnIsBuilt digest p x c
       → Built digest p (ledgerStep digest s size l c .blocks)

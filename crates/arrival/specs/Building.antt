@@ -9,7 +9,7 @@ use Rattle.base.specs.Bytes.{Bytes}
 use Rattle.block.specs.Layout.{siteOf}
 use Rattle.setup.specs.Setup.{Setup}
 use Rattle.build.specs.Building.{building, built}
-use Rattle.agreement.specs.Ledger.{Call, admit, interpret, retire, Ledger}
+use Rattle.agreement.specs.Ledger.{Call, admit, interpret, retire, takeBack, Ledger}
 use Rattle.agreement.specs.Run.{Site, started, siteAnswer, siteStep}
 use Rattle.agreement.specs.Promises.{NoCollision, ledgerOf}
 use Rattle.arrival.specs.Full.{BlockBy, Full}
@@ -27,6 +27,7 @@ module _ (digest : Bytes → Bytes) (p : ℕ) where
   OwnIsBuilt x (admit b verdict) = siteOf b ≡ p → siteAnswer digest x (admit b verdict) .refusal ≡ 0 → BuiltFrom (x .table) p b
   OwnIsBuilt x (interpret place) = Unit {0}
   OwnIsBuilt x retire = Unit {0}
+  OwnIsBuilt x takeBack = Unit {0}
 
   -- and so for every call of a list
   unfoldable pub BuildsByRule : Site → List Call → Type 0

@@ -1,13 +1,13 @@
 -- Laws of byte strings: when two are equal, and that what is made of bytes is bytes. Assumes nothing.
-use mathlib.Core.Path.{_≡_, refl, ap₂, _∙_}
+use mathlib.Core.Path.{_≡_, refl, ap, ap₂, _∙_}
 use mathlib.Core.Bool.{true, false}
 use mathlib.Core.Logic.{_≢_}
 use mathlib.Core.List.{List, [], _∷_, _++_}
-use Prim.Native.Nat.{ℕ, zero, suc, _+_, _<_, suc-le-suc}
+use Prim.Native.Nat.{ℕ, zero, suc, _+_, _≤_, _<_, suc-le-suc}
 use native.Mathlib.Omega.{arith}
 use lib.Dec.{eqb, lit<}
 use lib.ListN.{length, getD, take, drop, replicate}
-use lib.Seq.{getD-drop}
+use lib.Seq.{getD-take, getD-drop, length-take-le}
 use borrow.Author.Tests.{eqb-true, eq-eqb}
 use Rattle.base.specs.Bytes.{Bytes, AllBytes, sameBytes, allZero, joined}
 use Rattle.base.proofs.Tests.{true-not-false, not-true-false, and-left, and-right}
@@ -61,6 +61,11 @@ pub zeros-replicate : (b : Bytes) → allZero b ≡ true → b ≡ replicate (le
 unfolding allZero
 zeros-replicate [] e = refl
 zeros-replicate (x ∷ b) e = ap₂ _∷_ (eqb-true x 0 (search and-left)) (zeros-replicate b (search and-right))
+
+pub zeros-take : (n : ℕ) (b : Bytes) → n ≤ length b → allZero b ≡ true → take n b ≡ replicate n 0
+zeros-take n b h e =
+    let l : length (take n b) ≡ n = length-take-le n b h in
+    zeros-replicate (take n b) (all-zero (take n b) (λ i k. getD-take n b i 0 (omega arith) ∙ zero-at b e i)) ∙ ap (λ (m : ℕ). replicate m 0) l
 
 pub replicate-zeros : (n : ℕ) → allZero (replicate n 0) ≡ true
 unfolding allZero

@@ -5,7 +5,7 @@ use mathlib.Core.List.{List, [], _∷_, _++_, map, List·Memᴰ, List·Memᴰ·h
 use Prim.Native.Nat.{ℕ, zero, suc, _-_, _<_, suc-le-suc}
 use native.Mathlib.Nat.{eq-or-lt-of-le, le-of-suc-le-suc}
 use native.Mathlib.Omega.{arith}
-use lib.ListN.{length, getD}
+use lib.ListN.{length, getD, drop}
 use Rattle.base.specs.List.{listBelow}
 
 module _ {A : Type 0} where
@@ -21,6 +21,11 @@ module _ {A : Type 0} where
     | inl q ↦ (0, omega arith, sym q)
     | inr j ↦ let w = member-at l x d j in (suc (w .0), suc-le-suc (w .1), w .2)
   ]
+
+  -- what stands behind the first stands in the list
+  pub member-behind : (l : List A) (x : A) → List·Memᴰ x (drop 1 l) → List·Memᴰ x l
+  member-behind [] x m = m
+  member-behind (y ∷ l) x m = List·Memᴰ·tail m
 
   pub list-has : (f : ℕ → A) (k i : ℕ) → i < k → List·Memᴰ (f i) (listBelow f k)
   unfolding listBelow
@@ -72,6 +77,11 @@ module _ {A : Type 0} where
   newest-all f k rest h =
       let n : k ≡ suc (k - 1) = omega arith in
       ap (λ (m : ℕ). newest f m ++ rest) n ∙ newest-first f (k - 1) rest
+
+  pub newest-last : (f : ℕ → A) (k : ℕ) → 0 < k → newest f k ≡ f (k - 1) ∷ newest f (k - 1)
+  unfolding newest
+  newest-last f zero h = absurd (omega arith)
+  newest-last f (suc k) h = let n : suc k - 1 ≡ k = omega arith in rw n
 
 pub map-newest : {A B : Type 0} (f : A → B) (g : ℕ → A) (k : ℕ) (rest : List A) → map f (newest g k ++ rest) ≡ newest (λ i. f (g i)) k ++ map f rest
 unfolding newest

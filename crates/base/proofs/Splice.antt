@@ -1,12 +1,12 @@
--- Laws of bytes put into bytes: what stands up to the end of what was put, the length, each element and each part afterwards, and two
--- puts in a row. Assumes nothing.
+-- Laws of bytes put into bytes: what stands up to the end of what was put, the length, each element and each part afterwards, two puts in a
+-- row, one over another, and one apart from another. Assumes nothing.
 use mathlib.Core.Path.{_≡_, refl, sym, ap, ap₂, _∙_}
 use mathlib.Core.List.{[], _++_, append-assoc, append-nil}
 use Prim.Native.Nat.{ℕ, _+_, _-_, _≤_, _<_}
 use native.Mathlib.Nat.{add-assoc, add-zero, le-of-eq}
 use native.Mathlib.Omega.{arith}
 use lib.ListN.{length, getD, take, drop, length-append, length-drop, take-append-drop, List·getD-append, drop-of-length-le}
-use lib.Seq.{sets, sets-eq, take-length, take-all, take-at, drop-at, drop-drop, getD-take, getD-drop, getD-append-add, length-take-le, take-append-le, drop-append-le, take-take}
+use lib.Seq.{sets, sets-eq, take-length, take-all, take-at, drop-at, drop-drop, getD-take, getD-drop, getD-append-add, length-take-le, take-append-le, drop-append-le, drop-append-add, take-take}
 use Rattle.base.specs.Bytes.{Bytes, splice}
 use Rattle.base.proofs.Parts.{part-of-front}
 
@@ -105,3 +105,45 @@ splice-before b at a x h =
     (take-append-le at (take (at + length a) b) (x ++ drop (at + length a + length x) b) (omega arith) ∙ take-take at (at + length a) b (omega arith))
     (drop-at (take (at + length a) b) (x ++ drop (at + length a + length x) b) (at + length a) front)
     ∙ ap (λ (v : Bytes). take at b ++ v) (sym (append-assoc a x (drop (at + length a + length x) b)) ∙ ap (λ (m : ℕ). (a ++ x) ++ drop m b) n)
+
+-- what stands there already is put
+pub splice-own : (b : Bytes) (at : ℕ) (part : Bytes) → take (length part) (drop at b) ≡ part → splice b at part ≡ b
+unfolding splice
+splice-own b at part e =
+    ap (λ (y : Bytes). take at b ++ y)
+    (ap₂ _++_ (sym e) (sym (drop-drop (length part) at b)) ∙ take-append-drop (length part) (drop at b))
+    ∙ take-append-drop at b
+
+-- a part put over another of its length
+pub splice-over : (b : Bytes) (at : ℕ) (p q : Bytes) → at ≤ length b → length q ≡ length p → splice (splice b at p) at q ≡ splice b at q
+unfolding splice
+splice-over b at p q h e =
+    let n : at + length q ≡ at + length p + 0 = omega arith in
+    ap₂ (λ (x y : Bytes). x ++ (q ++ y)) (splice-part-low b at p h 0 at (omega arith))
+    (ap (λ (m : ℕ). drop m (splice b at p)) n ∙ drop-splice b at p h 0 ∙ ap (λ (m : ℕ). drop m b) (sym n))
+
+-- a part put into the first of two
+splice-first : (a x : Bytes) (at : ℕ) (p : Bytes) → at + length p ≤ length a → splice (a ++ x) at p ≡ splice a at p ++ x
+unfolding splice
+splice-first a x at p h =
+    ap₂ (λ (u v : Bytes). u ++ (p ++ v)) (take-append-le at a x (omega arith)) (drop-append-le (at + length p) a x h)
+    ∙ simp append-assoc
+
+-- and one put to the front of the second
+splice-second : (a x : Bytes) (at : ℕ) (q : Bytes) → length a ≡ at → splice (a ++ x) at q ≡ a ++ (q ++ drop (length q) x)
+unfolding splice
+splice-second a x at q n =
+    ap₂ (λ (u v : Bytes). u ++ (q ++ v)) (take-at a x at n)
+    (ap (λ (m : ℕ). drop (m + length q) (a ++ x)) (sym n) ∙ drop-append-add a x (length q))
+
+-- two parts put apart from each other, in either order
+pub splice-apart : (b : Bytes) (low : ℕ) (p : Bytes) (high : ℕ) (q : Bytes) → low + length p ≤ high → high ≤ length b
+    → splice (splice b low p) high q ≡ splice (splice b high q) low p
+unfolding splice
+splice-apart b low p high q apart within =
+    let n : length (take high b) ≡ high = length-take-le high b within in
+    ap (λ (x : Bytes). splice x high q)
+    (ap (λ (x : Bytes). splice x low p) (sym (take-append-drop high b)) ∙ splice-first (take high b) (drop high b) low p (omega arith))
+    ∙ splice-second (splice (take high b) low p) (drop high b) high q (length-splice (take high b) low p (omega arith) ∙ n)
+    ∙ ap (λ (x : Bytes). splice (take high b) low p ++ (q ++ x)) (drop-drop (length q) high b)
+    ∙ sym (splice-first (take high b) (q ++ drop (high + length q) b) low p (omega arith))

@@ -12,6 +12,7 @@ ghost use Rattle.table.specs.Fresh.{freshAnswer, freshIn};
 ghost use Rattle.admission.specs.Admission.{admission, admitted};
 ghost use Rattle.interpret.specs.Interpretation.{interpretation, marked, recorded};
 ghost use Rattle.retire.specs.Retiring.{retiring, retiredTable, retiredRecords};
+ghost use Rattle.take_back.specs.TakingBack.{takingBack, takenBack};
 ghost use Rattle.watch.specs.Forks.{forks};
 ghost use Rattle.watch.specs.Ancestors.{ancestors};
 ghost use Rattle.build.specs.Building.{building, built};
@@ -65,6 +66,15 @@ pub extern "C" fn gt_retire(table: &mut [u8], records: &mut [u16]) -> Answer
     ensures { λ _. ⌜ now (records .exit) ≡ retiredRecords (now (table .entry)) (now (records .entry)) ⌝ }
 {
     retire::retire(table, records)
+}
+
+// The last place is taken back.
+#[no_mangle]
+pub extern "C" fn gt_take_back(table: &mut [u8]) -> Answer
+    ensures { λ r. ⌜ r ≡ takingBack (now (table .entry)) ⌝ }
+    ensures { λ _. ⌜ now (table .exit) ≡ takenBack (now (table .entry)) ⌝ }
+{
+    take_back::take_back(table)
 }
 
 // The sites that forked.

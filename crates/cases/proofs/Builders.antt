@@ -20,8 +20,9 @@ use Rattle.interpret.specs.Interpretation.{interpretation, marked}
 use Rattle.interpret.proofs.Promises as interpreting
 use Rattle.retire.specs.Retiring.{movedBytes, moveDown, retiring, retiredTable}
 use Rattle.retire.proofs.Promises as retired
+use Rattle.take_back.specs.TakingBack.{takenBack}
 use Rattle.build.specs.Building.{building, built}
-use Rattle.agreement.specs.Ledger.{Call, admit, interpret, retire, Ledger}
+use Rattle.agreement.specs.Ledger.{Call, admit, interpret, retire, takeBack, Ledger}
 use Rattle.agreement.specs.Run.{Site, started, siteAnswer, siteStep}
 use Rattle.agreement.specs.Promises.{forked, NoCollision}
 use Rattle.arrival.specs.Full.{BlockBy, Full}
@@ -31,7 +32,7 @@ use Rattle.cases.specs.Toy.{toy}
 use Rattle.cases.specs.Run.{zeros, callsOf, ledgerLeft}
 use Rattle.cases.specs.Blocks.{sites, first}
 use Rattle.cases.specs.Building.{room}
-use Rattle.cases.specs.Builders.{firstBuilt, nextBuilt, ownTurns, otherTurns, builtLate, lateTurns, BuilderCases}
+use Rattle.cases.specs.Builders.{builtTooEarly, firstBuilt, nextBuilt, ownTurns, otherTurns, builtLate, lateTurns, BuilderCases}
 use Rattle.cases.proofs.Toy.{toyDigest}
 use Rattle.cases.proofs.Told.{session, ledgerFrom, ledger-left}
 use Rattle.cases.proofs.Opened.{openedLedger, openedWatch}
@@ -63,6 +64,7 @@ module _ (p : ℕ) (requests output : Bytes) where
   allKept t (admit b verdict ∷ cs) = kept t b verdict && allKept (admitted toy t b verdict) cs
   allKept t (interpret place ∷ cs) = allKept (marked t zeros place) cs
   allKept t (retire ∷ cs) = allKept (retiredTable t zeros) cs
+  allKept t (takeBack ∷ cs) = allKept (takenBack t) cs
 
   is-built : (x : Site) (b : Bytes) (verdict : ℕ) → kept (x .table) b verdict ≡ true → OwnIsBuilt toy p x (admit b verdict)
   unfolding writes admittedOwn kept siteAnswer OwnIsBuilt
@@ -87,9 +89,10 @@ module _ (p : ℕ) (requests output : Bytes) where
   by-rule x (interpret place ∷ cs) w e =
       (tt, by-rule _ cs (interpreting.promises .sized (x .table) (x .records) place ∙ w) (rw (marked-same x w place) e))
   by-rule x (retire ∷ cs) w e = (tt, by-rule _ cs (retired.promises .sized (x .table) (x .records) ∙ w) (rw (retired-same x w) e))
+  by-rule x (takeBack ∷ cs) w e = (tt, by-rule _ cs w e)
 
 own-by-rule : BuildsByRule toy 1 (started (sites 4) zeros) (callsOf ownTurns)
-unfolding openedWatch freshTable firstBuilt nextBuilt ownTurns writes admittedOwn kept allKept
+unfolding openedWatch freshTable builtTooEarly firstBuilt nextBuilt ownTurns writes admittedOwn kept allKept
 own-by-rule = by-rule 1 (3 ∷ 0 ∷ 7 ∷ []) (room (blockSize 4 1)) (started (sites 4) zeros) (callsOf ownTurns) refl refl
 
 late-by-rule : BuildsByRule toy 1 (started (sites 4) zeros) (callsOf lateTurns)
@@ -109,7 +112,7 @@ all-known p bs cs none b x = by-test (holds bs b) (λ y. is-held bs b y)
 
 -- all else that computing the two runs opens
 unfoldable openedBuilders : Bool
-unfolding openedLedger firstBuilt nextBuilt ownTurns otherTurns collision someIn holds unknown
+unfolding openedLedger builtTooEarly firstBuilt nextBuilt ownTurns otherTurns collision someIn holds unknown
 openedBuilders = true
 
 own-is : ledgerLeft (sites 4) ownTurns ≡ ledgerFrom ownTurns

@@ -19,4 +19,5 @@ pub mod Shelf
 pub mod Arrivals
 pub mod Joins
 pub mod Retiring
+pub mod TakingBack
 pub mod Encoding

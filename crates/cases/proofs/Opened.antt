@@ -20,6 +20,7 @@ use Rattle.admission.specs.Admission.{admission, admitted}
 use Rattle.interpret.specs.Slot.{parentState, insert, insertIf, numbers, messagesOf, messages, interpretSlot}
 use Rattle.interpret.specs.Interpretation.{interpretation}
 use Rattle.retire.specs.Retiring.{retirable, retiring}
+use Rattle.take_back.specs.TakingBack.{withoutRow, takingBack, takenBack}
 use Rattle.watch.specs.Forks.{forkedIn, forks}
 use Rattle.watch.specs.Ancestors.{reached, ancestors}
 use Rattle.build.specs.Building.{greatestBelow, nextSequence, picked, nextContent, wellListed, buildingFrom, builtFrom}
@@ -59,7 +60,7 @@ openedLedger = true
 unfoldable pub openedTable : Bool
 unfolding openedBlocks firstBelow anyBelow allBelow countBelow maskBelow listBelow sameBytes allZero parts splice word wordBytes countedRequest
     wellShaped reading lawfulSites ownersBelow lawful rowBytes layout withRow parents parentRule parentInForm rowInForm heldInForm inForm emptyTable answerTo
-    admission admitted interpretation retirable retiring siteAnswer siteStep siteAfter siteAnswers tableAfter answers fresh unlawful four holding
+    admission admitted interpretation retirable retiring withoutRow takingBack takenBack siteAnswer siteStep siteAfter siteAnswers tableAfter answers fresh unlawful four holding
 openedTable = true
 
 -- what the watch and building answer to a table is computed by

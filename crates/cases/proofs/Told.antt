@@ -28,7 +28,8 @@ use Rattle.interpret.specs.Interpretation.{interpretationChecks}
 use Rattle.interpret.proofs.Parts.{record-in}
 use Rattle.agreement.specs.History.{slotRecord, meaning}
 use Rattle.retire.specs.Retiring.{retiringChecks}
-use Rattle.agreement.specs.Ledger.{Call, admit, interpret, retire, Ledger, empty, taken, viewIn, ledgerAnswer, ledgerStep, ledgerAfter, ledgerAnswers}
+use Rattle.take_back.specs.TakingBack.{takingBackChecks}
+use Rattle.agreement.specs.Ledger.{Call, admit, interpret, retire, takeBack, Ledger, empty, taken, viewIn, ledgerAnswer, ledgerStep, ledgerAfter, ledgerAnswers}
 use Rattle.agreement.specs.Run.{Site, started, siteAfter, siteAnswers}
 use Rattle.agreement.specs.Promises.{Interpreted, RetiredClear, historyAt, ledgerOf, siteWith, Promised}
 use Rattle.agreement.proofs.Meanings.{record-sized}
@@ -51,6 +52,7 @@ module _ (s : Setup) where
   answerInForm l (admit b verdict) = answerTo (admissionChecks toy true s (viewIn toy l) b verdict) (l .held)
   answerInForm l (interpret place) = answerTo (interpretationChecks true (viewIn toy l) bufferSize place) 0
   answerInForm l retire = answerTo (retiringChecks true (viewIn toy l) bufferSize) 0
+  answerInForm l takeBack = answerTo (takingBackChecks true (viewIn toy l)) 0
 
   -- the answer of each, where the earlier calls are answered so
   unfoldable pub told : Ledger → List Call → List Answer → List Answer
@@ -64,6 +66,7 @@ module _ (s : Setup) where
   in-form l (admit b verdict) n = by-test (heldInForm s (viewIn toy l)) (λ y. rw y) (λ z. absurd (n (rw z)))
   in-form l (interpret place) n = by-test (heldInForm s (viewIn toy l)) (λ y. rw y) (λ z. absurd (n (rw z)))
   in-form l retire n = by-test (heldInForm s (viewIn toy l)) (λ y. rw y) (λ z. absurd (n (rw z)))
+  in-form l takeBack n = by-test (heldInForm s (viewIn toy l)) (λ y. rw y) (λ z. absurd (n (rw z)))
 
   -- answers are the ledger's if each call gets its own where the earlier calls get theirs
   record Told (l : Ledger) (cs : List Call) (ys : List Answer) : Type 0 where

@@ -5,7 +5,7 @@
 use mathlib.Core.List.{List, [], _∷_, _++_, List·Memᴰ}
 use Rattle.base.specs.Bytes.{Bytes}
 use Rattle.table.specs.Checks.{refused}
-use Rattle.agreement.specs.Ledger.Call.{interpret, retire}
+use Rattle.agreement.specs.Ledger.Call.{interpret, retire, takeBack}
 use Rattle.agreement.specs.Run.{started}
 use Rattle.agreement.specs.Promises.{NoCollision}
 use Rattle.arrival.specs.Full.{BlockBy, Full}
@@ -14,7 +14,11 @@ use Rattle.cases.specs.Toy.{toy, request, block}
 use Rattle.cases.specs.Run.{good, placed, done, zeros, Turn, _giving_, callsOf, ledgerLeft, Session}
 use Rattle.cases.specs.Blocks.{sites, first, fork, second, third, fourth, echoing}
 
--- site 1's blocks: one refers to all four blocks that it holds, the next to that one and to the block that arrived since
+-- site 1's blocks: one that it takes back before another arrives; one that refers to all four blocks that it then holds; and the next, which refers
+-- to that one and to the block that arrived since
+unfoldable pub builtTooEarly : Bytes
+builtTooEarly = block 1 0 (toy first ∷ toy fork ∷ toy third ∷ []) (request 3 7 ∷ [])
+
 unfoldable pub firstBuilt : Bytes
 firstBuilt = block 1 0 (toy first ∷ toy fork ∷ toy third ∷ toy fourth ∷ []) (request 3 7 ∷ [])
 
@@ -26,6 +30,8 @@ ownTurns =
     good first giving placed 0
     ∷ good fork giving placed 1
     ∷ good third giving placed 2
+    ∷ good builtTooEarly giving placed 3
+    ∷ takeBack giving done
     ∷ good fourth giving placed 3
     ∷ good firstBuilt giving placed 4
     ∷ good (echoing 2) giving placed 5
@@ -57,7 +63,7 @@ lateTurns =
     ∷ good builtLate giving placed 1
     ∷ []
 
--- site 1 builds both of its blocks by the rule, and so it is full
+-- site 1 builds all of its blocks by the rule, and so it is full: the one that it took back does not count
 pub record BuilderFull : Type 0 where
   pub taken : Session (sites 4) ownTurns
   pub byRule : BuildsByRule toy 1 (started (sites 4) zeros) (callsOf ownTurns)

@@ -3,7 +3,7 @@ use mathlib.Core.Path.{_≡_}
 use mathlib.Core.List.{[], _∷_, _++_}
 use lib.ListN.{take, replicate}
 use Rattle.base.specs.Bytes.{Bytes}
-use Rattle.agreement.specs.Ledger.Call.{admit, interpret, retire}
+use Rattle.agreement.specs.Ledger.Call.{admit, interpret, retire, takeBack}
 use Rattle.agreement.specs.Encoding.{callsIn}
 
 -- an admission of three bytes with verdict 5, and an interpretation of place 258
@@ -15,10 +15,10 @@ interpretationBytes = 1 ∷ 2 ∷ 1 ∷ 0 ∷ 0 ∷ 0 ∷ 0 ∷ 0 ∷ 0 ∷ []
 
 pub record EncodingCases : Type 0 where
   pub none : callsIn [] ≡ []
-  -- each of the three calls, and another behind them
+  -- each of the four calls, and another behind them
   pub each :
-      callsIn (admissionBytes ++ (interpretationBytes ++ (2 ∷ admissionBytes)))
-      ≡ admit (7 ∷ 8 ∷ 9 ∷ []) 5 ∷ interpret 258 ∷ retire ∷ admit (7 ∷ 8 ∷ 9 ∷ []) 5 ∷ []
+      callsIn (admissionBytes ++ (interpretationBytes ++ (2 ∷ 3 ∷ admissionBytes)))
+      ≡ admit (7 ∷ 8 ∷ 9 ∷ []) 5 ∷ interpret 258 ∷ retire ∷ takeBack ∷ admit (7 ∷ 8 ∷ 9 ∷ []) 5 ∷ []
   -- a block of no bytes
   pub emptyBlock : callsIn (0 ∷ 1 ∷ replicate 8 0) ≡ admit [] 1 ∷ []
   -- a call that is cut ends the list: in its block, before it, and in a place
@@ -26,4 +26,4 @@ pub record EncodingCases : Type 0 where
   pub cutLength : callsIn (2 ∷ take 9 admissionBytes) ≡ retire ∷ []
   pub cutPlace : callsIn (2 ∷ take 8 interpretationBytes) ≡ retire ∷ []
   -- and so does another byte
-  pub otherByte : callsIn (2 ∷ 3 ∷ 2 ∷ []) ≡ retire ∷ []
+  pub otherByte : callsIn (3 ∷ 4 ∷ 3 ∷ []) ≡ takeBack ∷ []

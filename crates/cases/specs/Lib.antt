@@ -1,5 +1,5 @@
--- Cases of document 01's rules, of those of requests Three, Eight and Eleven, and of lists of calls in bytes: how they are written down, how they
--- are run, and what each gives.
+-- Cases of document 01's rules, of those of requests Three, Eight, Eleven and Twelve, and of lists of calls in bytes: how they are written down,
+-- how they are run, and what each gives.
 pub mod Toy
 pub mod Run
 pub mod Blocks
@@ -18,4 +18,5 @@ pub mod Shelf
 pub mod Arrivals
 pub mod Joins
 pub mod Retiring
+pub mod TakingBack
 pub mod Encoding

@@ -1,5 +1,5 @@
--- A run of calls from a table and a record buffer: each step is the right-hand sides of the contracts of `admit`, `interpret` and `retire`, over the
--- table's bytes and the buffer's numbers; `digest` is SHA-256 there.
+-- A run of calls from a table and a record buffer: each step is the right-hand sides of the contracts of `admit`, `interpret`, `retire` and
+-- `take_back`, over the table's bytes and the buffer's numbers; `digest` is SHA-256 there.
 use mathlib.Core.Path.{_≡_}
 use mathlib.Core.List.{List, [], _∷_, map}
 use Prim.Native.Nat.{ℕ, suc}

@@ -1,21 +1,23 @@
--- What request Three promises of whole lists of calls of all campaigns, refused ones included, from an empty start; proofs/Promises.antt shows
--- it, with SHA-256.
+-- What request Three promises of whole lists of calls of all campaigns, refused ones included, from an empty start; and that an arrival can be taken
+-- back, as request Twelve has it. proofs/Promises.antt shows both, with SHA-256.
 use mathlib.Core.Path.{_≡_}
 use mathlib.Core.Bool.{true}
 use mathlib.Core.List.{List, []}
-use Prim.Native.Nat.{ℕ, _+_}
+use Prim.Native.Nat.{ℕ, zero, suc, _+_}
 use Rattle.base.specs.Bytes.{Bytes, sameBytes}
 use Rattle.base.specs.List.{countIn}
 use Rattle.setup.specs.Setup.{Setup}
-use Rattle.agreement.specs.Ledger.{Call}
+use Rattle.table.specs.Checks.{success}
+use Rattle.take_back.specs.TakingBack.{takingBack, takenBack}
+use Rattle.agreement.specs.Ledger.{Call, takeBack}
 use Rattle.agreement.specs.Run.{siteAfter}
 use Rattle.agreement.specs.Promises.{siteWith, Promised}
 use Rattle.arrival.specs.Arrival.{Arrival}
 use Rattle.shelf.specs.Layout.{waitingIn}
 use Rattle.shelf.specs.Form.{inForm}
-use Rattle.campaigns.specs.Passes.{outcomesOf}
+use Rattle.campaigns.specs.Passes.{letIn, outcomesOf}
 use Rattle.campaigns.specs.Promises.{only, timesWaiting, timesEnded}
-use Rattle.controller.specs.Run.{ControllerCall, Controller, Alone, emptyStart, after, replies, outcomes, tries, taken, plainRun, ownRun, aloneAfter, aloneReplies}
+use Rattle.controller.specs.Run.{ControllerCall, made, Controller, Alone, emptyStart, arrivalAt, step, after, replies, outcomes, tries, taken, plainRun, ownRun, aloneAfter, aloneReplies}
 
 module _ (digest : Bytes → Bytes) where
   -- ---- one controller
@@ -73,3 +75,18 @@ module _ (digest : Bytes → Bytes) where
       pub promised : Promised digest s (buffers₁ c) (buffers₂ c) (plainCalls setups₁ buffers₁ calls₁ c) (plainCalls setups₂ buffers₂ calls₂ c)
       pub firstArrives : Arrival digest s (buffers₁ c) (plainCalls setups₁ buffers₁ calls₁ c)
       pub secondArrives : Arrival digest s (buffers₂ c) (plainCalls setups₂ buffers₂ calls₂ c)
+
+-- ---- taking back
+
+-- so many takings back, one after the other, pass and lead from one table to another
+unfoldable pub UndoneBy : ℕ → Bytes → Bytes → Type 0
+UndoneBy zero t t′ = t ≡ t′
+UndoneBy (suc k) t t′ = (takingBack t ≡ success 0) × UndoneBy k (takenBack t) t′
+
+-- at any controller, an arrival for a campaign that was admitted
+pub record ArrivalUndone (digest : Bytes → Bytes) (x : Controller) (c : ℕ) (b : Bytes) (verdict room : ℕ) : Type 0 where
+  -- "straight after an admission that is the table before it (each block let in from the shelf being an admission of its own)": all bytes
+  pub table : UndoneBy (suc (countIn letIn (arrivalAt digest x c b verdict room .tries))) (arrivalAt digest x c b verdict room .table) (x .site c .table)
+  -- a block that is taken back does not return to the shelf, and the records stay
+  pub shelf : (y : Controller) → step digest y c (made takeBack) .shelf ≡ y .shelf
+  pub records : (y : Controller) → step digest y c (made takeBack) .site c .records ≡ y .site c .records

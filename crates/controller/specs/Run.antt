@@ -1,5 +1,5 @@
 -- Request Three: a whole list of calls of all campaigns, and the same of one campaign alone. Each step is what the contracts of `arrive`, `admit`,
--- `interpret` and `retire` say; `digest` is SHA-256 there.
+-- `interpret`, `retire` and `take_back` say; `digest` is SHA-256 there.
 use mathlib.Core.Bool.{Bool, false, cond}
 use mathlib.Core.List.{List, [], _∷_, _++_, map}
 use Prim.Native.Nat.{ℕ}
@@ -16,7 +16,7 @@ use Rattle.campaigns.specs.Passes.{Try, outcomesOf}
 use Rattle.campaigns.specs.Arriving.{Arrived, Called, outcomesSize, unchanged, listed, arrivalChecks, arrived, arrival}
 
 -- a call for a campaign: a block arrives, with a buffer of so many numbers for outcomes; or "the other calls made for it", on its own table and
--- records, retirings and admissions past the shelf among them
+-- records, retirings, takings back and admissions past the shelf among them
 pub data CampaignCall : Type 0 where
   arrives : (b : Bytes) (verdict room : ℕ) → CampaignCall
   made : (call : Call) → CampaignCall

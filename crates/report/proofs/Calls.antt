@@ -1,7 +1,8 @@
--- The calls of one arrival: a list of one or two calls, what they leave, and which of them refuses. Assumes nothing.
-use mathlib.Core.Path.{_≡_, sym, _∙_}
+-- The calls of one arrival: a list of one or two calls, what they leave, and which of them refuses; and that no arrival takes anything back.
+-- Assumes nothing.
+use mathlib.Core.Path.{_≡_, refl, sym, _∙_}
 use mathlib.Core.Bool.{false, cond}
-use mathlib.Core.List.{List, [], _∷_}
+use mathlib.Core.List.{List, [], _∷_, _++_}
 use Prim.Native.Nat.{ℕ}
 use lib.Dec.{eqb}
 use borrow.Author.Tests.{eq-eqb, eqb-true}
@@ -12,7 +13,10 @@ use Rattle.admission.specs.Admission.{admission, admitted}
 use Rattle.interpret.specs.Interpretation.{interpretation, marked, recorded}
 use Rattle.agreement.specs.Ledger.{Call, admit}
 use Rattle.agreement.specs.Run.{Site, siteAnswer, siteStep, siteAfter}
+use Rattle.agreement.proofs.Growth.{NoneBack}
+use Rattle.report.specs.Arrivals.{Arrival, arrived, unread}
 use Rattle.report.specs.Listing.{admissionAnswer, interpretationCall, siteArrived, arrivalRefusal}
+use Rattle.report.specs.Agreed.{callsOf}
 
 module _ (x : Site) (b : Bytes) (verdict : ℕ) where
   -- what the admission answers, and the table that it leaves
@@ -69,3 +73,12 @@ module _ (x : Site) (b : Bytes) (verdict : ℕ) where
   pub site-after-calls : siteAfter sha256 x callsAt ≡ siteArrived sha256 x b verdict
   unfolding siteAfter siteArrived siteAnswer
   site-after-calls = by-test (eqb number 0) (λ y. rw y) (λ n. rw n (refused-step n))
+
+-- arrivals take nothing back
+pub none-back : (x : Site) (arrivals : List Arrival) → NoneBack (callsOf x arrivals)
+unfolding callsOf
+none-back x [] = tt
+none-back x (unread ∷ rest) = none-back x rest
+none-back x (arrived b verdict ∷ rest) =
+    let more = none-back (siteArrived sha256 x b verdict) rest in
+    (refl, by-test (eqb (admissionAnswer sha256 x b verdict .refusal) 0) (λ y. rw y (refl, more)) (λ n. rw n more))

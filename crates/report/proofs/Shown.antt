@@ -30,7 +30,7 @@ use Rattle.agreement.proofs.Theorem.{delivered-is}
 use Rattle.report.specs.Arrivals.{Arrival, arrived, unread}
 use Rattle.report.specs.Listing.{deliveredIn, admissionAnswer, siteArrived, arrivalRefusal}
 use Rattle.report.specs.Agreed.{callsOf, Shows, here, later, past}
-use Rattle.report.proofs.Calls.{place, entered, second, both, passed-site, passed-refusal, accepted, callsAt, site-after-calls}
+use Rattle.report.proofs.Calls.{place, entered, second, both, passed-site, passed-refusal, accepted, callsAt, site-after-calls, none-back}
 use Rattle.report.proofs.Stays.{ledger-after-both, delivered-stays}
 
 -- ---- an arrival that is not refused leaves its place held and interpreted
@@ -124,9 +124,10 @@ module _ (s : Setup) (size : ℕ) where
   shows-delivered l x t (arrived b verdict ∷ rest) safe slot v low (here z e n) =
       let next : Ledger = after l (callsAt x b verdict) in
       let all : NoCollision sha256 (after next (callsOf (siteArrived sha256 x b verdict) rest) .blocks) = safe-rest l x t b verdict rest safe in
-      let keeps = after-keeps sha256 s size next (callsOf (siteArrived sha256 x b verdict) rest) in
+      let none = none-back (siteArrived sha256 x b verdict) rest in
+      let keeps = after-keeps sha256 s size next (callsOf (siteArrived sha256 x b verdict) rest) none in
       then-rest l x t b verdict rest slot v
-      (delivered-stays sha256 sha256-length s size slot v _ _ (pair-after l x t b verdict) (callsOf (siteArrived sha256 x b verdict) rest) all
+      (delivered-stays sha256 sha256-length s size slot v _ _ (pair-after l x t b verdict) (callsOf (siteArrived sha256 x b verdict) rest) none all
       (place-delivered _ _ (pair-after l x t b verdict) (λ c d i j. all c d (keeps c i) (keeps d j)) _ slot v (marks x b verdict z) low e n))
   shows-delivered l x t (arrived b verdict ∷ rest) safe slot v low (later m) =
       then-rest l x t b verdict rest slot v (shows-delivered _ _ (pair-after l x t b verdict) rest (safe-rest l x t b verdict rest safe) slot v low m)

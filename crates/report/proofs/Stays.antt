@@ -1,7 +1,7 @@
--- What a ledger has delivered stays delivered, whatever calls follow: a block keeps its mark and its history. Assumes nothing; that no two different
--- blocks share a digest stands where it is needed.
+-- What a ledger has delivered stays delivered, whatever calls follow that take nothing back: a block keeps its mark and its history. Assumes nothing;
+-- that no two different blocks share a digest stands where it is needed.
 use mathlib.Core.Path.{_≡_, refl, sym, ap, _∙_}
-use mathlib.Core.Bool.{Bool, cond}
+use mathlib.Core.Bool.{Bool, false, cond}
 use mathlib.Core.Logic.{inl, inr}
 use mathlib.Core.List.{List, [], _∷_, _++_, List·Memᴰ, List·Memᴰ·head, List·Memᴰ·tail}
 use Prim.Native.Nat.{ℕ, zero, suc, _+_, _*_}
@@ -10,18 +10,18 @@ use lib.Dec.{eqb}
 use lib.ListN.{length, getD}
 use borrow.Author.Tests.{ne-eqb}
 use Rattle.base.specs.Bytes.{Bytes}
-use Rattle.base.proofs.Tests.{by-test}
+use Rattle.base.proofs.Tests.{by-test, true-not-false}
 use Rattle.block.specs.Limits.{referenceSize}
 use Rattle.setup.specs.Setup.{Setup}
 use Rattle.broadcast.specs.Record.{recordSize}
 use Rattle.agreement.specs.History.{History, meaning}
 use Rattle.agreement.specs.Ancestry.{historyOf}
-use Rattle.agreement.specs.Ledger.{Call, admit, interpret, retire, Ledger, taken, ledgerAnswer, ledgerStep, ledgerAfter}
+use Rattle.agreement.specs.Ledger.{Call, admit, interpret, retire, takeBack, Ledger, taken, ledgerAnswer, ledgerStep, ledgerAfter}
 use Rattle.agreement.specs.Run.{Site, siteStep}
 use Rattle.agreement.specs.Promises.{InterpretedBlock, deliveredEntry, NoCollision, Delivered}
 use Rattle.agreement.proofs.Ancestry.{history-agree}
 use Rattle.agreement.proofs.Runs.{Together, step-together}
-use Rattle.agreement.proofs.Growth.{step-keeps, after-keeps}
+use Rattle.agreement.proofs.Growth.{isTakingBack, NoneBack, step-keeps, after-keeps}
 use Rattle.agreement.proofs.Standing.{interpreted-among, one-history-each, safe-clear}
 
 -- a list of calls, and then another
@@ -32,25 +32,26 @@ ledger-after-both digest s size l [] second = refl
 ledger-after-both digest s size l (c ∷ first) second = ledger-after-both digest s size (ledgerStep digest s size l c) first second
 
 module _ (digest : Bytes → Bytes) (sized : (b : Bytes) → length (digest b) ≡ referenceSize) (s : Setup) (size slot v : ℕ) where
-  interpreted-stays : (l : Ledger) (c : Call) (b : Bytes) → InterpretedBlock l b → InterpretedBlock (taken l c) b
+  interpreted-stays : (l : Ledger) (c : Call) → isTakingBack c ≡ false → (b : Bytes) → InterpretedBlock l b → InterpretedBlock (taken l c) b
   unfolding taken
-  interpreted-stays l (admit a verdict) b (inl (i, w, e)) =
-      let n = ne-eqb i (l .held) (λ q. absurd (omega (arith, w .below))) in
-      inl (i, record { below = omega (arith, w .below); mark = ap (λ (z : Bool). cond z 0 (l .mark i)) n ∙ w .mark }, e ∙ sym (ap (λ (z : Bool). cond z a (l .block i)) n))
-  interpreted-stays l (admit a verdict) b (inr m) = inr m
-  interpreted-stays l (interpret place) b (inl (i, w, e)) = inl (i, record { below = w .below; mark = by-test (eqb i place) (λ y. rw y) (λ n. rw n (w .mark)) }, e)
-  interpreted-stays l (interpret place) b (inr m) = inr m
-  interpreted-stays l retire b (inl (zero, w, e)) = inr (List·Memᴰ·head e)
-  interpreted-stays l retire b (inl (suc i, w, e)) = inl (i, record { below = omega (arith, w .below); mark = w .mark }, e)
-  interpreted-stays l retire b (inr m) = inr (List·Memᴰ·tail m)
+  interpreted-stays l (admit a verdict) n b (inl (i, w, e)) =
+      let other = ne-eqb i (l .held) (λ q. absurd (omega (arith, w .below))) in
+      inl (i, record { below = omega (arith, w .below); mark = ap (λ (z : Bool). cond z 0 (l .mark i)) other ∙ w .mark }, e ∙ sym (ap (λ (z : Bool). cond z a (l .block i)) other))
+  interpreted-stays l (admit a verdict) n b (inr m) = inr m
+  interpreted-stays l (interpret place) n b (inl (i, w, e)) = inl (i, record { below = w .below; mark = by-test (eqb i place) (λ y. rw y) (λ z. rw z (w .mark)) }, e)
+  interpreted-stays l (interpret place) n b (inr m) = inr m
+  interpreted-stays l retire n b (inl (zero, w, e)) = inr (List·Memᴰ·head e)
+  interpreted-stays l retire n b (inl (suc i, w, e)) = inl (i, record { below = omega (arith, w .below); mark = w .mark }, e)
+  interpreted-stays l retire n b (inr m) = inr (List·Memᴰ·tail m)
+  interpreted-stays l takeBack n b w = true-not-false refl n
 
-  module _ (l : Ledger) (x : Site) (t : Together digest sized s size l x) (c : Call) where
+  module _ (l : Ledger) (x : Site) (t : Together digest sized s size l x) (c : Call) (keeping : isTakingBack c ≡ false) where
     abbrev l′ : Ledger
     l′ = ledgerStep digest s size l c
 
     step-interpreted : (b : Bytes) → InterpretedBlock l b → InterpretedBlock l′ b
     unfolding ledgerStep
-    step-interpreted b i = by-test (eqb (ledgerAnswer digest s size l c .refusal) 0) (λ y. rw y (interpreted-stays l c b i)) (λ n. rw n i)
+    step-interpreted b i = by-test (eqb (ledgerAnswer digest s size l c .refusal) 0) (λ y. rw y (interpreted-stays l c keeping b i)) (λ n. rw n i)
 
     -- a block keeps its history
     history-stays : NoCollision digest (l′ .blocks) → (b : Bytes) → List·Memᴰ b (l .blocks) → historyOf digest (l .blocks) b ≡ historyOf digest (l′ .blocks) b
@@ -61,7 +62,7 @@ module _ (digest : Bytes → Bytes) (sized : (b : Bytes) → length (digest b) �
         (λ d e i. safe d e (later d i)) b m (later b m)
       where
         later : (d : Bytes) → List·Memᴰ d (l .blocks) → List·Memᴰ d (l′ .blocks)
-        later = step-keeps digest s size l c
+        later = step-keeps digest s size l c keeping
 
         t′ : Together digest sized s size l′ (siteStep digest x c)
         t′ = step-together digest sized s size l x t c
@@ -76,11 +77,11 @@ module _ (digest : Bytes → Bytes) (sized : (b : Bytes) → length (digest b) �
           entry = ap (λ (h : History). getD (meaning s h) (recordSize * slot + deliveredEntry) 0) (sym (history-stays safe (d .block) m)) ∙ d .entry;
         }
 
-  pub delivered-stays : (l : Ledger) (x : Site) → Together digest sized s size l x → (calls : List Call) → NoCollision digest (ledgerAfter digest s size l calls .blocks)
+  pub delivered-stays : (l : Ledger) (x : Site) → Together digest sized s size l x → (calls : List Call) → NoneBack calls → NoCollision digest (ledgerAfter digest s size l calls .blocks)
       → Delivered digest s l slot v → Delivered digest s (ledgerAfter digest s size l calls) slot v
   unfolding ledgerAfter
-  delivered-stays l x t [] safe d = d
-  delivered-stays l x t (c ∷ calls) safe d =
-      let keeps = after-keeps digest s size (ledgerStep digest s size l c) calls in
-      delivered-stays (ledgerStep digest s size l c) (siteStep digest x c) (step-together digest sized s size l x t c) calls safe
-      (step-stays l x t c (λ a b i j. safe a b (keeps a i) (keeps b j)) d)
+  delivered-stays l x t [] none safe d = d
+  delivered-stays l x t (c ∷ calls) none safe d =
+      let keeps = after-keeps digest s size (ledgerStep digest s size l c) calls (none .1) in
+      delivered-stays (ledgerStep digest s size l c) (siteStep digest x c) (step-together digest sized s size l x t c) calls (none .1) safe
+      (step-stays l x t c (none .0) (λ a b i j. safe a b (keeps a i) (keeps b j)) d)

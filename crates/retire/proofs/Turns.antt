@@ -26,11 +26,10 @@ use Rattle.table.specs.View.{maxPlaces}
 use Rattle.table.specs.Layout.{retiredOffset, rowsOffset, referencesOffset, rowSize, rowStart, tableSize, countOf, referencesAt, rowAt, viewOf}
 use Rattle.table.specs.Form.{inForm}
 use Rattle.table.specs.Checks.{success, refused, answerTo}
+use Rattle.table.specs.Steps.{LastPlace}
 use Rattle.table.proofs.RowBytes.{rowPart, part-same}
-use Rattle.table.proofs.Formed.{formed-of}
 use Rattle.interpret.specs.Buffer.{partSize, bufferSize}
 use Rattle.retire.specs.Retiring.{retirable, movedRow, movedBytes, movedRows, moveDown, movedParts, retiring, retiredTable, retiredRecords}
-use Rattle.retire.specs.Steps.{LastPlace}
 use Rattle.retire.proofs.Lowered.{rows-length}
 
 -- ---- a row
@@ -134,9 +133,6 @@ module _ (b : List ℕ) (n : ℕ) (fits : n + partSize ≤ length b) where
       sym (take-append-drop n r) ∙ ap₂ _++_ p q ∙ ap (λ (k : ℕ). take n d ++ drop k b) m
 
 -- ---- the ways out of retiring
-
-pub last-place : (t : Bytes) → inForm t ≡ true → (left : ℕ) → countOf t ≡ suc left → LastPlace t left
-last-place t f left c = record { size = formed-of t f .size; count = c; few = omega (arith, formed-of t f .held .fits) }
 
 module _ (t : Bytes) (buffer : List ℕ) where
   abbrev pub Out : Answer → Bytes → List ℕ → Type 0

@@ -10,10 +10,9 @@ ghost use lib.ListN.{length, take, drop};
 ghost use Rattle.base.specs.Bytes.{splice};
 ghost use Rattle.table.specs.View.{maxPlaces};
 ghost use Rattle.table.specs.Layout.{rowsOffset, tableSize};
-ghost use Rattle.table.specs.Steps.{Place};
+ghost use Rattle.table.specs.Steps.{Place, LastPlace};
 ghost use Rattle.interpret.specs.Buffer.{partSize};
 ghost use Rattle.retire.specs.Retiring.{movedBytes, movedRows, moveDown};
-ghost use Rattle.retire.specs.Steps.{LastPlace};
 
 // The first n numbers behind the part of place 0 moved to the front; all others stay.
 pub fn move_parts(records: &mut [u16], n: usize)

@@ -1,7 +1,7 @@
 -- What a table in form has. Assumes nothing.
 use mathlib.Core.Path.{_≡_, sym, ap, _∙_}
 use mathlib.Core.Bool.{true}
-use Prim.Native.Nat.{ℕ, _<_}
+use Prim.Native.Nat.{ℕ, suc, _<_}
 use native.Mathlib.Omega.{arith}
 use lib.Dec.{ltb}
 use lib.ListN.{length, drop}
@@ -14,7 +14,7 @@ use Rattle.table.specs.Layout.{tableSize, rowStart, setupOf, retiredOf, 
 use Rattle.table.specs.Rules.{parentRule, heldInForm}
 use Rattle.table.specs.Form.{inForm}
 use Rattle.table.specs.Promises.{Shows}
-use Rattle.table.specs.Steps.{Places}
+use Rattle.table.specs.Steps.{Places, LastPlace}
 use Rattle.table.proofs.Views.{same-sym, held-same, form-rule, RowForm, row-form, Held, held-of, held-in}
 
 pub record Formed (t : Bytes) : Type 0 where
@@ -34,6 +34,9 @@ formed-of t e =
 
 pub formed-places : (t : Bytes) → inForm t ≡ true → Places t (countOf t)
 formed-places t e = let f = formed-of t e in record { size = f .size; bound = f .held .fits }
+
+pub last-place : (t : Bytes) → inForm t ≡ true → (last : ℕ) → countOf t ≡ suc last → LastPlace t last
+last-place t e last c = let f = formed-of t e in record { size = f .size; count = c; few = omega (arith, f .held .fits) }
 
 pub formed-row : (t : Bytes) → inForm t ≡ true → (i : ℕ) → i < countOf t → RowForm (setupOf t) (viewOf t) i
 formed-row t f i h = row-form (setupOf t) (viewOf t) i (formed-of t f .held .rows i h)

@@ -26,6 +26,12 @@ pub record Places (t : Bytes) (k : ℕ) : Type 0 where
   pub size : length t ≡ tableSize
   pub bound : k ≤ maxPlaces
 
+-- a table of the right length, and its last place
+pub record LastPlace (t : Bytes) (last : ℕ) : Type 0 where
+  pub size : length t ≡ tableSize
+  pub count : countOf t ≡ suc last
+  pub few : suc last ≤ maxPlaces
+
 -- a row as far as the rules on references read it
 abbrev pub rowOf : ℕ → ℕ → ℕ → Row
 rowOf site sequence references =

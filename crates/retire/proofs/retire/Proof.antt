@@ -8,10 +8,10 @@ use borrow.Author.Needs.{needs}
 use borrow.Author.Tests.{not-true, not-false}
 use Rattle.table.specs.Layout.{countOf}
 use Rattle.table.specs.Form.{inForm}
-use Rattle.table.proofs.Formed.{formed-of}
+use Rattle.table.specs.Steps.{LastPlace}
+use Rattle.table.proofs.Formed.{formed-of, last-place}
 use Rattle.interpret.specs.Buffer.{partSize}
-use Rattle.retire.specs.Steps.{LastPlace}
-use Rattle.retire.proofs.Turns.{last-place, out2, out12, out13, out29, out0}
+use Rattle.retire.proofs.Turns.{out2, out12, out13, out29, out0}
 use Rattle.retire.proofs.retire.Statement.{statement}
 use Rattle.retire.proofs.retire.Tie as tie
 

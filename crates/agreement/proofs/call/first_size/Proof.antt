@@ -3,15 +3,15 @@ use mathlib.Core.Path.{ap, _∙_}
 use Prim.Native.Nat.{ℕ, _+_}
 use native.Mathlib.Omega.{arith}
 use borrow.Author.Needs.{needs}
-use Rattle.agreement.proofs.Encoded.{way-empty, way-retiring, way-short, way-interpretation, way-other, way-cut, way-cut-block, way-admission}
+use Rattle.agreement.proofs.Encoded.{way-empty, way-retiring, way-taking-back, way-short, way-interpretation, way-other, way-cut, way-cut-block, way-admission}
 use Rattle.agreement.proofs.call.first_size.Statement.{statement}
 use Rattle.agreement.proofs.call.first_size.Tie as tie
 
 -- an admission stands at the front, and its header is there
-abbrev admits : tie.Else6 → tie.Else5
+abbrev admits : tie.Else7 → tie.Else6
 admits c = c .before
 
-abbrev header : tie.After-word-at → tie.Else6
+abbrev header : tie.After-word-at → tie.Else7
 header c = c .before
 
 returns : tie.Need-returns
@@ -20,28 +20,41 @@ returns c = way-empty _ (c .if1 .taken)
 returns-2 : tie.Need-returns-2
 returns-2 c = way-retiring _ (c .before .before .if1 .left) (c .if2 .taken)
 
+-- no retiring stands at the front, and no taking back
+abbrev noRetiring : tie.Else3 → tie.Else2
+noRetiring c = c .before .before
+
+abbrev noTakingBack : tie.Else4 → tie.Else3
+noTakingBack c = c .before
+
 returns-3 : tie.Need-returns-3
-returns-3 c = way-short _ (c .before .if2 .left) (c .if3 .taken)
+returns-3 c = way-taking-back _ (c .before .before .before .before .if1 .left) (c .if3 .taken)
 
 returns-4 : tie.Need-returns-4
-returns-4 c = way-interpretation _ (c .before .before .if3 .left) (c .if4 .taken)
+returns-4 c = way-short _ (noRetiring (c .before) .if2 .left) (c .before .if3 .left) (c .if4 .taken)
 
 returns-5 : tie.Need-returns-5
-returns-5 c = way-other _ (c .before .before .before .before .before .if2 .left) (c .before .before .if4 .left) (c .if5 .taken)
+returns-5 c = way-interpretation _ (c .before .before .if4 .left) (c .if5 .taken)
 
 returns-6 : tie.Need-returns-6
-returns-6 c = way-cut _ (c .before .if5 .left) (c .if6 .taken)
+returns-6 c =
+    let other = c .before .before in
+    let long = noTakingBack (other .before .before) in
+    way-other _ (noRetiring long .if2 .left) (long .if3 .left) (other .if5 .left) (c .if6 .taken)
 
 returns-7 : tie.Need-returns-7
-returns-7 c =
-    let h = header (c .before) in
-    way-cut-block _ (admits h .if5 .left) (h .if6 .left) (let e = c .before .word-at .ensures in omega (arith, c .if7 .taken))
+returns-7 c = way-cut _ (c .before .if6 .left) (c .if7 .taken)
 
 returns-8 : tie.Need-returns-8
 returns-8 c =
     let h = header (c .before) in
+    way-cut-block _ (admits h .if6 .left) (h .if7 .left) (let e = c .before .word-at .ensures in omega (arith, c .if8 .taken))
+
+returns-9 : tie.Need-returns-9
+returns-9 c =
+    let h = header (c .before) in
     let e = c .before .word-at .ensures in
-    ap (λ (n : ℕ). 10 + n) e ∙ way-admission _ (admits h .if5 .left) (h .if6 .left) (omega (arith, c .if7 .left))
+    ap (λ (n : ℕ). 10 + n) e ∙ way-admission _ (admits h .if6 .left) (h .if7 .left) (omega (arith, c .if8 .left))
 
 pub first-size-spec : {M : Type 1} → statement M
 first-size-spec =
@@ -50,14 +63,16 @@ first-size-spec =
     returns
     (λ c. search needs)
     returns-2
-    returns-3
     (λ c. search needs)
+    returns-3
     returns-4
     (λ c. search needs)
     returns-5
+    (λ c. search needs)
     returns-6
+    returns-7
     (λ c κs. search needs)
     (λ c. search needs)
-    returns-7
+    returns-8
     (λ c. search needs)
-    returns-8)
+    returns-9)

@@ -1,11 +1,11 @@
--- `run_first` meets its contract: the ways of the three kinds of calls. Assumes nothing.
+-- `run_first` meets its contract: the ways of the four kinds of calls. Assumes nothing.
 use Prim.Native.Nat.{_+_, _≤_}
 use native.Mathlib.Omega.{arith}
 use lib.ListN.{length}
 use borrow.Author.Needs.{needs}
 use Rattle.base.specs.Word.{wordAt}
 use Rattle.agreement.specs.Encoding.{admissionHeader, interpretationSize}
-use Rattle.agreement.proofs.First.{ran-admission, ran-interpretation, ran-retiring}
+use Rattle.agreement.proofs.First.{ran-admission, ran-interpretation, ran-retiring, ran-taking-back}
 use Rattle.agreement.proofs.call.run_first.Statement.{statement}
 use Rattle.agreement.proofs.call.run_first.Tie as tie
 
@@ -52,8 +52,15 @@ returns-2 c =
 returns-3 : tie.Need-returns-3
 returns-3 c =
     let called = c .before .before .before .before .retire in
-    let other = c .before .before .before .before .before .before .before in
-    ran-retiring _ _ _ (other .before .before .if1 .left) (other .if2 .left) _ _ _ (called .ensures .0) (called .ensures .1 .0) (called .ensures .1 .1)
+    let read = c .before .before .before .before .before .before .before in
+    ran-retiring _ _ _ (read .if3 .taken) _ _ _ (called .ensures .0) (called .ensures .1 .0) (called .ensures .1 .1)
+
+returns-4 : tie.Need-returns-4
+returns-4 c =
+    let called = c .before .before .take-back in
+    let other = c .before .before .before .before in
+    let first = other .before .before in
+    ran-taking-back _ _ _ (first .before .before .if1 .left) (first .if2 .left) (other .if3 .left) _ _ (called .ensures .0) (called .ensures .1)
 
 pub run-first-spec : {M : Type 1} → statement M
 run-first-spec =
@@ -75,7 +82,11 @@ run-first-spec =
     (λ c. search needs)
     (λ c. search needs)
     returns-2
+    (λ c. search needs)
     (λ c κs. search needs)
     (λ c. search needs)
     (λ c. search needs)
-    returns-3)
+    returns-3
+    (λ c κs. search needs)
+    (λ c. search needs)
+    returns-4)

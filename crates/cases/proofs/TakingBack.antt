@@ -1,0 +1,172 @@
+-- The cases of taking back, by computing: what is long is compared by a test, which is fast. Assumes nothing.
+use mathlib.Core.Path.{_≡_, refl, sym, ap, _∙_, subst}
+use mathlib.Core.Bool.{Bool, true, false}
+use mathlib.Core.List.{List, _++_}
+use native.Mathlib.Omega.{arith}
+use lib.ListN.{replicate}
+use Rattle.base.specs.List.{someIn}
+use Rattle.base.proofs.Bytes.{same-equal}
+use Rattle.block.specs.declared.Answer.{Answer}
+use Rattle.broadcast.specs.declared.SlotRecord.{SlotRecord}
+use Rattle.table.specs.Layout.{layout}
+use Rattle.table.specs.Fresh.{nothing}
+use Rattle.admission.specs.Admission.{rowFor}
+use Rattle.interpret.specs.Buffer.{recordIn}
+use Rattle.take_back.specs.TakingBack.{takenBack}
+use Rattle.take_back.proofs.Promises.{promises}
+use Rattle.campaigns.specs.Arriving.{Arrived}
+use Rattle.agreement.specs.Ledger.{Ledger, empty}
+use Rattle.agreement.specs.Ledger.Call.{takeBack}
+use Rattle.agreement.specs.Promises.{forked, NoCollision, Interpreted}
+use Rattle.agreement.proofs.Theorem.{promised}
+use Rattle.cases.specs.Toy.{toy}
+use Rattle.cases.specs.Run.{tableAfter, Turn, callsOf, answersOf, ledgerLeft, siteLeft, zeros, echoes}
+use Rattle.cases.specs.Blocks.{sites, fresh, numbered, holding}
+use Rattle.cases.specs.Form.{marked, retiredSome}
+use Rattle.cases.specs.Arrivals.{tableOf, chain}
+use Rattle.cases.specs.Retiring.{afterFork, forkRetired}
+use Rattle.cases.specs.TakingBack.{fourMarked, TakingBackOrderCases, three, twinOf, twinsHeld, BeforeCases, LetInCases, takenBackTurns, forkTakenBack, againTakenBack, CountedCases, alike, alikeTakenBack, alikeUnknown, SharedDigestCases}
+use Rattle.cases.proofs.Toy.{toyDigest}
+use Rattle.cases.proofs.Opened.{openedLedger, openedWatch}
+use Rattle.cases.proofs.Told.{told, session, ledgerFrom, ledger-left, whole, record-told, unretired-told}
+use Rattle.cases.proofs.Premises.{lawful-setup, collision, no-collision}
+use Rattle.cases.proofs.Full.{last-placed, last-leaves}
+use Rattle.cases.proofs.Arrivals.{passing}
+
+-- what taking back is computed by
+unfoldable openedBefore : Bool
+unfolding openedWatch tableOf fourMarked three twinOf twinsHeld
+openedBefore = true
+
+unfoldable openedTurns : Bool
+unfolding openedLedger someIn forked collision afterFork forkRetired takenBackTurns forkTakenBack againTakenBack alike alikeTakenBack alikeUnknown
+openedTurns = true
+
+pub order : TakingBackOrderCases
+unfolding openedBefore
+order = record { formBeforeHeld = (refl, refl); formBeforeInterpreted = (refl, refl); heldBeforeInterpreted = (refl, refl); retiredEmpty = refl }
+
+-- ---- what is left
+
+table-before : takenBack three ≡ layout (sites 4) (record { retired = 0; held = 2; row = λ i. rowFor toy nothing (twinOf i) })
+unfolding openedBefore
+table-before = same-equal (takenBack three) (layout (sites 4) (record { retired = 0; held = 2; row = λ i. rowFor toy nothing (twinOf i) })) refl
+
+three-undone : takenBack three ≡ twinsHeld
+unfolding openedBefore
+three-undone = same-equal (takenBack three) twinsHeld refl
+
+marks-stay : takenBack (marked (marked three 0 1) 1 1) ≡ marked (marked twinsHeld 0 1) 1 1
+unfolding openedBefore
+marks-stay = same-equal (takenBack (marked (marked three 0 1) 1 1)) (marked (marked twinsHeld 0 1) 1 1) refl
+
+retired-stays : takenBack (retiredSome three) ≡ retiredSome twinsHeld
+unfolding openedBefore
+retired-stays = same-equal (takenBack (retiredSome three)) (retiredSome twinsHeld) refl
+
+down-to-empty : tableAfter toy three (replicate 3 takeBack) ≡ fresh
+unfolding openedBefore
+down-to-empty = same-equal (tableAfter toy three (replicate 3 takeBack)) fresh refl
+
+four-stays : takenBack fourMarked ≡ fourMarked
+unfolding openedBefore
+four-stays = promises .refused fourMarked (λ e. omega arith)
+
+pub beforeCases : BeforeCases
+unfolding openedBefore
+beforeCases =
+    record {
+      table = table-before;
+      undone = three-undone;
+      marksStay = marks-stay;
+      retiredStays = retired-stays;
+      fullTable = ap takenBack (sym last-leaves) ∙ promises .undone toy (toyDigest .size) (holding 63) (numbered 63) 1 (ap (λ (a : Answer). a .refusal) last-placed) .before;
+      downToEmpty = down-to-empty;
+      noFurther = refl;
+      refusedTable = four-stays;
+      named = refl;
+      notNamed = refl;
+    }
+
+two-left : takenBack (chain 3) ≡ chain 2
+unfolding openedBefore chain
+two-left = same-equal (takenBack (chain 3)) (chain 2) refl
+
+one-left : takenBack (chain 2) ≡ chain 1
+unfolding openedBefore chain
+one-left = same-equal (takenBack (chain 2)) (chain 1) refl
+
+none-left : takenBack (chain 1) ≡ fresh
+unfolding openedBefore chain
+none-left = same-equal (takenBack (chain 1)) fresh refl
+
+pub letInCases : LetInCases
+letInCases = record { letIn = ap (λ (r : Arrived). r .table) (passing .mixedPasses); oneByOne = (two-left, (one-left, none-left)) }
+
+-- ---- ledgers
+
+module _ (turns : List Turn) (e : told (sites 4) empty (callsOf turns) (answersOf turns) ≡ answersOf turns) where
+  -- what holds of the ledger computed holds of the ledger
+  is-left : ledgerLeft (sites 4) turns ≡ ledgerFrom turns
+  is-left = ledger-left (sites 4) turns lawful-setup e
+
+pub countedCases : CountedCases
+unfolding openedTurns
+countedCases =
+    record {
+      taken = session (sites 4) takenBackTurns refl refl;
+      blocks = ap (λ (l : Ledger). l .blocks) (is-left takenBackTurns refl);
+      forkTaken = session (sites 4) forkTakenBack refl refl;
+      notForked = ap (λ (l : Ledger). forked (l .blocks) 0) (is-left forkTakenBack refl);
+      againTaken = session (sites 4) againTakenBack refl refl;
+      stillForked = ap (λ (l : Ledger). forked (l .blocks) 0) (is-left againTakenBack refl);
+    }
+
+-- ---- a shared digest
+
+one-is : ledgerLeft (sites 4) alikeTakenBack ≡ ledgerFrom alikeTakenBack
+unfolding openedTurns
+one-is = is-left alikeTakenBack refl
+
+other-is : ledgerLeft (sites 4) alikeUnknown ≡ ledgerFrom alikeUnknown
+unfolding openedTurns
+other-is = is-left alikeUnknown refl
+
+no-collisions : NoCollision toy (ledgerLeft (sites 4) alikeTakenBack .blocks ++ ledgerLeft (sites 4) alikeUnknown .blocks)
+unfolding openedTurns
+no-collisions = rw (one-is, other-is) (no-collision (ledgerFrom alikeTakenBack .blocks ++ ledgerFrom alikeUnknown .blocks) refl)
+
+-- the block's place in each ledger
+one-place : Interpreted (ledgerFrom alikeTakenBack) 2
+unfolding openedTurns
+one-place = record { below = omega arith; mark = refl }
+
+other-place : Interpreted (ledgerFrom alikeUnknown) 1
+unfolding openedTurns
+other-place = record { below = omega arith; mark = refl }
+
+same-block : ledgerFrom alikeTakenBack .block 2 ≡ ledgerFrom alikeUnknown .block 1
+unfolding openedTurns
+same-block = refl
+
+echo-is : recordIn (siteLeft (sites 4) alikeTakenBack .records) 2 0 .made ≡ echoes 42
+unfolding openedTurns
+echo-is =
+    ap (λ (r : SlotRecord). r .made)
+    (record-told (sites 4) lawful-setup zeros (whole 0) (callsOf alikeTakenBack) (answersOf alikeTakenBack) refl
+    (unretired-told (sites 4) lawful-setup zeros (whole 0) (callsOf alikeTakenBack) (answersOf alikeTakenBack) refl refl) 2 0 (omega arith) one-place)
+
+pub sharedDigestCases : SharedDigestCases
+unfolding openedTurns
+sharedDigestCases =
+    record {
+      taken = session (sites 4) alikeTakenBack refl refl;
+      otherTaken = session (sites 4) alikeUnknown refl refl;
+      shared = refl;
+      different = refl;
+      noCollision = no-collisions;
+      samePart = promised toy (toyDigest .size) (sites 4) lawful-setup zeros zeros (callsOf alikeTakenBack) (callsOf alikeUnknown) .same no-collisions 2 1
+          (subst (λ (l : Ledger). Interpreted l 2) (sym one-is) one-place) (subst (λ (l : Ledger). Interpreted l 1) (sym other-is) other-place)
+          (ap (λ (l : Ledger). l .block 2) one-is ∙ same-block ∙ ap (λ (l : Ledger). l .block 1) (sym other-is));
+      echo = echo-is;
+    }

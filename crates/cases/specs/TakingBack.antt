@@ -1,0 +1,163 @@
+-- Request Twelve: the last place is taken back. n 4, owner 0. What that answers, the table that it leaves, what calls answer afterwards, and which
+-- blocks then count. The digest is the toy one.
+use mathlib.Core.Path.{_≡_}
+use mathlib.Core.Bool.{true, false}
+use mathlib.Core.List.{List, [], _∷_, _++_}
+use Prim.Native.Nat.{ℕ, zero, suc}
+use lib.ListN.{replicate}
+use Rattle.base.specs.Bytes.{Bytes, sameBytes}
+use Rattle.table.specs.View.{markedIf, View}
+use Rattle.table.specs.Layout.{layout}
+use Rattle.table.specs.Fresh.{nothing}
+use Rattle.table.specs.Checks.{answerTo, refused}
+use Rattle.admission.specs.Admission.{rowFor}
+use Rattle.interpret.specs.Buffer.{partOf, recordIn}
+use Rattle.take_back.specs.TakingBack.{takingBackChecks, takenBack}
+use Rattle.watch.specs.Forks.{forks}
+use Rattle.agreement.specs.Ledger.Call.{interpret, retire, takeBack}
+use Rattle.agreement.specs.Promises.{forked, NoCollision}
+use Rattle.cases.specs.Toy.{toy, block}
+use Rattle.cases.specs.Run.{good, placed, done, tableAfter, answers, Turn, _giving_, ledgerLeft, siteLeft, Session, echoes}
+use Rattle.cases.specs.Blocks.{sites, fresh, unlawful, first, fork, second, third, echoing, four, holding}
+use Rattle.cases.specs.Form.{marked, retiredSome}
+use Rattle.cases.specs.Starred.{chained}
+use Rattle.cases.specs.Watch.{naming}
+use Rattle.cases.specs.Arrivals.{tableOf, chain, arrives, mixture}
+use Rattle.cases.specs.Retiring.{forkRetired}
+
+-- ---- the order of the checks
+
+-- `four` with all places interpreted
+unfoldable pub fourMarked : Bytes
+fourMarked = marked (marked (marked (marked four 0 1) 1 1) 2 1) 3 1
+
+-- k places, with every row marked, those from the count on too
+abbrev pub allMarked : ℕ → View
+allMarked k = record { retired = 0; held = k; row = λ i. markedIf true (rowFor toy nothing first) }
+
+-- "32 .. 33 .. in that order after 2": a row for each two. The first call has both causes and gets the earlier number; in the second only the
+-- earlier cause is mended, and it gets the later number.
+pub record TakingBackOrderCases : Type 0 where
+  -- 2, 32: a table that holds nothing
+  pub formBeforeHeld : (answers toy unlawful (takeBack ∷ []) ≡ refused 2 0 ∷ []) × (answers toy fresh (takeBack ∷ []) ≡ refused 32 0 ∷ [])
+  -- 2, 33: the last place is interpreted, what it refers to is not, and then is
+  pub formBeforeInterpreted :
+      (answers toy (marked four 3 1) (takeBack ∷ []) ≡ refused 2 0 ∷ []) × (answers toy fourMarked (takeBack ∷ []) ≡ refused 33 0 ∷ [])
+  -- 32, 33: of no table in form can both be said, so this row is about the checks
+  pub heldBeforeInterpreted :
+      (answerTo (takingBackChecks true (allMarked 0)) 0 ≡ refused 32 0) × (answerTo (takingBackChecks true (allMarked 1)) 0 ≡ refused 33 0)
+  -- a table that has retired something and holds nothing
+  pub retiredEmpty : answers toy (retiredSome fresh) (takeBack ∷ []) ≡ refused 32 0 ∷ []
+
+-- ---- what is left
+
+-- places 0 to 2: site 3's block refers to place 1
+unfoldable pub three : Bytes
+three = tableOf (first ∷ fork ∷ third ∷ [])
+
+unfoldable pub twinOf : ℕ → Bytes
+twinOf zero = first
+twinOf (suc i) = fork
+
+-- the table of the twins alone
+unfoldable pub twinsHeld : Bytes
+twinsHeld = tableOf (first ∷ fork ∷ [])
+
+pub record BeforeCases : Type 0 where
+  -- "the table without it, all fields": every byte
+  pub table : takenBack three ≡ layout (sites 4) (record { retired = 0; held = 2; row = λ i. rowFor toy nothing (twinOf i) })
+  -- "straight after an admission that is the table before it"
+  pub undone : takenBack three ≡ twinsHeld
+  -- with what is interpreted below, and whether something has been retired, as it was
+  pub marksStay : takenBack (marked (marked three 0 1) 1 1) ≡ marked (marked twinsHeld 0 1) 1 1
+  pub retiredStays : takenBack (retiredSome three) ≡ retiredSome twinsHeld
+  -- of 64 places 63 are left
+  pub fullTable : takenBack (holding 64) ≡ holding 63
+  -- down to the empty table, and no further
+  pub downToEmpty : tableAfter toy three (replicate 3 takeBack) ≡ fresh
+  pub noFurther : answers toy three (replicate 4 takeBack) ≡ done ∷ done ∷ done ∷ refused 32 0 ∷ []
+  -- a refusal changes nothing
+  pub refusedTable : takenBack fourMarked ≡ fourMarked
+  -- the watch names a fork as long as both blocks are held
+  pub named : forks twinsHeld ≡ naming 1 1 true
+  pub notNamed : forks (takenBack twinsHeld) ≡ naming 0 0 true
+
+-- "each block let in from the shelf being an admission of its own": the chain's first block arrives and lets two in, which are taken back one by
+-- one, and then it is itself
+pub record LetInCases : Type 0 where
+  pub letIn : arrives fresh mixture 0 (chained 0) 1 .table ≡ chain 3
+  pub oneByOne : (takenBack (chain 3) ≡ chain 2) × ((takenBack (chain 2) ≡ chain 1) × (takenBack (chain 1) ≡ fresh))
+
+-- ---- afterwards
+
+unfoldable pub takenBackTurns : List Turn
+takenBackTurns =
+    takeBack giving refused 32 0
+    ∷ good first giving placed 0
+    ∷ good second giving placed 1
+    ∷ takeBack giving done
+    -- what was taken back is not held
+    ∷ good (block 0 2 (toy second ∷ []) []) giving refused 9 0
+    -- and may be admitted again
+    ∷ good second giving placed 1
+    ∷ interpret 0 giving done
+    ∷ takeBack giving done
+    -- now the last place is interpreted
+    ∷ takeBack giving refused 33 0
+    ∷ good second giving placed 1
+    ∷ interpret 1 giving done
+    ∷ takeBack giving refused 33 0
+    ∷ []
+
+-- site 0's fork is admitted, and taken back
+unfoldable pub forkTakenBack : List Turn
+forkTakenBack = good first giving placed 0 ∷ good fork giving placed 1 ∷ takeBack giving done ∷ []
+
+-- it was retired, is admitted again, and that is taken back
+unfoldable pub againTakenBack : List Turn
+againTakenBack = forkRetired ++ (good fork giving placed 2 ∷ takeBack giving done ∷ [])
+
+-- "a block counts only if some admission of it, at either site or before it was retired, was not taken back"
+pub record CountedCases : Type 0 where
+  pub taken : Session (sites 4) takenBackTurns
+  pub blocks : ledgerLeft (sites 4) takenBackTurns .blocks ≡ second ∷ first ∷ []
+  -- a fork that was taken back is none
+  pub forkTaken : Session (sites 4) forkTakenBack
+  pub notForked : forked (ledgerLeft (sites 4) forkTakenBack .blocks) 0 ≡ false
+  -- one that was admitted before, and retired, still is
+  pub againTaken : Session (sites 4) againTakenBack
+  pub stillForked : forked (ledgerLeft (sites 4) againTakenBack .blocks) 0 ≡ true
+
+-- ---- a shared digest
+
+-- a block of site 1 with the digest of `echoing 1`: it refers to the fork, and that one to the first
+unfoldable pub alike : Bytes
+alike = block 1 0 (toy fork ∷ []) []
+
+unfoldable pub alikeTakenBack : List Turn
+alikeTakenBack =
+    good first giving placed 0
+    ∷ interpret 0 giving done
+    ∷ good fork giving placed 1
+    ∷ interpret 1 giving done
+    ∷ good alike giving placed 2
+    ∷ good (echoing 1) giving refused 8 2
+    ∷ takeBack giving done
+    ∷ good (echoing 1) giving placed 2
+    ∷ interpret 2 giving done
+    ∷ []
+
+-- another site, where it never was
+unfoldable pub alikeUnknown : List Turn
+alikeUnknown = good first giving placed 0 ∷ interpret 0 giving done ∷ good (echoing 1) giving placed 1 ∷ interpret 1 giving done ∷ []
+
+-- a block that was taken back may share its digest with one that counts: the theorem's premise holds, and so does what it says
+pub record SharedDigestCases : Type 0 where
+  pub taken : Session (sites 4) alikeTakenBack
+  pub otherTaken : Session (sites 4) alikeUnknown
+  pub shared : toy alike ≡ toy (echoing 1)
+  pub different : sameBytes alike (echoing 1) ≡ false
+  pub noCollision : NoCollision toy (ledgerLeft (sites 4) alikeTakenBack .blocks ++ ledgerLeft (sites 4) alikeUnknown .blocks)
+  -- the block that counts has the same 320 numbers at both, and hears the first's SEND
+  pub samePart : partOf (siteLeft (sites 4) alikeTakenBack .records) 2 ≡ partOf (siteLeft (sites 4) alikeUnknown .records) 1
+  pub echo : recordIn (siteLeft (sites 4) alikeTakenBack .records) 2 0 .made ≡ echoes 42

@@ -1,0 +1,102 @@
+-- A taking back that passes its checks: the table shows the other places as they were, and is in form. One that is refused changes nothing. And
+-- straight after an admission it passes, and leaves the table before it. Assumes nothing.
+use mathlib.Core.Path.{_≡_, refl, sym, ap, _∙_, subst}
+use mathlib.Core.Bool.{true}
+use mathlib.Core.Logic.{_≢_}
+use Prim.Native.Nat.{ℕ, _-_, _<_}
+use native.Mathlib.Omega.{arith}
+use lib.Dec.{eqb}
+use lib.ListN.{length}
+use borrow.Author.Tests.{eqb-true, eqb-false, ne-eqb, lt-ltb, ltb-true}
+use Rattle.base.specs.Bytes.{Bytes}
+use Rattle.base.proofs.Tests.{by-test}
+use Rattle.block.specs.Limits.{referenceSize}
+use Rattle.table.specs.Layout.{setupOf, countOf, markAt, viewOf, withRow}
+use Rattle.table.specs.Form.{inForm}
+use Rattle.table.specs.Checks.{success, answerTo}
+use Rattle.table.specs.Promises.{Grown, Shows}
+use Rattle.table.proofs.Formed.{Formed, formed-of, shows-formed}
+use Rattle.table.proofs.Canonical.{Canonical}
+use Rattle.table.proofs.Checks.{numbered, AllHold, all-hold}
+use Rattle.admission.specs.Admission.{rowFor, admission, admitted}
+use Rattle.admission.proofs.Promises.{promises}
+use Rattle.take_back.specs.TakingBack.{withoutLast, withoutRow, takingBackChecks, takingBack, takenBack}
+use Rattle.take_back.specs.Promises.{Undone}
+use Rattle.take_back.proofs.Left.{held-left, left-shows, left-canonical}
+use Rattle.take_back.proofs.Undone.{row-undone}
+
+module _ (t : Bytes) (e : takingBack t .refusal ≡ 0) where
+  passes : AllHold (takingBackChecks (inForm t) (viewOf t))
+  unfolding takingBack numbered
+  passes = all-hold (takingBackChecks (inForm t) (viewOf t)) 0 refl e
+
+  formed : Formed t
+  formed = formed-of t (passes .0)
+
+  pub some : 0 < countOf t
+  some = ltb-true 0 (countOf t) (passes .1 .0)
+
+  table-passed : takenBack t ≡ withoutRow t
+  unfolding takenBack
+  table-passed = rw e
+
+  pub shows : Shows (setupOf t) (withoutLast (viewOf t)) (takenBack t)
+  shows = subst (Shows (setupOf t) (withoutLast (viewOf t))) (sym table-passed) (left-shows t (formed .size) some (formed .held .fits) (formed .zeros))
+
+  form-left : inForm (takenBack t) ≡ true
+  form-left = shows-formed (setupOf t) (withoutLast (viewOf t)) _ shows (held-left (setupOf t) (viewOf t) (formed .held))
+
+  canonical-left : Canonical t → Canonical (takenBack t)
+  canonical-left c = subst Canonical (sym table-passed) (left-canonical t (formed .size) some (formed .held .fits) (formed .zeros) c)
+
+-- ---- passed or refused
+
+module _ (t : Bytes) where
+  pub refused : takingBack t .refusal ≢ 0 → takenBack t ≡ t
+  unfolding takenBack
+  refused n = rw (ne-eqb (takingBack t .refusal) 0 n)
+
+  either : (P : Bytes → Type 0) → P t → (takingBack t .refusal ≡ 0 → P (takenBack t)) → P (takenBack t)
+  either P was now = by-test (eqb (takingBack t .refusal) 0)
+      (λ y. now (eqb-true (takingBack t .refusal) 0 y))
+      (λ n. subst P (sym (refused (eqb-false (takingBack t .refusal) 0 n))) was)
+
+  pub kept : inForm t ≡ true → inForm (takenBack t) ≡ true
+  kept f = either (λ (x : Bytes). inForm x ≡ true) f (form-left t)
+
+  pub taken-canonical : Canonical t → Canonical (takenBack t)
+  taken-canonical c = either Canonical c (λ e. canonical-left t e c)
+
+-- ---- straight after an admission
+
+goes : (t : Bytes) → inForm t ≡ true → 0 < countOf t → markAt t (countOf t - 1) ≡ 0 → takingBack t ≡ success 0
+unfolding takingBack answerTo
+goes t f h m = rw (f, lt-ltb 0 (countOf t) h, m)
+
+module _ (digest : Bytes → Bytes) (sized : (b : Bytes) → length (digest b) ≡ referenceSize) (t b : Bytes) (verdict : ℕ)
+    (e : admission digest t b verdict .refusal ≡ 0) where
+  abbrev t′ : Bytes
+  t′ = admitted digest t b verdict
+
+  grown : Grown t t′ (rowFor digest (viewOf t) b)
+  grown = promises digest sized .shown t b verdict e
+
+  was : inForm t ≡ true
+  was = promises digest sized .causes t b verdict .none .0 e .0 .linked .isNew .readable .formed
+
+  passes-back : takingBack t′ ≡ success 0
+  passes-back =
+      let last : countOf t′ - 1 ≡ countOf t = omega (arith, grown .count) in
+      goes t′ (promises digest sized .kept t b verdict was) (omega (arith, grown .count)) (ap (markAt t′) last ∙ grown .here .mark)
+
+  with-row : t′ ≡ withRow t (rowFor digest (viewOf t) b)
+  unfolding admitted
+  with-row = rw e
+
+  pub undone : Undone t t′
+  undone =
+      record {
+        passes = passes-back;
+        before = table-passed t′ (ap (λ a. a .refusal) passes-back) ∙ ap withoutRow with-row
+            ∙ row-undone t (rowFor digest (viewOf t) b) (formed-of t was .size) (promises digest sized .causes t b verdict .none .0 e .1) (sized b) (formed-of t was .zeros);
+      }

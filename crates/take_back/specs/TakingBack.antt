@@ -1,0 +1,39 @@
+-- Request Twelve: "Taking back the last place gives the table without it, all fields". The checks are made over a view, so that a ledger makes the
+-- same ones.
+use mathlib.Core.Bool.{Bool, cond, not}
+use mathlib.Core.List.{List, [], _∷_}
+use Prim.Native.Nat.{ℕ, _-_}
+use lib.Dec.{eqb, ltb}
+use lib.ListN.{replicate}
+use Rattle.base.specs.Bytes.{Bytes, splice}
+use Rattle.block.specs.declared.Answer.{Answer}
+use Rattle.table.specs.View.{interpreted, View}
+use Rattle.table.specs.Layout.{countOffset, rowSize, rowStart, countOf, viewOf}
+use Rattle.table.specs.Form.{inForm}
+use Rattle.table.specs.Checks.{Check, check, answerTo}
+
+-- ---- what is left
+
+-- all places but the last; whether something has been retired stays
+abbrev pub withoutLast : View → View
+withoutLast v = record { retired = v .retired; held = v .held - 1; row = v .row }
+
+-- the table with zeros at its last place, in every field, and the count one less
+unfoldable pub withoutRow : Bytes → Bytes
+withoutRow t = splice (splice t (rowStart (countOf t - 1)) (replicate rowSize 0)) countOffset ((countOf t - 1) ∷ [])
+
+-- ---- the call
+
+-- 2: table not in form; 32: "no block held"; 33: "the last place is interpreted"
+abbrev pub takingBackChecks : Bool → View → List Check
+takingBackChecks formed v =
+    check 2 formed 0
+    ∷ check 32 (ltb 0 (v .held)) 0
+    ∷ check 33 (not (interpreted (v .row (v .held - 1)))) 0
+    ∷ []
+
+unfoldable pub takingBack : Bytes → Answer
+takingBack t = answerTo (takingBackChecks (inForm t) (viewOf t)) 0
+
+unfoldable pub takenBack : Bytes → Bytes
+takenBack t = cond (eqb (takingBack t .refusal) 0) (withoutRow t) t
