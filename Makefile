@@ -36,7 +36,7 @@ JOINS = $(patsubst %,bench/%.c,timing joiners layout same_joins chance campaigns
 BENCH_HEADERS = $(wildcard bench/*.h bench/baseline_rust/*.h) $(C_BASELINE_HEADERS) $(HEADERS)
 
 # What the device calls, what a controller of four campaigns does, and what a join takes.
-DEVICE_CALLS = gt_fresh gt_admit gt_interpret gt_retire gt_forks gt_ancestors gt_build gt_digest gt_read_block
+DEVICE_CALLS = gt_fresh gt_admit gt_interpret gt_retire gt_take_back gt_forks gt_ancestors gt_build gt_digest gt_read_block
 CONTROLLER_CALLS = $(DEVICE_CALLS) gt_arrive gt_shelf_in_form
 JOIN_CALLS = gt_join
 
@@ -102,7 +102,7 @@ uninstall:
 	DESTDIR='$(DESTDIR)' tools/install.sh uninstall '$(PREFIX)'
 
 # What the host tests run.
-test-programs: host $(HOST)/digests $(HOST)/calls $(HOST)/core_calls $(HOST)/record_calls $(HOST)/watch_calls $(HOST)/shelf_calls $(HOST)/join_calls $(HOST)/retire_calls $(HOST)/two_campaigns $(HOST)/two_controllers $(HOST)/long_campaign harness
+test-programs: host $(HOST)/digests $(HOST)/calls $(HOST)/core_calls $(HOST)/record_calls $(HOST)/watch_calls $(HOST)/shelf_calls $(HOST)/join_calls $(HOST)/retire_calls $(HOST)/take_back_calls $(HOST)/two_campaigns $(HOST)/two_controllers $(HOST)/long_campaign $(HOST)/wrong_campaign harness
 
 # Cargo itself sees whether the harness's sources or the library changed.
 harness: prerequisites $(LIBRARY)
@@ -136,10 +136,10 @@ $(HOST)/dome: host/dome.c host/giangotum.h $(LIBRARY) | $(HOST)
 $(HOST)/digests $(HOST)/calls: $(HOST)/%: host/tests/%.c host/tests/checks.h host/giangotum.h $(LIBRARY) | $(HOST)
 	$(CC) $(CFLAGS) -Ihost -o $@ $< $(LIBRARY)
 
-$(HOST)/core_calls $(HOST)/record_calls $(HOST)/watch_calls $(HOST)/shelf_calls $(HOST)/join_calls $(HOST)/retire_calls: $(HOST)/%: host/tests/%.c $(wildcard host/tests/*.h) $(HEADERS) $(LIBRARY) | $(HOST)
+$(HOST)/core_calls $(HOST)/record_calls $(HOST)/watch_calls $(HOST)/shelf_calls $(HOST)/join_calls $(HOST)/retire_calls $(HOST)/take_back_calls: $(HOST)/%: host/tests/%.c $(wildcard host/tests/*.h) $(HEADERS) $(LIBRARY) | $(HOST)
 	$(CC) $(CFLAGS) -Ihost -o $@ $< $(LIBRARY)
 
-$(HOST)/two_campaigns $(HOST)/two_controllers $(HOST)/long_campaign: $(HOST)/%: examples/%.c $(HEADERS) $(LIBRARY) | $(HOST)
+$(HOST)/two_campaigns $(HOST)/two_controllers $(HOST)/long_campaign $(HOST)/wrong_campaign: $(HOST)/%: examples/%.c $(HEADERS) $(LIBRARY) | $(HOST)
 	$(CC) $(CFLAGS) $(ONLY_REACHED) -Ihost -o $@ $< $(LIBRARY)
 
 # Cargo leaves a file that needn't change, and its time would then be taken for old.

@@ -1,5 +1,6 @@
 /* Whole campaigns, ours against the baselines: a fresh table, then 64 blocks, each admitted and interpreted; and with all
- * blocks but the last of each site retired. And the form check of the full table, which begins every call on it.
+ * blocks but the last of each site retired; or admitted alone, and all taken back. And the form check of the full table, which
+ * begins every call on it.
  * It prints what it measures and judges no speed. A difference between two answers or records ends it with status 1. */
 #include <stdio.h>
 
@@ -9,10 +10,11 @@
 
 enum { CAMPAIGNS = 10, FORM_CHECKS = 2000, RANDOM_CALLS = 100000 };
 
-/* What is timed of a campaign: all its admissions, or its interpretations too, or its retirings as well. */
+/* What is timed of a campaign beside all its admissions: its interpretations, the retirings after these, or the takings back
+ * where nothing is interpreted. */
 typedef struct {
     const campaign *of;
-    bool interpreted, retired;
+    bool interpreted, retired, taken_back;
 } timed_campaign;
 
 /* Whether nothing was refused. */
@@ -28,6 +30,8 @@ static bool runs(const implementation *of, const timed_campaign *timed)
     }
     for (size_t left = GT_MAX_PLACES; timed->retired && left > c->sites; left--)
         all = of->retire().refusal == 0 && all;
+    for (size_t left = GT_MAX_PLACES; timed->taken_back && left > 0; left--)
+        all = of->take_back().refusal == 0 && all;
     return all;
 }
 
@@ -54,15 +58,17 @@ static void compare_campaign(const campaign *c)
 {
     expect_same(c);
     comparison form = compare(check_form_often, NULL);
-    comparison admitted = compare(run_often, &(timed_campaign){c, false, false});
-    comparison run = compare(run_often, &(timed_campaign){c, true, false});
-    comparison retired = compare(run_often, &(timed_campaign){c, true, true});
+    comparison admitted = compare(run_often, &(timed_campaign){.of = c});
+    comparison run = compare(run_often, &(timed_campaign){.of = c, .interpreted = true});
+    comparison retired = compare(run_often, &(timed_campaign){.of = c, .interpreted = true, .retired = true});
+    comparison taken_back = compare(run_often, &(timed_campaign){.of = c, .taken_back = true});
 
     puts("");
     print_columns(c->name, "us");
     print_microseconds("64 blocks admitted and interpreted", &run, CAMPAIGNS);
     print_microseconds("64 blocks admitted", &admitted, CAMPAIGNS);
     print_microseconds("the first, and all that can be retired", &retired, CAMPAIGNS);
+    print_microseconds("the second, and all taken back", &taken_back, CAMPAIGNS);
     print_microseconds("form of the full table", &form, FORM_CHECKS);
 }
 
@@ -74,9 +80,8 @@ int main(void)
     ordinary = ordinary_campaign();
     puts("Whole campaigns: the proved core (ours) against C and Rust, each with its own table and SHA-256.");
     puts("A campaign is a fresh table and 64 blocks. Every block refers to all blocks of the round before.");
-    printf("Before timing, each of the three runs the campaign, with refused calls among it, and %d random calls; all answers\n",
-           RANDOM_CALLS);
-    puts("and all 20,480 numbers of the records are compared.");
+    puts("Before timing, each of the three runs the campaign, with refused calls and takings back among it, and");
+    printf("%d random calls; all answers and all 20,480 numbers of the records are compared.\n", RANDOM_CALLS);
     printf("Measured in CPU time: medians of %d repetitions, each a batch of %d campaigns or %d form checks of each in turn,\n",
            REPETITIONS, CAMPAIGNS, FORM_CHECKS);
     puts("after a batch of each to warm up. Making the table fresh is in the time; the record buffers are not cleared between");

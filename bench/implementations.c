@@ -33,6 +33,8 @@ static gt_answer our_interpret(size_t place)
 
 static gt_answer our_retire(void) { return gt_retire(our_table, sizeof our_table, our_records, GT_RECORDS_NUMBERS); }
 
+static gt_answer our_take_back(void) { return gt_take_back(our_table, sizeof our_table); }
+
 /* ---- The one in C */
 
 static baseline_table c_table;
@@ -58,6 +60,8 @@ static gt_answer c_interpret(size_t place)
 }
 
 static gt_answer c_retire(void) { return from_c(baseline_retire(&c_table, c_records, RECORDS_NUMBERS)); }
+
+static gt_answer c_take_back(void) { return from_c(baseline_take_back(&c_table)); }
 
 /* ---- The one in Rust */
 
@@ -88,9 +92,11 @@ static gt_answer interpret_in_rust(size_t place)
 
 static gt_answer retire_in_rust(void) { return from_rust(rust_retire(the_rust_table, rust_records, RECORDS_NUMBERS)); }
 
+static gt_answer take_back_in_rust(void) { return from_rust(rust_take_back(the_rust_table)); }
+
 const implementation implementations[IMPLEMENTATIONS] = {
-    [OURS] = {"ours", our_digest, our_fresh, our_in_form, our_admit, our_interpret, our_retire, our_records},
-    [IN_C] = {"C", baseline_sha256, c_fresh, c_in_form, c_admit, c_interpret, c_retire, c_records},
+    [OURS] = {"ours", our_digest, our_fresh, our_in_form, our_admit, our_interpret, our_retire, our_take_back, our_records},
+    [IN_C] = {"C", baseline_sha256, c_fresh, c_in_form, c_admit, c_interpret, c_retire, c_take_back, c_records},
     [IN_RUST] = {"Rust", rust_digest, fresh_in_rust, in_form_in_rust, admit_in_rust, interpret_in_rust, retire_in_rust,
-                 rust_records},
+                 take_back_in_rust, rust_records},
 };

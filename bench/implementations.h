@@ -12,6 +12,7 @@ typedef struct {
     gt_answer (*admit)(const uint8_t *block, size_t length, uint8_t verdict);
     gt_answer (*interpret)(size_t place);
     gt_answer (*retire)(void);
+    gt_answer (*take_back)(void);
     const uint16_t *records;
 } implementation;
 

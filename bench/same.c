@@ -19,9 +19,21 @@ static void expect_answer(const implementation *of, gt_answer answer, uint8_t re
     expect_of(of, answer.refusal == refusal && answer.value == value, message);
 }
 
+/* The campaign so far is empty or interpreted, and nothing of it is taken back. The block that comes next is. */
+static void expect_taken_back(const implementation *of, const built_block *b, size_t place)
+{
+    uint8_t refusal = place == 0 ? 32 : 33;
+
+    expect_answer(of, of->take_back(), refusal, 0, "the last place of the campaign so far was taken back");
+    expect_answer(of, of->admit(b->bytes, b->length, 1), 0, place, "a block of the campaign was not admitted at its place");
+    expect_answer(of, of->take_back(), 0, 0, "a block that was just admitted was not taken back");
+    expect_of(of, of->in_form(), "a table without its last block is not in form");
+}
+
 /* The block of a place, first in ways that are refused, then as it is, then once more. */
 static void expect_place(const implementation *of, const built_block *b, size_t place)
 {
+    expect_taken_back(of, b, place);
     expect_answer(of, of->interpret(place), 13, 0, "a place without a block was interpreted");
     expect_answer(of, of->admit(b->bytes, b->length - 1, 1), 3, 0, "a block without its last byte was admitted");
     expect_answer(of, of->admit(b->bytes, b->length, 0), 5, 0, "a block with verdict 0 was admitted");

@@ -1,5 +1,6 @@
 /* The three implementations answer alike on random campaigns. The campaigns that are timed hear whole rounds at once; here
- * quorums come together piece by piece, sites fork, places wait for others, and blocks leave and come again. */
+ * quorums come together piece by piece, sites fork, places wait for others, and blocks leave, the oldest or the last, and come
+ * again. */
 #include <string.h>
 
 #include "chance.h"
@@ -11,8 +12,13 @@ enum { CALLS_IN_A_CAMPAIGN = 200 };
 
 static known_blocks held;
 static built_block blocks[GT_MAX_PLACES]; /* those held, by place */
-static built_block gone;                  /* the last one that left */
-static size_t retired, came_again;
+
+/* The ways by which blocks leave: the last block that did, and how many did and came again. */
+enum { RETIRED, TAKEN_BACK, WAYS };
+static struct {
+    built_block last;
+    size_t left, came_again;
+} gone[WAYS];
 
 static void expect_alike(gt_answer ours, gt_answer other)
 {
@@ -28,13 +34,13 @@ static void interpret_on_all(size_t place)
 }
 
 /* A block that left is not one that others are built on. */
-static void forget_first(void)
+static void forget(size_t place, size_t way)
 {
-    gone = blocks[0];
+    gone[way].last = blocks[place];
+    gone[way].left++;
     held.count--;
-    memmove(held.blocks, held.blocks + 1, held.count * sizeof held.blocks[0]);
-    memmove(blocks, blocks + 1, held.count * sizeof blocks[0]);
-    retired++;
+    memmove(held.blocks + place, held.blocks + place + 1, (held.count - place) * sizeof held.blocks[0]);
+    memmove(blocks + place, blocks + place + 1, (held.count - place) * sizeof blocks[0]);
 }
 
 static void retire_on_all(void)
@@ -44,13 +50,24 @@ static void retire_on_all(void)
     for (size_t i = IN_C; i < IMPLEMENTATIONS; i++)
         expect_alike(ours, implementations[i].retire());
     if (ours.refusal == 0)
-        forget_first();
+        forget(0, RETIRED);
+}
+
+static void take_back_on_all(void)
+{
+    gt_answer ours = implementations[OURS].take_back();
+
+    for (size_t i = IN_C; i < IMPLEMENTATIONS; i++)
+        expect_alike(ours, implementations[i].take_back());
+    if (ours.refusal == 0)
+        forget(held.count - 1, TAKEN_BACK);
 }
 
 static void admit_on_all(void)
 {
-    bool again = gone.length > 0 && one_in(12), damaged = one_in(20);
-    built_block block = again ? gone : some_block(&held);
+    size_t way = below(WAYS);
+    bool again = gone[way].last.length > 0 && one_in(12), damaged = one_in(20);
+    built_block block = again ? gone[way].last : some_block(&held);
 
     if (damaged)
         damage(&block);
@@ -59,7 +76,7 @@ static void admit_on_all(void)
     for (size_t i = IN_C; i < IMPLEMENTATIONS; i++)
         expect_alike(ours, implementations[i].admit(block.bytes, block.length, verdict));
     if (ours.refusal == 0) {
-        came_again += again && !damaged;
+        gone[way].came_again += again && !damaged;
         blocks[held.count] = block;
         know(&held, &block);
         if (!one_in(4))
@@ -73,7 +90,8 @@ static void start_campaign(void)
 
     held.sites = some_sites();
     held.count = 0;
-    gone.length = 0;
+    for (size_t way = 0; way < WAYS; way++)
+        gone[way].last.length = 0;
     for (size_t slot = 0; slot < GT_SLOTS; slot++)
         owners[slot] = (uint8_t)below(held.sites);
     for (size_t i = 0; i < IMPLEMENTATIONS; i++)
@@ -89,11 +107,14 @@ void expect_same_at_random(size_t calls)
         }
         if (one_in(5))
             retire_on_all();
+        else if (one_in(8))
+            take_back_on_all();
         else if (one_in(3))
             interpret_on_all(below(held.count + 1));
         else
             admit_on_all();
     }
     expect_same_records();
-    expect(retired > 0 && came_again > 0, "no block left and came again");
+    for (size_t way = 0; way < WAYS; way++)
+        expect(gone[way].left > 0 && gone[way].came_again > 0, "no block left in one of the two ways and came again");
 }

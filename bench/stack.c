@@ -221,6 +221,12 @@ static uint8_t call_retire(const input *in)
     return gt_retire(lent.bytes, sizeof lent.bytes, records, in->room).refusal;
 }
 
+static uint8_t call_take_back(const input *in)
+{
+    (void)in;
+    return gt_take_back(lent.bytes, sizeof lent.bytes).refusal;
+}
+
 static uint8_t call_forks(const input *in)
 {
     (void)in;
@@ -426,6 +432,23 @@ static void measure_retire(void)
     MEASURE("gt_retire", call_retire, inputs);
 }
 
+static void measure_take_back(void)
+{
+    /* The first place, the last, of a table with forks and of one with nothing interpreted; then the refusals. */
+    const input inputs[] = {
+        {.table = &admitted[0]},
+        {.table = &admitted[LAST_PLACE]},
+        {.table = &forked},
+        {.table = &bare},
+        {.table = &out_of_form, .refusal = 2},
+        {.table = &reached[0], .refusal = 32},
+        {.table = FULL, .refusal = 33},
+        {.table = &aged, .refusal = 33},
+    };
+
+    MEASURE("gt_take_back", call_take_back, inputs);
+}
+
 static void measure_forks(void)
 {
     const input inputs[] = {
@@ -468,15 +491,16 @@ static void measure_build(void)
     MEASURE("gt_build", call_build, inputs);
 }
 
-/* An admission and an interpretation, both of the last block, and a retiring. */
+/* An admission, an interpretation and a taking back, all of the last block, and a retiring. */
 static void measure_replay(void)
 {
     uint8_t admission[10 + GT_MAX_BLOCK_BYTES] = {0, 1, GT_MAX_BLOCK_BYTES % 256, GT_MAX_BLOCK_BYTES / 256};
-    const uint8_t interpretation[9] = {1, LAST_PLACE}, retiring[1] = {2};
+    const uint8_t interpretation[9] = {1, LAST_PLACE}, retiring[1] = {2}, taking_back[1] = {3};
     const input inputs[] = {
         {.table = &reached[LAST_PLACE], .bytes = admission, .length = sizeof admission},
         {.table = &admitted[LAST_PLACE], .bytes = interpretation, .length = sizeof interpretation},
         {.table = FULL, .bytes = retiring, .length = sizeof retiring},
+        {.table = &admitted[LAST_PLACE], .bytes = taking_back, .length = sizeof taking_back},
     };
 
     memcpy(admission + 10, busy.blocks[LAST_PLACE].bytes, GT_MAX_BLOCK_BYTES);
@@ -589,6 +613,7 @@ int main(void)
     measure_admit();
     measure_interpret();
     measure_retire();
+    measure_take_back();
     measure_forks();
     measure_ancestors();
     measure_build();

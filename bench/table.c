@@ -1,6 +1,6 @@
-/* What the form check of a full table costs, an admission at its last place, the interpretation of that place, a retiring, the
- * watch and a block built from it, as ratios to the digest of the longest block and to the admission. Every call on a table
- * begins with the form check, and every admission has such a digest in it.
+/* What the form check of a full table costs, an admission at its last place, the interpretation of that place, a retiring, a
+ * taking back, the watch and a block built from it, as ratios to the digest of the longest block and to the admission. Every
+ * call on a table begins with the form check, and every admission has such a digest in it.
  * It prints what it measures and judges no speed. An answer other than the expected one ends it with status 1. */
 #include <stdio.h>
 #include <string.h>
@@ -49,7 +49,7 @@ static bool call_admit(void)
     return answer.refusal == 0 && answer.value == LAST_PLACE;
 }
 
-/* The mark is taken back before each interpretation, by a copy that is in the time. */
+/* The mark is cleared before each interpretation, by a copy that is in the time. */
 static bool call_interpret(void)
 {
     memcpy(lent, unmarked, GT_TABLE_BYTES);
@@ -61,6 +61,13 @@ static bool call_retire(void)
 {
     memcpy(lent, full, GT_TABLE_BYTES);
     return gt_retire(lent, GT_TABLE_BYTES, moving, GT_RECORDS_NUMBERS).refusal == 0;
+}
+
+/* The block is put back before each taking back, by a copy that is in the time. */
+static bool call_take_back(void)
+{
+    memcpy(lent, unmarked, GT_TABLE_BYTES);
+    return gt_take_back(lent, GT_TABLE_BYTES).refusal == 0;
 }
 
 static bool call_forks(void)
@@ -85,7 +92,7 @@ static bool call_build(void)
     return answer.refusal == 0 && answer.value == GT_MAX_BLOCK_BYTES;
 }
 
-enum { DIGEST, IN_FORM, ADMIT, INTERPRET, RETIRE, FORKS, ANCESTORS, BUILD, KINDS };
+enum { DIGEST, IN_FORM, ADMIT, INTERPRET, RETIRE, TAKE_BACK, FORKS, ANCESTORS, BUILD, KINDS };
 
 static const struct {
     const char *name;
@@ -96,6 +103,7 @@ static const struct {
     [ADMIT] = {"gt_admit, at place 63", call_admit},
     [INTERPRET] = {"gt_interpret, of place 63", call_interpret},
     [RETIRE] = {"gt_retire, of 64 places", call_retire},
+    [TAKE_BACK] = {"gt_take_back, of place 63", call_take_back},
     [FORKS] = {"gt_forks, 64 places", call_forks},
     [ANCESTORS] = {"gt_ancestors, of place 63", call_ancestors},
     [BUILD] = {"gt_build, 541 bytes", call_build},
@@ -129,16 +137,16 @@ int main(void)
     time_in_turn(KINDS, timings, call_often, NULL);
 
     puts("A full table: its form check, the admission that fills it, the interpretation of its last place, the retiring of its");
-    puts("first, the watch and a block of 541 bytes built from it, against the digest of a block of 541 bytes and against that");
-    puts("admission.");
+    puts("first, the taking back of its last, the watch and a block of 541 bytes built from it, against the digest of a block of");
+    puts("541 bytes and against that admission.");
     puts("The table has 16 sites and 64 blocks: four rounds, each block with references to all 16 of the round before; the");
     puts("last block hears 16 sites in all eight slots.");
     printf("Measured in CPU time: medians of %d repetitions, each a batch of %d calls of each kind in turn, after a batch\n",
            REPETITIONS, CALLS);
-    printf("of each to warm up. Before each admission, interpretation and retiring the table is put back; that copy of %d\n",
+    puts("of each to warm up. Before each admission, interpretation, retiring and taking back the table is put back; that copy");
+    printf("of %d bytes is counted with it. The record buffer is not cleared. A ratio is the median of the ratios within\n",
            GT_TABLE_BYTES);
-    puts("bytes is counted with it. The record buffer is not cleared. A ratio is the median of the ratios within the");
-    puts("repetitions.");
+    puts("the repetitions.");
     puts("");
     puts("call                         microseconds  digests admissions");
     for (size_t kind = 0; kind < KINDS; kind++)

@@ -189,8 +189,9 @@ CRATES = {
     "watch": (1.25, "forks, ancestors"),
     "interpret": (3, "what a block says"),
     "campaigns": (0, "a block arrives, or waits"),
-    "build": (1, "a site's next block"),
-    "retire": (2, "the oldest block leaves the table"),
+    "take_back": (0.75, "the last block leaves the table"),
+    "build": (1.5, "a site's next block"),
+    "retire": (2.25, "the oldest block leaves the table"),
     "join": (3, "two controllers made one"),
     "agreement": (1, "the theorem of two sites"),
     "report": (0, "the listing, step by step"),
@@ -207,11 +208,11 @@ HOST = {
     "harness": (0.5, "independent model in Rust", ["c_interface", "listing"]),
     "dome.c": (1.5, "control program in C", ["c_interface"]),
 }
-CRATE_WIDTH, CRATE_HEIGHT = 182, 54
+CRATE_WIDTH, CRATE_HEIGHT = 156, 54
 COLUMN = (WIDTH - 4 * MARGIN - CRATE_WIDTH) / 3
 LAYER = 90
 BEFORE_HOST = 24  # more than between layers
-LONGEST_LINE = 25  # characters
+LONGEST_LINE = 22  # characters
 TURN = "matrix(0 1 1 0 0 0)"  # exchanges x and y
 
 

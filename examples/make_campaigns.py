@@ -47,6 +47,20 @@ def four_sites():
     return night.stream()
 
 
+def another_night():
+    """The same four sites in another campaign: all refer to all blocks of the round before, and deliver in the fourth round."""
+    night = Campaign(sites=4, owners=[0, 1, 2, 3, 0, 1, 2, 3])
+    night.site(0).requests(977, slot=4)
+    night.site(1)
+    night.site(2).requests(3, slot=6)
+    night.site(3)
+    for _ in range(3):
+        before = list(night.newest.values())
+        for site in range(4):
+            night.site(site).refers_to(*before)
+    return night.stream()
+
+
 def refusals():
     """Every refusal that a listing can show of an arrival."""
     night = Campaign(sites=4, owners=[0, 1, 2, 3, 0, 1, 2, 3])
@@ -91,7 +105,7 @@ def unlawful():
     return night.stream()
 
 
-CAMPAIGNS = {"chain": chain, "four_sites": four_sites, "refusals": refusals, "unlawful": unlawful}
+CAMPAIGNS = {"chain": chain, "four_sites": four_sites, "another_night": another_night, "refusals": refusals, "unlawful": unlawful}
 
 
 if __name__ == "__main__":

@@ -1,6 +1,7 @@
 /* The table and the records of a campaign, for C and C++ programs that keep them: an empty table, its form, admission,
- * interpretation, retiring, the watch for forks, a site's next block, a whole list of calls at once; for programs that follow
- * up to four campaigns, arrivals with a shelf on which blocks wait for what they refer to; and the joining of two controllers.
+ * interpretation, retiring, taking back, the watch for forks, a site's next block, a whole list of calls at once; for programs
+ * that follow up to four campaigns, arrivals with a shelf on which blocks wait for what they refer to; and the joining of two
+ * controllers.
  *
  * Link with libc_interface.a (`make host` builds it), or with -lgiangotum where it is installed. Every function here is
  * proved to meet its contract for all bytes, all lengths and all numbers: none crashes, none reads or writes outside the
@@ -124,6 +125,15 @@ gt_answer gt_interpret(uint8_t *table, size_t table_length, size_t place, uint16
  *       no held, interpreted block of greater sequence number. */
 gt_answer gt_retire(uint8_t *table, size_t table_length, uint16_t *records, size_t records_length);
 
+/* Takes back the block at the last place, one that was admitted by mistake: its row becomes zero in every field, and the count
+ * one less. No other byte changes, so straight after an admission the table is the one before it; after an arrival that let k
+ * waiting blocks in, k + 1 calls give the table before it. Whether something has been retired stays, and a block that had
+ * waited on a shelf does not return there. The same block may be admitted again. The value is 0.
+ *   2: the table is not in form;
+ *   32: no block is held;
+ *   33: the last place is interpreted. */
+gt_answer gt_take_back(uint8_t *table, size_t table_length);
+
 /* The sites with two held blocks of one sequence number; a retired block is not held. The table is only read.
  *   2: the table is not in form. */
 gt_forked_sites gt_forks(const uint8_t *table, size_t table_length);
@@ -148,11 +158,12 @@ gt_ancestor_places gt_ancestors(const uint8_t *table, size_t table_length, size_
 gt_answer gt_build(const uint8_t *table, size_t table_length, uint8_t site, const uint8_t *requests, size_t requests_length,
                    uint8_t *output, size_t output_length);
 
-/* Runs an encoded list of calls, one after the other, as if gt_admit, gt_interpret and gt_retire had been called, and gives
- * how many ran. A call is
+/* Runs an encoded list of calls, one after the other, as if gt_admit, gt_interpret, gt_retire and gt_take_back had been called,
+ * and gives how many ran. A call is
  *   0, verdict, length of the block (8 bytes, low byte first), the block's bytes: an admission;
- *   1, place (8 bytes, low byte first): an interpretation; or
- *   2: a retiring.
+ *   1, place (8 bytes, low byte first): an interpretation;
+ *   2: a retiring; or
+ *   3: a taking back.
  * A call that is cut, or that begins with another byte, ends the list. The answer of call i is put at answers[2 * i]
  * (refusal) and answers[2 * i + 1] (value) where both are within the buffer; all other elements stay. It refuses nothing. */
 size_t gt_replay(uint8_t *table, size_t table_length, uint16_t *records, size_t records_length, const uint8_t *calls,

@@ -1,6 +1,6 @@
-/* The core of document 01 in plain C, unproved, with the shelf that up to four campaigns share, the join of two tables and
- * retiring: what the proved library is measured against. It shares nothing with the library: not the layout of the table or the
- * shelf, not SHA-256.
+/* The core of document 01 in plain C, unproved, with the shelf that up to four campaigns share, the join of two tables,
+ * retiring and taking back: what the proved library is measured against. It shares nothing with the library: not the layout of
+ * the table or the shelf, not SHA-256.
  *
  * A caller lends a table, a record buffer and a shelf, as with the library. The form check stands at the start of every
  * call on a table, since document 01 asks for it there, and that of the shelf at the start of every arrival. */
@@ -53,7 +53,9 @@ enum {
     OTHER_BLOCK = 24,
     TOO_MANY = 25,
     NOT_TO_RETIRE = 29,
-    HAS_RETIRED = 31
+    HAS_RETIRED = 31,
+    NOTHING_HELD = 32,
+    LAST_INTERPRETED = 33
 };
 
 typedef struct {
@@ -120,6 +122,9 @@ baseline_answer baseline_interpret(baseline_table *table, size_t place, uint16_t
 
 /* Checks 2, 12, 13 and 29, then the block at place 0 leaves, and all others with their parts move down by one place. */
 baseline_answer baseline_retire(baseline_table *table, uint16_t *records, size_t numbers);
+
+/* Checks 2, 32 and 33, then the block at the last place leaves. */
+baseline_answer baseline_take_back(baseline_table *table);
 
 bool baseline_shelf_in_form(const baseline_shelf *shelf);
 

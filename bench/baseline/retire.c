@@ -1,4 +1,4 @@
-/* Retiring. */
+/* Blocks that leave a table: the oldest by retiring, the last by taking back. */
 #include "inner.h"
 
 /* Whether place 0 and all blocks that refer to it are interpreted, and its site has a later one that is. */
@@ -40,5 +40,18 @@ baseline_answer baseline_retire(baseline_table *table, uint16_t *records, size_t
     move_rows(table);
     memmove(records, records + PART_NUMBERS, table->count * PART_NUMBERS * sizeof *records);
     table->retired = 1;
+    return answer(NONE, 0);
+}
+
+baseline_answer baseline_take_back(baseline_table *table)
+{
+    if (!baseline_in_form(table))
+        return answer(NOT_IN_FORM, 0);
+    if (table->count == 0)
+        return answer(NOTHING_HELD, 0);
+    if (table->rows[table->count - 1].interpreted)
+        return answer(LAST_INTERPRETED, 0);
+    table->count--;
+    memset(table->rows + table->count, 0, sizeof *table->rows);
     return answer(NONE, 0);
 }

@@ -23,5 +23,6 @@ bool rust_in_form(const rust_table *table);
 rust_answer rust_admit(rust_table *table, const uint8_t *block, size_t length, uint8_t verdict);
 rust_answer rust_interpret(rust_table *table, size_t place, uint16_t *records, size_t numbers);
 rust_answer rust_retire(rust_table *table, uint16_t *records, size_t numbers);
+rust_answer rust_take_back(rust_table *table);
 
 #endif

@@ -160,6 +160,14 @@ static inline table chain(uint8_t sites, uint16_t blocks)
     return t;
 }
 
+/* Document 01's chain, which a site alone makes: its first block requests 7 in slot 0. */
+static inline block example_block(uint16_t sequence)
+{
+    block b = block_of(0, sequence);
+
+    return sequence == 0 ? with_request(b, 0, 7) : referring_to(b, example_block((uint16_t)(sequence - 1)));
+}
+
 /* ---- Admission, on exact copies. What the call left in its copy of the table is put back. */
 
 static inline gt_answer admit_of_length(table *t, size_t table_length, block b, uint8_t verdict)

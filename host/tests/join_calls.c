@@ -61,8 +61,8 @@ static gt_answer join_of_lengths(side *left, const side *right, buffer *third, l
     give_back(lent_right, right->table.bytes, l.right);
     give_back(lent_left_records, left->records.numbers, 2 * l.left_records);
     give_back(lent_right_records, right->records.numbers, 2 * l.right_records);
-    take_back(left->table.bytes, lent_left, l.left);
-    take_back(third->numbers, lent_third, 2 * l.third);
+    take_over(left->table.bytes, lent_left, l.left);
+    take_over(third->numbers, lent_third, 2 * l.third);
     return answer;
 }
 
@@ -563,13 +563,6 @@ static void check_records(void)
 }
 
 /* ---- Document 01's chain of four at two controllers: n is 1, and the first block requests 7 in slot 0. */
-
-static block example_block(uint16_t sequence)
-{
-    block b = block_of(0, sequence);
-
-    return sequence == 0 ? with_request(b, 0, 7) : referring_to(b, example_block((uint16_t)(sequence - 1)));
-}
 
 /* A controller that got so many of the blocks and interpreted so many. */
 static side example(uint16_t blocks, size_t places)

@@ -17,7 +17,7 @@ static inline void give_back(void *lent, const void *bytes, size_t length)
 }
 
 /* Ends the loan of bytes that may have changed, and takes over what they are now. */
-static inline void take_back(void *to, void *lent, size_t length)
+static inline void take_over(void *to, void *lent, size_t length)
 {
     if (length > 0)
         memcpy(to, lent, length);

@@ -3,6 +3,8 @@
 #define LISTS_H
 
 #include "campaigns.h"
+#include "lent.h"
+#include "records.h"
 
 typedef struct {
     uint8_t bytes[8192];
@@ -33,6 +35,27 @@ static inline void put_interpretation(list *l, uint64_t place)
 static inline void put_retiring(list *l)
 {
     l->bytes[l->length++] = 2;
+}
+
+static inline void put_taking_back(list *l)
+{
+    l->bytes[l->length++] = 3;
+}
+
+/* Replays the first bytes of a list, on exact copies, and gives how many calls ran. What the calls left is put back. */
+static inline size_t replay(table *t, buffer *b, const list *l, size_t length, uint64_t *answers, size_t answers_length)
+{
+    uint8_t *lent_table = exact_copy(t->bytes, GT_TABLE_BYTES), *lent_calls = exact_copy(l->bytes, length);
+    uint16_t *lent_records = exact_copy(b->numbers, 2 * GT_RECORDS_NUMBERS);
+    uint64_t *lent_answers = exact_copy(answers, 8 * answers_length);
+    size_t ran = gt_replay(lent_table, GT_TABLE_BYTES, lent_records, GT_RECORDS_NUMBERS, lent_calls, length, lent_answers,
+                           answers_length);
+
+    give_back(lent_calls, l->bytes, length);
+    take_over(t->bytes, lent_table, GT_TABLE_BYTES);
+    take_over(b->numbers, lent_records, 2 * GT_RECORDS_NUMBERS);
+    take_over(answers, lent_answers, 8 * answers_length);
+    return ran;
 }
 
 #endif

@@ -1,10 +1,8 @@
 /* Calls retiring at the edges of what it takes, and the other calls on tables that have retired something. Writes a line for
  * each check, and ends with exit status 1 if one fails. All that is lent lies in an allocation of its own length, so that
  * valgrind sees an access past its end. */
-#include "campaigns.h"
-#include "lent.h"
 #include "lists.h"
-#include "records.h"
+#include "sides.h"
 
 #include <stdio.h>
 #include <stdlib.h>
@@ -13,32 +11,7 @@
 /* The entry of a record that has what is delivered. */
 enum { DELIVERED = 3 };
 
-/* What a record buffer has where nothing was written. */
-enum { UNTOUCHED = 99 };
-
-/* ---- Retirings, on exact copies. What a call left is put back. */
-
-/* A controller's table and records. */
-typedef struct {
-    table table;
-    buffer records;
-} side;
-
-static gt_answer retire_of_lengths(side *s, size_t bytes, size_t numbers)
-{
-    uint8_t *lent_table = exact_copy(s->table.bytes, bytes);
-    uint16_t *lent_records = exact_copy(s->records.numbers, 2 * numbers);
-    gt_answer answer = gt_retire(lent_table, bytes, lent_records, numbers);
-
-    take_back(s->table.bytes, lent_table, bytes);
-    take_back(s->records.numbers, lent_records, 2 * numbers);
-    return answer;
-}
-
-static gt_answer retire(side *s)
-{
-    return retire_of_lengths(s, GT_TABLE_BYTES, GT_RECORDS_NUMBERS);
-}
+/* ---- What is seen of a retiring */
 
 /* Each place's part has a number of its own. */
 static buffer numbered_parts(void)
@@ -48,11 +21,6 @@ static buffer numbered_parts(void)
     for (size_t i = 0; i < GT_RECORDS_NUMBERS; i++)
         b.numbers[i] = (uint16_t)(1000 + i / GT_PART_NUMBERS);
     return b;
-}
-
-static bool same_side(const side *x, const side *y)
-{
-    return same(&x->table, &y->table) && same_numbers(&x->records, &y->records);
 }
 
 /* Refused, with nothing changed. */
@@ -93,26 +61,6 @@ static table with_count(table t, uint8_t count)
 {
     t.bytes[COUNT] = count;
     return t;
-}
-
-static table having_retired(table t, uint8_t whether)
-{
-    t.bytes[RETIRED] = whether;
-    return t;
-}
-
-/* These places are interpreted, and no others. */
-static table interpreted(table t, uint64_t places)
-{
-    for (size_t place = 0; place < GT_MAX_PLACES; place++)
-        row(&t, place)[MARK] = (uint8_t)(places >> place & 1);
-    return t;
-}
-
-/* All places that hold a block are interpreted. */
-static table whole(table t)
-{
-    return interpreted(t, t.bytes[COUNT] == 64 ? UINT64_MAX : ((uint64_t)1 << t.bytes[COUNT]) - 1);
 }
 
 static table with_references(table t, size_t place, uint64_t places)
@@ -220,12 +168,6 @@ static void check_lengths(void)
 }
 
 /* ---- 29: each of its causes by itself, and what comes near to one */
-
-/* Another block of site 0 with sequence number 0. */
-static block twin_block(void)
-{
-    return with_request(block_of(0, 0), 3, 7);
-}
 
 static table twins_alone(void)
 {
@@ -359,24 +301,6 @@ static void check_left(void)
 }
 
 /* ---- A chain that goes on: n is 1, and the first block requests 7 in slot 0 */
-
-static block example_block(uint16_t sequence)
-{
-    block b = block_of(0, sequence);
-
-    return sequence == 0 ? with_request(b, 0, 7) : referring_to(b, example_block((uint16_t)(sequence - 1)));
-}
-
-static bool hold(side *s, block b, size_t place)
-{
-    return is(admit(&s->table, b), 0, place)
-        && is(gt_interpret(s->table.bytes, GT_TABLE_BYTES, place, s->records.numbers, GT_RECORDS_NUMBERS), 0, 0);
-}
-
-static side fresh_side(uint8_t sites)
-{
-    return (side){empty_table(sites), of_number(UNTOUCHED)};
-}
 
 /* A chain of so many blocks, of which at most so many are held. */
 static side example(uint16_t blocks, size_t most)
@@ -526,7 +450,7 @@ static gt_answer build(table t, uint8_t site, size_t requests_length, uint8_t *o
 
     give_back(lent_table, t.bytes, GT_TABLE_BYTES);
     give_back(lent_requests, requests, requests_length);
-    take_back(output, lent_output, output_length);
+    take_over(output, lent_output, output_length);
     return answer;
 }
 
@@ -595,7 +519,7 @@ static bool not_joined(table left, table right, size_t numbers, uint8_t refusal)
                                records.numbers, GT_RECORDS_NUMBERS, third.numbers, numbers);
 
     give_back(lent_right, right.bytes, GT_TABLE_BYTES);
-    take_back(left.bytes, lent_left, GT_TABLE_BYTES);
+    take_over(left.bytes, lent_left, GT_TABLE_BYTES);
     return is(answer, refusal, 0) && same(&left, &before) && same_numbers(&third, &third_before);
 }
 
@@ -663,46 +587,34 @@ static side one_by_one(void)
     return s;
 }
 
-static size_t replay(side *s, const list *l, size_t length, uint64_t *answers, size_t answers_length)
-{
-    uint8_t *lent_table = exact_copy(s->table.bytes, GT_TABLE_BYTES), *lent_calls = exact_copy(l->bytes, length);
-    uint16_t *lent_records = exact_copy(s->records.numbers, 2 * GT_RECORDS_NUMBERS);
-    size_t ran = gt_replay(lent_table, GT_TABLE_BYTES, lent_records, GT_RECORDS_NUMBERS, lent_calls, length, answers,
-                           answers_length);
-
-    give_back(lent_calls, l->bytes, length);
-    take_back(s->table.bytes, lent_table, GT_TABLE_BYTES);
-    take_back(s->records.numbers, lent_records, 2 * GT_RECORDS_NUMBERS);
-    return ran;
-}
-
 static bool replayed(void)
 {
     list l = with_retirings();
     side s = fresh_side(1), wanted = one_by_one();
-    uint64_t answers[2 * CALLS];
+    uint64_t answers[2 * CALLS] = {0};
 
-    return replay(&s, &l, l.length, answers, 2 * CALLS) == CALLS && same_side(&s, &wanted)
+    return replay(&s.table, &s.records, &l, l.length, answers, 2 * CALLS) == CALLS && same_side(&s, &wanted)
         && memcmp(answers, wanted_answers, sizeof answers) == 0;
 }
 
 /* A retiring is one byte: it is never cut, and the byte after it begins a call. */
 static bool single_bytes(void)
 {
-    list l = {.bytes = {2, 2, 2, 3, 2}, .length = 5};
+    list l = {.bytes = {2, 2, 2, 4, 2}, .length = 5};
     side s = {whole(chain(1, 3)), numbered_parts()}, wanted = s;
     uint64_t answers[10] = {[6] = UNTOUCHED};
 
     retire(&wanted);
     retire(&wanted);
-    return replay(&s, &l, l.length, answers, 10) == 3 && same_side(&s, &wanted) && answers[0] == 0 && answers[2] == 0
-        && answers[4] == 29 && answers[6] == UNTOUCHED && replay(&s, &l, 1, answers, 0) == 1;
+    return replay(&s.table, &s.records, &l, l.length, answers, 10) == 3 && same_side(&s, &wanted) && answers[0] == 0
+        && answers[2] == 0 && answers[4] == 29 && answers[6] == UNTOUCHED
+        && replay(&s.table, &s.records, &l, 1, answers, 0) == 1;
 }
 
 static void check_replay(void)
 {
     check("replay, retirings among other calls", replayed());
-    check("replay, bytes 2 and 3", single_bytes());
+    check("replay, bytes 2 and 4", single_bytes());
 }
 
 int main(void)

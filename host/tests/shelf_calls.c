@@ -124,9 +124,9 @@ static gt_arrival arrive_of_lengths(state *s, lengths l, uint8_t campaign, block
                                   lent_outcomes, l.outcomes);
 
     give_back(lent_block, b.bytes, b.length);
-    take_back(s->table.bytes, lent_table, l.table);
-    take_back(s->shelf.bytes, lent_shelf, l.shelf);
-    take_back(s->outcomes, lent_outcomes, 8 * l.outcomes);
+    take_over(s->table.bytes, lent_table, l.table);
+    take_over(s->shelf.bytes, lent_shelf, l.shelf);
+    take_over(s->outcomes, lent_outcomes, 8 * l.outcomes);
     return answer;
 }
 

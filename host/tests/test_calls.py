@@ -1,7 +1,8 @@
 """The library's calls at the edges of what they take: calls.c, core_calls.c, record_calls.c, watch_calls.c, shelf_calls.c,
-join_calls.c and retire_calls.c here."""
+join_calls.c, retire_calls.c and take_back_calls.c here."""
 
-from programs import CALLS, CORE_CALLS, JOIN_CALLS, RECORD_CALLS, RETIRE_CALLS, SHELF_CALLS, WATCH_CALLS, expect_all_ok
+from programs import (CALLS, CORE_CALLS, JOIN_CALLS, RECORD_CALLS, RETIRE_CALLS, SHELF_CALLS, TAKE_BACK_CALLS, WATCH_CALLS,
+                      expect_all_ok)
 
 
 def test_digest_and_reading():
@@ -30,3 +31,7 @@ def test_joining():
 
 def test_retiring():
     expect_all_ok(RETIRE_CALLS)
+
+
+def test_taking_back():
+    expect_all_ok(TAKE_BACK_CALLS)

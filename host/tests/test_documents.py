@@ -16,7 +16,7 @@ def test_the_theorems_are_quoted_word_for_word():
               crates / "controller" / "specs" / "Promises.antt", crates / "joined" / "specs" / "Promises.antt"]
     sources = [path.read_text(encoding="utf-8") for path in stated]
     quoted = re.findall(r"```antt\n(.*?)```", page, re.DOTALL)
-    expect(len(quoted) == 19, f"{len(quoted)} quotations")
+    expect(len(quoted) == 20, f"{len(quoted)} quotations")
     for text in quoted:
         expect(any(text in source for source in sources), text)
 

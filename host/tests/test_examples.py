@@ -2,7 +2,8 @@
 
 import make_arrivals
 import make_campaigns
-from programs import LONG_CAMPAIGN, ROOT, TWO_CAMPAIGNS, TWO_CONTROLLERS, dome, expect, expect_same_lines, listing, output_of
+from programs import (LONG_CAMPAIGN, ROOT, TWO_CAMPAIGNS, TWO_CONTROLLERS, WRONG_CAMPAIGN, dome, expect, expect_same_lines, listing,
+                      output_of)
 from reference import text_of
 
 EXAMPLES = ROOT / "examples"
@@ -11,6 +12,8 @@ EXPECTED = (EXAMPLES / "arrivals.expected").read_text(encoding="ascii")
 TWO_CAMPAIGNS_LINES = (EXAMPLES / "two_campaigns.expected").read_text(encoding="ascii")
 TWO_CONTROLLERS_LINES = (EXAMPLES / "two_controllers.expected").read_text(encoding="ascii")
 LONG_CAMPAIGN_LINES = (EXAMPLES / "long_campaign.expected").read_text(encoding="ascii")
+WRONG_CAMPAIGN_LINES = (EXAMPLES / "wrong_campaign.expected").read_text(encoding="ascii")
+WRONG_CAMPAIGN_COMMAND = [WRONG_CAMPAIGN, *(str(EXAMPLES / f"{name}.campaign") for name in ("four_sites", "another_night"))]
 CAMPAIGNS = {name: (EXAMPLES / f"{name}.campaign").read_bytes() for name in make_campaigns.CAMPAIGNS}
 LISTINGS = {name: (EXAMPLES / f"{name}.listing").read_text(encoding="ascii") for name in make_campaigns.CAMPAIGNS}
 
@@ -33,6 +36,10 @@ def test_two_controllers_writes_the_stored_lines():
 
 def test_long_campaign_writes_the_stored_lines():
     expect_same_lines(output_of([LONG_CAMPAIGN]), LONG_CAMPAIGN_LINES)
+
+
+def test_wrong_campaign_writes_the_stored_lines():
+    expect_same_lines(output_of(WRONG_CAMPAIGN_COMMAND), WRONG_CAMPAIGN_LINES)
 
 
 def test_the_stored_arrivals_are_the_described_ones():

@@ -5,7 +5,8 @@ from programs import ROOT, output_of
 # Calls of each header, so that what it declares can be used.
 HEADERS = {"giangotum.h": "gt_read_block(0, 0).answer.refusal",
            "giangotum_core.h": "gt_in_form(0, 0) + gt_shelf_in_form(0, 0) + (int)gt_arrive(0, 0, 0, 0, 4, 0, 0, 1, 0, 0).ended"
-                               " + gt_join(0, 0, 0, 0, 0, 0, 0, 0, 0, 0).refusal + gt_retire(0, 0, 0, 0).refusal"}
+                               " + gt_join(0, 0, 0, 0, 0, 0, 0, 0, 0, 0).refusal + gt_retire(0, 0, 0, 0).refusal"
+                               " + gt_take_back(0, 0).refusal"}
 WARNINGS = ["-Wall", "-Wextra", "-Wpedantic", "-Werror", "-fsyntax-only"]
 
 # The layouts of docs/FORMATS.md; and the most places that a campaign holds are those that the others' reserved ones leave.

@@ -4,10 +4,11 @@ import random
 
 import bad_inputs
 import generate
-from programs import (CALLS, CORE_CALLS, DOME, JOIN_CALLS, LONG_CAMPAIGN, RECORD_CALLS, RETIRE_CALLS, SHELF_CALLS, TWO_CAMPAIGNS,
-                      TWO_CONTROLLERS, VALGRIND, WATCH_CALLS, digests, dome, expect, expect_same_lines, output_of, run)
+from programs import (CALLS, CORE_CALLS, DOME, JOIN_CALLS, LONG_CAMPAIGN, RECORD_CALLS, RETIRE_CALLS, SHELF_CALLS, TAKE_BACK_CALLS,
+                      TWO_CAMPAIGNS, TWO_CONTROLLERS, VALGRIND, WATCH_CALLS, digests, dome, expect, expect_same_lines, output_of, run)
 from reference import text_of
-from test_examples import ARRIVALS, LONG_CAMPAIGN_LINES, TWO_CAMPAIGNS_LINES, TWO_CONTROLLERS_LINES
+from test_examples import (ARRIVALS, LONG_CAMPAIGN_LINES, TWO_CAMPAIGNS_LINES, TWO_CONTROLLERS_LINES, WRONG_CAMPAIGN_LINES,
+                           WRONG_CAMPAIGN_COMMAND)
 
 
 def expect_clean(stream):
@@ -58,6 +59,10 @@ def test_retire_calls():
     output_of([*VALGRIND, RETIRE_CALLS])
 
 
+def test_take_back_calls():
+    output_of([*VALGRIND, TAKE_BACK_CALLS])
+
+
 def test_two_campaigns():
     expect_same_lines(output_of([*VALGRIND, TWO_CAMPAIGNS]), TWO_CAMPAIGNS_LINES)
 
@@ -68,6 +73,10 @@ def test_two_controllers():
 
 def test_long_campaign():
     expect_same_lines(output_of([*VALGRIND, LONG_CAMPAIGN]), LONG_CAMPAIGN_LINES)
+
+
+def test_wrong_campaign():
+    expect_same_lines(output_of([*VALGRIND, *WRONG_CAMPAIGN_COMMAND]), WRONG_CAMPAIGN_LINES)
 
 
 def test_digests():

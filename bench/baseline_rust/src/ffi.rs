@@ -75,6 +75,11 @@ pub unsafe extern "C" fn rust_retire(table: &mut Table, records: *mut u16, numbe
     raw(table.retire(records_of(records, numbers)).map(|()| 0))
 }
 
+#[no_mangle]
+pub extern "C" fn rust_take_back(table: &mut Table) -> RawAnswer {
+    raw(table.take_back().map(|()| 0))
+}
+
 /// None for a buffer of another length. A record is 40 numbers of 16 bits and nothing else.
 unsafe fn records_of<'a>(records: *mut u16, numbers: usize) -> Option<&'a mut Records> {
     (numbers == RECORDS_NUMBERS).then(|| &mut *records.cast::<Records>())

@@ -1,4 +1,4 @@
-//! Retiring.
+//! Blocks that leave a table: the oldest by retiring, the last by taking back.
 
 use crate::answer::{refuse, Answer};
 use crate::interpretation::Records;
@@ -32,6 +32,20 @@ impl Table {
         self.rows[self.count] = Row::EMPTY;
         self.rows[..self.count].iter_mut().for_each(|row| row.references >>= 1);
         self.retired = true;
+        Ok(())
+    }
+
+    /// Checks 2, 32 and 33, then the block at the last place leaves.
+    pub fn take_back(&mut self) -> Answer<()> {
+        if !self.in_form() {
+            return refuse(2);
+        }
+        let Some(last) = self.count.checked_sub(1) else { return refuse(32) };
+        if self.rows[last].interpreted {
+            return refuse(33);
+        }
+        self.rows[last] = Row::EMPTY;
+        self.count = last;
         Ok(())
     }
 }

@@ -1,6 +1,6 @@
 // What programs in C call: here the digest, and block reading with the entries of a block's two lists; in core.rt the table, the records, retiring,
-// taking back, the watch, building, arrivals and joining. Promises: each call here answers and leaves what specs/Calls.antt says, and each of the core is the
-// one that it names, for all bytes and numbers. Assumes: the C program lends what the headers in host/ ask for.
+// taking back, the watch, building, arrivals and joining. Promises: each call here answers and leaves what specs/Calls.antt says, and each of the
+// core is the one that it names, for all bytes and numbers. Assumes: the C program lends what the headers in host/ ask for.
 pub mod core;
 
 use block::Answer;
