@@ -13,6 +13,7 @@ use Rattle.table.specs.Fresh.{nothing}
 use Rattle.admission.specs.Admission.{rowFor}
 use Rattle.interpret.specs.Buffer.{recordIn}
 use Rattle.take_back.specs.TakingBack.{takenBack}
+use Rattle.take_back.specs.Promises.{UndoneBy}
 use Rattle.take_back.proofs.Promises.{promises}
 use Rattle.campaigns.specs.Arriving.{Arrived}
 use Rattle.agreement.specs.Ledger.{Ledger, empty}
@@ -72,6 +73,12 @@ four-stays : takenBack fourMarked ≡ fourMarked
 unfolding openedBefore
 four-stays = promises .refused fourMarked (λ e. omega arith)
 
+-- 64 rows are not computed: their last one is the admission of the 64th block
+full-undone : takenBack (holding 64) ≡ holding 63
+unfolding UndoneBy
+full-undone =
+    ap takenBack (sym last-leaves) ∙ promises .undone toy (toyDigest .size) (holding 63) (numbered 63) 1 (ap (λ (a : Answer). a .refusal) last-placed) .1
+
 pub beforeCases : BeforeCases
 unfolding openedBefore
 beforeCases =
@@ -80,7 +87,7 @@ beforeCases =
       undone = three-undone;
       marksStay = marks-stay;
       retiredStays = retired-stays;
-      fullTable = ap takenBack (sym last-leaves) ∙ promises .undone toy (toyDigest .size) (holding 63) (numbered 63) 1 (ap (λ (a : Answer). a .refusal) last-placed) .before;
+      fullTable = full-undone;
       downToEmpty = down-to-empty;
       noFurther = refl;
       refusedTable = four-stays;

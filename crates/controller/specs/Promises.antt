@@ -3,12 +3,11 @@
 use mathlib.Core.Path.{_≡_}
 use mathlib.Core.Bool.{true}
 use mathlib.Core.List.{List, []}
-use Prim.Native.Nat.{ℕ, zero, suc, _+_}
+use Prim.Native.Nat.{ℕ, suc, _+_}
 use Rattle.base.specs.Bytes.{Bytes, sameBytes}
 use Rattle.base.specs.List.{countIn}
 use Rattle.setup.specs.Setup.{Setup}
-use Rattle.table.specs.Checks.{success}
-use Rattle.take_back.specs.TakingBack.{takingBack, takenBack}
+use Rattle.take_back.specs.Promises.{UndoneBy}
 use Rattle.agreement.specs.Ledger.{Call, takeBack}
 use Rattle.agreement.specs.Run.{siteAfter}
 use Rattle.agreement.specs.Promises.{siteWith, Promised}
@@ -77,11 +76,6 @@ module _ (digest : Bytes → Bytes) where
       pub secondArrives : Arrival digest s (buffers₂ c) (plainCalls setups₂ buffers₂ calls₂ c)
 
 -- ---- taking back
-
--- so many takings back, one after the other, pass and lead from one table to another
-unfoldable pub UndoneBy : ℕ → Bytes → Bytes → Type 0
-UndoneBy zero t t′ = t ≡ t′
-UndoneBy (suc k) t t′ = (takingBack t ≡ success 0) × UndoneBy k (takenBack t) t′
 
 -- at any controller, an arrival for a campaign that was admitted
 pub record ArrivalUndone (digest : Bytes → Bytes) (x : Controller) (c : ℕ) (b : Bytes) (verdict room : ℕ) : Type 0 where

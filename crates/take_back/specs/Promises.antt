@@ -1,8 +1,10 @@
 -- What taking back promises beyond its two equations; proofs/Promises.antt shows it.
 use mathlib.Core.Path.{_≡_}
-use mathlib.Core.Bool.{true, false}
+use mathlib.Core.Bool.{true, false, cond}
 use mathlib.Core.Logic.{_↔_, _≢_}
-use Prim.Native.Nat.{ℕ, _-_, _<_}
+use mathlib.Core.List.{List, [], _∷_}
+use Prim.Native.Nat.{ℕ, zero, suc, _+_, _-_, _<_}
+use lib.Dec.{eqb}
 use lib.ListN.{length}
 use Rattle.base.specs.Bytes.{Bytes}
 use Rattle.block.specs.Limits.{referenceSize}
@@ -25,10 +27,28 @@ pub record Causes (t : Bytes) : Type 0 where
   pub thirtyThree : (takingBack t .refusal ≡ 33) ↔ (SomeHeld t × (markAt t (countOf t - 1) ≡ 1))
   pub none : (takingBack t .refusal ≡ 0) ↔ (SomeHeld t × (markAt t (countOf t - 1) ≢ 1))
 
--- "straight after an admission that is the table before it": the call passes, and leaves all bytes of that table
-pub record Undone (t t′ : Bytes) : Type 0 where
-  pub passes : takingBack t′ ≡ success 0
-  pub before : takenBack t′ ≡ t
+-- ---- what is undone
+
+-- so many takings back, one after the other, pass and lead from one table to another, all bytes
+unfoldable pub UndoneBy : ℕ → Bytes → Bytes → Type 0
+UndoneBy zero t t′ = t ≡ t′
+UndoneBy (suc k) t t′ = (takingBack t ≡ success 0) × UndoneBy k (takenBack t) t′
+
+-- a block, and the link's verdict on it
+pub record Brought : Type 0 where
+  pub block : Bytes
+  pub verdict : ℕ
+
+module _ (digest : Bytes → Bytes) where
+  -- the table after blocks were brought, one after the other, and how many of them were admitted
+  unfoldable pub loaded : Bytes → List Brought → Bytes
+  loaded t [] = t
+  loaded t (b ∷ bs) = loaded (admitted digest t (b .block) (b .verdict)) bs
+
+  unfoldable pub admittedOf : Bytes → List Brought → ℕ
+  admittedOf t [] = 0
+  admittedOf t (b ∷ bs) =
+      cond (eqb (admission digest t (b .block) (b .verdict) .refusal) 0) 1 0 + admittedOf (admitted digest t (b .block) (b .verdict)) bs
 
 pub record Promises : Type 0 where
   pub causes : (t : Bytes) → Causes t
@@ -38,6 +58,10 @@ pub record Promises : Type 0 where
   pub shown : (t : Bytes) → takingBack t .refusal ≡ 0 → Shows (setupOf t) (withoutLast (viewOf t)) (takenBack t)
   -- form is kept
   pub kept : (t : Bytes) → inForm t ≡ true → inForm (takenBack t) ≡ true
-  -- an admission is undone, by whatever digest of 32 bytes, on any table
+  -- "straight after an admission that is the table before it", on any table, by whatever digest of 32 bytes
   pub undone : (digest : Bytes → Bytes) → ((b : Bytes) → length (digest b) ≡ referenceSize) → (t b : Bytes) (verdict : ℕ)
-      → admission digest t b verdict .refusal ≡ 0 → Undone t (admitted digest t b verdict)
+      → admission digest t b verdict .refusal ≡ 0 → UndoneBy 1 (admitted digest t b verdict) t
+  -- "Observers load the wrong campaign's file": whatever it brought, refused blocks among it, as many takings back as it had blocks admitted leave
+  -- nothing of it
+  pub fileUndone : (digest : Bytes → Bytes) → ((b : Bytes) → length (digest b) ≡ referenceSize) → (t : Bytes) (file : List Brought)
+      → UndoneBy (admittedOf digest t file) (loaded digest t file) t
