@@ -11,12 +11,14 @@ GROUPS = 4_000
 SHELVES = 4_000
 JOINS = 4_000
 RETIRINGS = 4_000
+TAKINGS_BACK = 10_000
 LONG = 4
-FEWEST_MUTANTS = 1_310
+FEWEST_MUTANTS = 1_410
 # 1 is no answer of admission: it is for a setup.
 ANSWERS = {"gt_admit": {0, *range(2, 12)}, "gt_interpret": {0, 2, 12, 13, 14, 15}, "gt_retire": {0, 2, 12, 13, 29},
-           "gt_forks": {0, 2}, "gt_ancestors": {0, 2, 13}, "gt_build": {0, 2, 3, 4, 6, 16, 17, 30},
-           "gt_arrive": {0, *range(2, 12), 17, 19, 20, 21}, "gt_join": {0, 2, 12, 23, 24, 25, 31}}
+           "gt_take_back": {0, 2, 32, 33}, "gt_forks": {0, 2}, "gt_ancestors": {0, 2, 13},
+           "gt_build": {0, 2, 3, 4, 6, 16, 17, 30}, "gt_arrive": {0, *range(2, 12), 17, 19, 20, 21},
+           "gt_join": {0, 2, 12, 23, 24, 25, 31}}
 # What else must have been met: else the comparison shows little.
 MET = ["campaigns with a slot delivered at both sites", "up to f forked: two numbers sent, one delivered",
        "blocks interpreted at both sites", "tables watched with f forked sites", "tables watched with f + 1 forked sites",
@@ -26,7 +28,8 @@ MET = ["campaigns with a slot delivered at both sites", "up to f forked: two num
        "blocks built with one more left than fit", "blocks built of 541 bytes", "blocks built on a full table",
        "blocks built into an output of their length", "blocks built into a longer output", "outputs too short by one byte",
        "sites forked below their greatest number alone", "built blocks admitted", "built blocks refused with 8",
-       "built blocks refused with 11", "groups with the premises met at some site", "met with forked sites held there"]
+       "built blocks refused with 11", "groups with the premises met at some site", "met with forked sites held there",
+       "takings back by sites that never retire"]
 # How often groups must have met the premises of arrival: else little is shown of the promise.
 FEWEST_MET = {"groups with the premises met at some site": 3_000, "met with forked sites held there": 1_200,
               "met with just n - f full sites": 1_500}
@@ -48,7 +51,9 @@ SHELVED = ["shelves in form", "shelves not in form", "shelves with each bit flip
            "20 where no place is left", "20 with a full shelf"]
 # How often campaigns must have been made once more alone: else little is shown of their independence.
 FEWEST_ALONE = {"campaigns replayed alone": 2_000, "campaigns replayed alone that got 19": 700,
-                "campaigns replayed alone with waiting blocks ended": 800, "campaigns replayed alone that retired": 120}
+                "campaigns replayed alone with waiting blocks ended": 800, "campaigns replayed alone that retired": 120,
+                "campaigns replayed alone that took back": 400, "blocks let in from the shelf taken back": 1_000,
+                "arrivals taken back with all that they let in": 400}
 # What joins must have met.
 JOINED = [*(f"joins of {sides}" for sides in (
               "overlapping sides", "a right inside the left", "a left inside the right", "equal sides",
@@ -83,6 +88,26 @@ FEWEST_RETIRED = {"blocks that have left admitted again": 5_000, "blocks that ha
                   "blocks that have left interpreted again": 5_000, "campaigns with retirings at both sites": 1_000,
                   "campaigns with other numbers of retirings": 1_000, "campaigns with retirings and a delivery at both": 300,
                   "campaigns with retirings and 1 to f forked sites": 300, "campaigns with a forked site that no watch names": 100}
+# How often such campaigns must have taken blocks back: else little is shown of which blocks count.
+FEWEST_TAKEN_BACK = {"admissions taken back straight away": 5_000, "blocks taken back after other calls": 5_000,
+                     "blocks admitted again after they were taken back": 5_000,
+                     "blocks that came again after a retiring taken back": 400,
+                     "blocks taken back that would have been a fork": 3_000, "campaigns with takings back at both sites": 600,
+                     "campaigns with takings back and a delivery at both": 180,
+                     "campaigns with takings back and retirings at both": 400,
+                     "campaigns with a fork only in blocks taken back": 600,
+                     "campaigns with f exceeded only by blocks taken back": 400,
+                     "campaigns with a fork that one site took back": 30}
+# What single takings back must have met, and how many were put into lists beside their admissions.
+TAKEN_BACK = ["2 for a table without a block to take back", "2 for a table whose last place is interpreted",
+              "32 for a table that has retired nothing", "32 for an empty table that has retired something",
+              "33 for a single block", "33 for a full table", "33 with an open block below the last",
+              *(f"takings back {which}" for which in (
+                  "from a full table", "that leave no block", "with an interpreted place below",
+                  "of a block that could be interpreted", "from a table that has retired something")),
+              "tables of several blocks taken back down to empty"]
+FEWEST_PUT_IN = {"admissions put into lists with their takings back": 5_000,
+                 "blocks put into lists that admit them next": 1_000}
 # The same of listings. Their tables are in form, so that no arrival is answered 2.
 LISTED = [*(f"arrivals answered {number}" for number in (0, *range(3, 12))),
           "listings of no bytes", "listings of a short setup", "listings of an unlawful setup", "listings without an arrival",
@@ -162,8 +187,14 @@ def test_joins():
 
 
 def test_retirings():
-    """Two sites that retire at different times, each beside a ledger of every block ever admitted, and single retirings."""
-    expect_no_difference("retirings", RETIRINGS, "gt_retire", RETIRED, FEWEST_RETIRED)
+    """Two sites that retire at different times and take back, each beside a ledger of every block ever admitted, and single
+    retirings."""
+    expect_no_difference("retirings", RETIRINGS, "gt_retire", RETIRED, {**FEWEST_RETIRED, **FEWEST_TAKEN_BACK})
+
+
+def test_takings_back():
+    """Single ones, and lists that leave the same with admissions put in, each taken back straight away."""
+    expect_no_difference("takings-back", TAKINGS_BACK, "gt_take_back", TAKEN_BACK, FEWEST_PUT_IN)
 
 
 def test_long_campaigns():
@@ -172,6 +203,7 @@ def test_long_campaigns():
     expect(last_line(text) == f"{LONG} cases, 0 differences", text)
     expect_met(text, ["blocks of long campaigns"], LONG * 10_000)
     expect_met(text, ["retirings in long campaigns with a full table"], 10_000)
+    expect_met(text, ["takings back in long campaigns"], 4_000)
 
 
 def test_the_last_sequence_number():

@@ -16,6 +16,7 @@ pub enum Call {
     Admission(Sent),
     Interpretation(usize),
     Retiring,
+    TakingBack,
 }
 
 #[derive(Clone, Debug, PartialEq, Eq)]
@@ -48,6 +49,7 @@ pub fn alone(compare: &mut Compare, start: &Lent, story: &Story, number: u8) -> 
             Call::Admission(sent) => plain(compare.admit(&mut sides, &sent.block, sent.verdict)?),
             Call::Interpretation(place) => plain(compare.interpret(&mut sides, *place)?),
             Call::Retiring => plain(compare.retire(&mut sides)?),
+            Call::TakingBack => plain(compare.take_back(&mut sides)?),
         });
     }
     let Lent { table, records, shelf, .. } = sides.expected;

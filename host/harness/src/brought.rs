@@ -1,10 +1,10 @@
 //! One arrival for a campaign with a shelf: the call compared, and what there was before and after it put together.
 
-use crate::answer::Answer;
+use crate::answer::{Answer, ArrivalAnswer};
 use crate::arrivals::Sent;
 use crate::calls::Calls;
 use crate::compare::{Compare, Difference};
-use crate::lent::Sides;
+use crate::lent::{Lent, Sides};
 use crate::model::Model;
 use crate::random::Random;
 use crate::sha256::sha256;
@@ -34,6 +34,8 @@ pub struct Brought {
     pub plain: Option<Plain>,
     /// If the arrival was let in: what admission answers to each block that still waits for the campaign.
     pub still: Vec<Answer>,
+    /// Of some arrivals that were let in.
+    pub taken_back: Option<TakenBack>,
 }
 
 /// The same admissions made plainly, one by one and without a shelf: of the arrival, then of each block that ended.
@@ -46,6 +48,15 @@ pub struct Plain {
     pub all_known: bool,
 }
 
+/// The arrival and all that it let in taken back, one by one, on copies; and then the same arrival once more.
+pub struct TakenBack {
+    pub refusals: Vec<u8>,
+    pub table: Vec<u8>,
+    pub again: ArrivalAnswer,
+    /// As the second arrival left it.
+    pub shelf: Vec<u8>,
+}
+
 /// Mostly enough numbers; sometimes just too few, or more.
 pub fn some_room(random: &Random) -> usize {
     let few = [0, 1, OUTCOMES_NUMBERS / 2, OUTCOMES_NUMBERS - 2, OUTCOMES_NUMBERS - 1, OUTCOMES_NUMBERS - 1];
@@ -56,6 +67,9 @@ pub fn some_room(random: &Random) -> usize {
         random.pick(&[OUTCOMES_NUMBERS, OUTCOMES_NUMBERS, random.pick(&more)])
     }
 }
+
+/// Of so many arrivals that are let in, one is taken back.
+const TAKEN_BACK_ONE_IN: usize = 3;
 
 /// A block arrives. The outcomes have so many numbers, of any content.
 pub fn bring(
@@ -80,7 +94,11 @@ pub fn bring(
     let admits = |entry: &Entry| model.admit(&mut after.table.clone(), &mut entry.block().to_vec(), 1);
     let still = if answer.refusal == 0 { after.shelf.of(campaign).map(admits).collect() } else { Vec::new() };
     let sent = sent.clone();
-    let brought = Brought { campaign, sent, before, after, answer, listed, in_form, plain, still };
+    let mut brought =
+        Brought { campaign, sent, before, after, answer, listed, in_form, plain, still, taken_back: None };
+    if answer.refusal == 0 && random.one_in(TAKEN_BACK_ONE_IN) {
+        brought.taken_back = Some(TakenBack::of(compare, &brought)?);
+    }
     compare.counts.shelves.brought(&brought);
     Ok(brought)
 }
@@ -109,6 +127,19 @@ impl Brought {
     /// By which numbers blocks that waited were dropped.
     pub fn dropped(&self) -> impl Iterator<Item = u64> + '_ {
         self.listed.iter().map(|listed| listed[0]).filter(|&number| number != 0)
+    }
+}
+
+impl TakenBack {
+    fn of(compare: &mut Compare, brought: &Brought) -> Result<TakenBack, Difference> {
+        let Brought { campaign, sent, after, .. } = brought;
+        let (table, shelf) = (after.table.clone(), after.shelf.to_bytes());
+        let mut sides = Sides::new(Lent { table, shelf, ..Lent::default() });
+        let taken: Result<Vec<Answer>, _> = (0..=brought.let_in()).map(|_| compare.take_back(&mut sides)).collect();
+        let refusals = taken?.iter().map(|answer| answer.refusal).collect();
+        let table = sides.tested.table.clone();
+        let again = compare.arrive(&mut sides, *campaign, &sent.block, sent.verdict, &[0; OUTCOMES_NUMBERS])?;
+        Ok(TakenBack { refusals, table, again, shelf: sides.tested.shelf })
     }
 }
 

@@ -12,6 +12,8 @@ pub trait Calls {
     fn interpret(&self, table: &mut [u8], place: usize, records: &mut [u16]) -> Answer;
     /// The block at place 0 leaves, and all others move down by one place.
     fn retire(&self, table: &mut [u8], records: &mut [u16]) -> Answer;
+    /// The block at the last place leaves, as if it had never been admitted.
+    fn take_back(&self, table: &mut [u8]) -> Answer;
     fn forks(&self, table: &mut [u8]) -> ForkedSites;
     fn ancestors(&self, table: &mut [u8], place: usize) -> AncestorPlaces;
     /// The site's next block, with these requests, is written to the front of the output.

@@ -12,6 +12,7 @@ mod replays;
 mod retirings;
 mod setups;
 mod shelves;
+mod takings_back;
 mod watches;
 
 use std::ops::Range;
@@ -29,7 +30,7 @@ pub struct Kind {
     run: fn(&Random, &mut Compare) -> Result<(), Difference>,
 }
 
-pub static KINDS: [Kind; 16] = [
+pub static KINDS: [Kind; 17] = [
     Kind { name: "setups", shares: 1, run: setups::run },
     Kind { name: "arrivals", shares: 2, run: admissions::arrivals },
     Kind { name: "tables", shares: 2, run: admissions::tables_in_form },
@@ -43,6 +44,7 @@ pub static KINDS: [Kind; 16] = [
     SHELVES,
     JOINS,
     RETIRINGS,
+    TAKINGS_BACK,
     LASTING,
     Kind { name: "long", shares: 0, run: long::run },
     Kind { name: "last", shares: 0, run: long::to_the_end },
@@ -54,6 +56,8 @@ pub const SHELVES: Kind = Kind { name: "shelves", shares: 2, run: shelves::run }
 pub const JOINS: Kind = Kind { name: "joins", shares: 2, run: joins::run };
 
 pub const RETIRINGS: Kind = Kind { name: "retirings", shares: 2, run: retirings::run };
+
+pub const TAKINGS_BACK: Kind = Kind { name: "takings-back", shares: 1, run: takings_back::run };
 
 /// These are run only where they are named: a case takes long.
 pub const LASTING: Kind = Kind { name: "lasting", shares: 0, run: long::shorter };

@@ -159,6 +159,17 @@ impl Compare<'_> {
         Ok(answer)
     }
 
+    pub fn take_back(&mut self, sides: &mut Sides) -> Result<Answer, Difference> {
+        let before = sides.expected.table.clone();
+        let answer = self.on_sides(sides, |calls, lent| calls.take_back(&mut lent.table));
+        let answer = answer.map_err(|what| {
+            let inputs = vec![shown("table", &before)];
+            Difference { call: "gt_take_back", what, inputs }
+        })?;
+        self.counts.taking_back(answer);
+        Ok(answer)
+    }
+
     pub fn forks(&mut self, table: &[u8]) -> Result<ForkedSites, Difference> {
         let (answer, _) = self.on_copies("gt_forks", [("table", table)], |calls, [table]| calls.forks(table))?;
         self.counts.forks(answer);

@@ -12,7 +12,7 @@ use crate::feed::{batch, lacking, Feed};
 use crate::laws::{self, Told};
 use crate::lent::{Lent, Sides};
 use crate::random::Random;
-use crate::replay::{admission, interpretation, retiring};
+use crate::replay::{admission, interpretation, retiring, taking_back};
 use crate::shelf::Shelf;
 use crate::sizes::{BUFFER_NUMBERS, CAMPAIGNS, PLACES, TABLE_BYTES};
 use crate::table::Table;
@@ -52,6 +52,8 @@ struct Habits {
     twins: Option<(u8, u8)>,
     /// Of so many calls one is no arrival of the campaign's next block.
     odd_one_in: usize,
+    /// Of so many arrivals that let waiting blocks in, one is taken back with these, or with some of them.
+    takes_back_one_in: usize,
     /// Whether the laws about one arrival are held against each. Else only those about all calls of a campaign are,
     /// which otherwise come last: so wrong rules show whether these say something by themselves.
     each_by_itself: bool,
@@ -74,6 +76,7 @@ impl Habits {
             floods_one_in: std::array::from_fn(|_| random.pick(&[2, 12, 1000, 1000, 1000])),
             twins: random.one_in(2).then_some((order[0], order[1])),
             odd_one_in: random.pick(&[3, 5, 12, 100]),
+            takes_back_one_in: random.pick(&[2, 4, 1000]),
             each_by_itself: !random.one_in(3),
         }
     }
@@ -158,8 +161,9 @@ impl<'a> Controller<'a> {
 
     fn odd_call(&mut self, compare: &mut Compare, campaign: u8, table: &Table) -> Result<(), Difference> {
         let random = self.random;
-        match random.below(13) {
+        match random.below(15) {
             10..=12 => self.retire(compare, campaign),
+            13 | 14 => self.take_back(compare, campaign).map(|_| ()),
             0..=3 => self.interpret(compare, campaign, some_target(random, table)),
             4 | 5 => {
                 let block = self.again(campaign).unwrap_or_else(|| lacking(random, table));
@@ -207,9 +211,36 @@ impl<'a> Controller<'a> {
             laws::check_brought(&brought)?;
         }
         let answer = brought.answer;
+        let let_in = brought.tries().filter(|(_, answer)| answer.refusal == 0).map(|(sent, _)| sent.block.clone());
+        let let_in: Vec<Vec<u8>> = let_in.collect();
         followed.note_arrival(brought, room);
         self.earlier.push(sent.block.clone());
+        if !let_in.is_empty() && random.one_in(self.habits.takes_back_one_in) {
+            self.take_back_some(compare, campaign, sent, let_in)?;
+        }
         Ok(answer)
+    }
+
+    /// Some of the blocks that an arrival let in are taken back, or all and the arrival too. They may come again.
+    fn take_back_some(
+        &mut self,
+        compare: &mut Compare,
+        campaign: u8,
+        sent: &Sent,
+        let_in: Vec<Vec<u8>>,
+    ) -> Result<(), Difference> {
+        let random = self.random;
+        let blocks = [vec![sent.block.clone()], let_in].concat();
+        let kept = random.pick(&[0, 0, random.below(blocks.len())]);
+        for at in (kept..blocks.len()).rev() {
+            let answer = self.take_back(compare, campaign)?;
+            // The arrival came first, and all others had waited.
+            compare.counts.takings_back.of_shelf(answer, at > 0);
+        }
+        if random.one_in(2) {
+            self.followed(campaign).feed.add(random, blocks[kept..].to_vec());
+        }
+        Ok(())
     }
 
     /// An arrival for a campaign that there isn't, with the table of one that there is.
@@ -248,6 +279,15 @@ impl<'a> Controller<'a> {
         followed.list.extend(retiring());
         followed.note(Call::Retiring, answer);
         Ok(())
+    }
+
+    /// What waits isn't tried after a taking back either.
+    fn take_back(&mut self, compare: &mut Compare, campaign: u8) -> Result<Answer, Difference> {
+        let followed = self.followed(campaign);
+        let answer = compare.take_back(&mut followed.sides)?;
+        followed.list.extend(taking_back());
+        followed.note(Call::TakingBack, answer);
+        Ok(answer)
     }
 
     // ---- Looking back

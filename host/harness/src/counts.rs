@@ -8,6 +8,7 @@ mod lasted;
 mod listings;
 mod retirings;
 mod shelves;
+mod takings_back;
 mod watched;
 
 use std::fmt::{self, Display, Formatter};
@@ -21,24 +22,35 @@ use lasted::Lasted;
 use listings::Listings;
 use retirings::Retirings;
 use shelves::Shelves;
+use takings_back::TakingsBack;
 use watched::Watched;
 
 pub use groups::Met;
 pub use retirings::Coming;
+pub use takings_back::Going;
 
-/// How often a call gave each answer, by its refusal number: these end at 31.
-#[derive(Default)]
-struct Answered([u64; 32]);
+/// How often a call gave each answer, by its refusal number.
+struct Answered([u64; REFUSALS]);
+
+/// Refusal numbers end at 33.
+const REFUSALS: usize = 34;
 
 /// What each call answers.
 const ADMISSION_ANSWERS: &[u8] = &[0, 2, 3, 4, 5, 6, 7, 8, 9, 10, 11];
 const INTERPRETATION_ANSWERS: &[u8] = &[0, 2, 12, 13, 14, 15];
 const RETIRING_ANSWERS: &[u8] = &[0, 2, 12, 13, 29];
+const TAKING_BACK_ANSWERS: &[u8] = &[0, 2, 32, 33];
 const FORKS_ANSWERS: &[u8] = &[0, 2];
 const ANCESTORS_ANSWERS: &[u8] = &[0, 2, 13];
 const BUILDING_ANSWERS: &[u8] = &[0, 2, 3, 4, 6, 16, 17, 30];
 const ARRIVAL_ANSWERS: &[u8] = &[0, 2, 3, 4, 5, 6, 7, 8, 9, 10, 11, 17, 19, 20, 21];
 const JOIN_ANSWERS: &[u8] = &[0, 2, 12, 23, 24, 25, 31];
+
+impl Default for Answered {
+    fn default() -> Self {
+        Answered([0; REFUSALS])
+    }
+}
 
 impl Answered {
     fn note(&mut self, refusal: u8) {
@@ -87,11 +99,13 @@ pub struct Counts {
     pub shelves: Shelves,
     pub joins: Joins,
     pub retirings: Retirings,
+    pub takings_back: TakingsBack,
     pub lasted: Lasted,
     pub listings: Listings,
     admissions: Answered,
     interpretations: Answered,
     retired: Answered,
+    taken_back: Answered,
     forks: Answered,
     ancestors: Answered,
     buildings: Answered,
@@ -123,6 +137,10 @@ impl Counts {
 
     pub fn retiring(&mut self, answer: Answer) {
         self.retired.note(answer.refusal);
+    }
+
+    pub fn taking_back(&mut self, answer: Answer) {
+        self.taken_back.note(answer.refusal);
     }
 
     pub fn forks(&mut self, answer: ForkedSites) {
@@ -161,6 +179,7 @@ impl Display for Counts {
             ("gt_admit", &self.admissions, ADMISSION_ANSWERS),
             ("gt_interpret", &self.interpretations, INTERPRETATION_ANSWERS),
             ("gt_retire", &self.retired, RETIRING_ANSWERS),
+            ("gt_take_back", &self.taken_back, TAKING_BACK_ANSWERS),
             ("gt_forks", &self.forks, FORKS_ANSWERS),
             ("gt_ancestors", &self.ancestors, ANCESTORS_ANSWERS),
             ("gt_build", &self.buildings, BUILDING_ANSWERS),
@@ -183,6 +202,6 @@ impl Display for Counts {
         writeln!(to, "tables in form     {:>8}", self.in_form)?;
         writeln!(to, "tables not in form {:>8}", self.not_in_form)?;
         write!(to, "{}{}{}{}", self.campaigns, self.watched, self.built, self.groups)?;
-        write!(to, "{}{}{}{}", self.shelves, self.joins, self.retirings, self.lasted)
+        write!(to, "{}{}{}{}{}", self.shelves, self.joins, self.retirings, self.takings_back, self.lasted)
     }
 }

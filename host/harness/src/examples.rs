@@ -12,6 +12,7 @@ mod promised;
 mod retired;
 mod shelf_forms;
 mod shelved;
+mod taken_back;
 mod watched;
 
 use crate::block::Request;
@@ -51,6 +52,7 @@ pub fn failed(calls: &dyn Calls) -> Vec<&'static str> {
     examples.extend(shelved::all(calls));
     examples.extend(joined::all(calls));
     examples.extend(retired::all(calls));
+    examples.extend(taken_back::all(calls));
     examples.into_iter().filter(|(_, holds)| !holds).map(|(name, _)| name).collect()
 }
 

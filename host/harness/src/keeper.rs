@@ -1,5 +1,5 @@
-//! A keeper of a table: it gets the blocks of a campaign in an order of its own and interprets them by and by. Calls
-//! that are refused come in between. The list of its calls is kept, to be replayed.
+//! A keeper of a table: it gets the blocks of a campaign in an order of its own and interprets them by and by. It takes
+//! some back, which come again. Calls that are refused come in between. The list of its calls is kept, to be replayed.
 
 use crate::answer::Answer;
 use crate::arrivals::any;
@@ -9,7 +9,7 @@ use crate::contents::{any_numbers, some_length};
 use crate::lent::{Lent, Sides};
 use crate::random::Random;
 use crate::record::part_at;
-use crate::replay::{admission, interpretation};
+use crate::replay::{admission, interpretation, taking_back};
 use crate::sizes::{BUFFER_NUMBERS, TABLE_BYTES};
 use crate::table::Table;
 use crate::targets::any_target;
@@ -46,6 +46,8 @@ struct Habits {
     interprets_one_in: usize,
     /// Of so many calls one is mostly refused.
     refused_one_in: usize,
+    /// Of so many calls one takes back the last block, whether it can be or not.
+    takes_back_one_in: usize,
     most_calls: usize,
     /// A stage comes after so many calls.
     stage_at: usize,
@@ -65,6 +67,7 @@ impl Habits {
             order: random.pick(&[Order::AsBuilt, Order::LatestFirst, Order::Any, Order::Any]),
             interprets_one_in: random.pick(&[1, 2, 4, 1000]),
             refused_one_in: random.pick(&[3, 6, 12, 1000]),
+            takes_back_one_in: random.pick(&[8, 24, 1000, 1000]),
             most_calls: if random.one_in(4) { random.between(0, calls) } else { ENOUGH_CALLS },
             stage_at: random.between(0, 2 * calls),
         }
@@ -79,6 +82,8 @@ impl<'a> Keeper<'a> {
         while keeper.answers.len() < habits.most_calls {
             if random.one_in(habits.refused_one_in) {
                 keeper.odd_call(random, compare)?;
+            } else if random.one_in(habits.takes_back_one_in) {
+                keeper.take_back(compare)?;
             } else if !keeper.next_call(random, compare, &habits)? {
                 break;
             }
@@ -174,6 +179,18 @@ impl<'a> Keeper<'a> {
         // Or before it was known as a block of the campaign.
         if [0, 14].contains(&answer.refusal) {
             self.interpreted |= self.held[place].map_or(0, |block| 1 << block);
+        }
+        Ok(())
+    }
+
+    fn take_back(&mut self, compare: &mut Compare) -> Result<(), Difference> {
+        self.calls.extend(taking_back());
+        let answer = compare.take_back(&mut self.sides)?;
+        compare.counts.takings_back.kept(answer);
+        self.answers.push(answer);
+        if answer.refusal == 0 {
+            let block = self.held.pop().flatten();
+            self.admitted &= !block.map_or(0, |block| 1 << block);
         }
         Ok(())
     }

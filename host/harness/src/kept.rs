@@ -1,7 +1,7 @@
 //! A site's table and records beside its ledger without bounds: each call is made on both, and the laws are held against
 //! what comes of it.
 
-use std::collections::{BTreeSet, HashMap};
+use std::collections::{BTreeSet, HashMap, HashSet};
 
 use crate::answer::Answer;
 use crate::compare::{Compare, Difference};
@@ -13,6 +13,7 @@ use crate::random::Random;
 use crate::record::{part_at, Act, Part};
 use crate::sha256::Digest;
 use crate::sizes::{SLOTS, TABLE_BYTES};
+use crate::table::Table;
 
 pub struct Kept {
     pub sides: Sides,
@@ -24,6 +25,8 @@ pub struct Kept {
     pub parts: HashMap<Digest, Part>,
     /// The numbers delivered in each slot, in blocks that are held or have left.
     pub delivered: [BTreeSet<u16>; SLOTS],
+    /// The blocks that were retired, as the table had them.
+    pub retired: HashSet<Digest>,
 }
 
 impl Kept {
@@ -39,10 +42,11 @@ impl Kept {
         compare.fresh(sites, &owners, &mut table)?;
         Ok(Kept {
             sides: Sides::new(Lent::new(table, any_numbers(random, numbers))),
-            ledger: Ledger::new(sites, owners, numbers),
+            ledger: Ledger::new(sites, owners, numbers, compare.model.taking_back.counts),
             first_law,
             parts: HashMap::new(),
             delivered: Default::default(),
+            retired: HashSet::new(),
         })
     }
 
@@ -67,8 +71,18 @@ impl Kept {
     }
 
     pub fn retire(&mut self, compare: &mut Compare) -> Result<Answer, Difference> {
+        let first = Table::from_bytes(&self.left().table).rows[0].digest;
         let answer = compare.retire(&mut self.sides)?;
         let by_ledger = self.ledger.retire();
+        if answer.refusal == 0 {
+            self.retired.insert(first);
+        }
+        self.check(answer, by_ledger)
+    }
+
+    pub fn take_back(&mut self, compare: &mut Compare) -> Result<Answer, Difference> {
+        let answer = compare.take_back(&mut self.sides)?;
+        let by_ledger = self.ledger.take_back();
         self.check(answer, by_ledger)
     }
 

@@ -12,20 +12,22 @@ mod reached;
 mod recorded;
 mod retired;
 mod seen;
+mod taken_back;
 mod told;
 
 use crate::answer::Answer;
 use crate::brought::Brought;
-use crate::compare::{shown, Difference};
+use crate::compare::{shown, Compare, Difference};
 use crate::ends::Ends;
 use crate::joined::{Joined, Reached};
 use crate::long::Long;
 use crate::seen::Seen;
+use taken_back::GivenBack;
 
-pub use brought::{ACCOUNTED_FOR, NEVER_19, ONLY_BY_9, PLAIN, STAYS_IN_FORM, TRIED_OUT};
+pub use brought::{ACCOUNTED_FOR, NEVER_19, ONE_BY_ONE, ONLY_BY_9, PLAIN, STAYS_IN_FORM, TRIED_OUT, WAITS_NO_MORE};
 pub use built::{Built, LET_IN, READS_BACK, REFERS, REST_STAYS};
 pub use ends::{EQUAL_PARTS, ONE_NUMBER, REQUESTED, WATCHED};
-pub use ever::{Ever, EQUAL_EVER, ONE_NUMBER_EVER, REQUESTED_EVER, WATCHED_EVER};
+pub use ever::{Ever, COUNTED, EQUAL_EVER, ONE_NUMBER_EVER, REQUESTED_EVER, WATCHED_EVER};
 pub use joined::{AGAIN, IN_FORM, MARKED, PARTS, SAME_BLOCKS, STAYS_FIRST};
 pub use lasted::{ALL_DELIVERED, NEVER_REFUSED};
 pub use promised::{Promised, DELIVERED, FULL, PASSED_ON};
@@ -33,6 +35,7 @@ pub use reached::{BY_CALLS, GOES_ON, SWAPPED};
 pub use recorded::{Recorded, SAME_ANSWER, SAME_TABLE, WHOLE_HISTORY};
 pub use retired::{Retired, KEEPS_THAT, NEVER_THE_LAST, NOTHING_OPEN, OTHERS_STAY, PARTS_MOVE, STILL_IN_FORM};
 pub use seen::{CLOSED, LOWER, MORE_BLOCKS, NAMED, ONES, THIRD};
+pub use taken_back::{PutIn, AS_IF_NEVER, GIVES_BACK};
 pub use told::{Told, ANSWERED_9, INDEPENDENT};
 
 /// A law says where it is broken, if it is.
@@ -70,6 +73,17 @@ pub fn check_recorded(recorded: &Recorded, first: usize) -> Result<(), Differenc
 fn from<Of, const N: usize>(first: usize, mut laws: [Law<Of>; N]) -> [Law<Of>; N] {
     laws.rotate_left(first % N);
     laws
+}
+
+/// An admission that was answered 0, by the tables before and after it.
+pub fn check_gives_back(compare: &mut Compare, before: Vec<u8>, admitted: &[u8]) -> Result<(), Difference> {
+    let given = GivenBack::of(compare, before, admitted)?;
+    check(&taken_back::LAW_OF_ONE, &given, || vec![shown("table", &given.before)])
+}
+
+/// A list with admissions put in that are taken back straight away.
+pub fn check_put_in(list: &PutIn) -> Result<(), Difference> {
+    check(&taken_back::laws_of_lists(), list, || vec![shown("calls", &list.with.calls)])
 }
 
 /// All that two sites ever admitted.

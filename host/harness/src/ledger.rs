@@ -1,5 +1,6 @@
-//! A site's ledger without bounds: every block that was ever admitted with its mark, which of them stand at which places,
-//! and what each of them means by the whole history. It goes by the blocks' bytes alone and has neither table nor records.
+//! A site's ledger without bounds: every block that was ever admitted with its mark, which of them stand at which
+//! places, which of them count, and what each of them means by the whole history. It goes by the blocks' bytes alone
+//! and has neither table nor records.
 
 use std::collections::HashMap;
 
@@ -25,11 +26,20 @@ pub struct Known {
     pub meaning: Part,
     /// The numbers that the owner of each slot requests in its ancestors.
     pub asked: [Vec<u16>; SLOTS],
+    /// How often it was admitted, how many of these admissions were taken back, and whether it was ever retired.
+    admitted: usize,
+    taken_back: usize,
+    retired: bool,
 }
 
 impl Known {
     fn is_parent_of(&self, site: u8, sequence: u16) -> bool {
         self.site == site && self.sequence.checked_add(1) == Some(sequence)
+    }
+
+    /// Whether the two are a fork.
+    pub fn is_twin_of(&self, other: &Known) -> bool {
+        (self.site, self.sequence) == (other.site, other.sequence) && self.digest != other.digest
     }
 }
 
@@ -49,8 +59,9 @@ pub struct Ledger {
     blocks: Vec<Known>,
     by_digest: HashMap<Digest, usize>,
     places: Vec<Standing>,
-    /// The blocks that have left their places, marked all, in the order in which they left.
-    retired: Vec<usize>,
+    retirings: usize,
+    /// Whether a block counts, by how often it was admitted and taken back.
+    counts: fn(usize, usize) -> bool,
 }
 
 fn refused(refusal: u8, value: usize) -> Answer {
@@ -58,9 +69,9 @@ fn refused(refusal: u8, value: usize) -> Answer {
 }
 
 impl Ledger {
-    pub fn new(sites: u8, owners: [u8; SLOTS], numbers: usize) -> Ledger {
+    pub fn new(sites: u8, owners: [u8; SLOTS], numbers: usize, counts: fn(usize, usize) -> bool) -> Ledger {
         let (blocks, by_digest) = (Vec::new(), HashMap::new());
-        Ledger { sites, owners, numbers, blocks, by_digest, places: Vec::new(), retired: Vec::new() }
+        Ledger { sites, owners, numbers, blocks, by_digest, places: Vec::new(), retirings: 0, counts }
     }
 
     // ---- The calls, by the checks of the documents on the ledger's own places and marks
@@ -72,6 +83,7 @@ impl Ledger {
         }
         // The same bytes once more are the same block, at a new place.
         let block = self.by_digest.get(&digest).copied().unwrap_or_else(|| self.learn(bytes, digest));
+        self.blocks[block].admitted += 1;
         self.places.push(Standing { block, marked: false });
         Answer::success(self.places.len() - 1)
     }
@@ -134,7 +146,19 @@ impl Ledger {
             return refused(29, 0);
         }
         let left = self.places.remove(0);
-        self.retired.push(left.block);
+        self.blocks[left.block].retired = true;
+        self.retirings += 1;
+        Answer::success(0)
+    }
+
+    /// "the ledger then loses that last place"
+    pub fn take_back(&mut self) -> Answer {
+        let Some(&Standing { block, marked }) = self.places.last() else { return refused(32, 0) };
+        if marked {
+            return refused(33, 0);
+        }
+        self.places.pop();
+        self.blocks[block].taken_back += 1;
         Answer::success(0)
     }
 
@@ -189,7 +213,7 @@ impl Ledger {
     /// above all that were there.
     pub fn table(&self) -> Table {
         let mut table = Table::empty(self.sites, self.owners);
-        table.retired = u8::from(!self.retired.is_empty());
+        table.retired = u8::from(self.retirings > 0);
         table.count = self.count();
         for place in 0..self.count() {
             let Known { digest, site, sequence, requests, .. } = *self.at(place);
@@ -203,23 +227,41 @@ impl Ledger {
 
     // ---- Every block ever admitted
 
-    /// Whether a block was ever admitted and isn't held now.
-    pub fn is_gone(&self, digest: &Digest) -> bool {
-        self.by_digest.contains_key(digest) && self.place_of(digest).is_none()
+    fn block(&self, digest: &Digest) -> Option<&Known> {
+        self.by_digest.get(digest).map(|&block| &self.blocks[block])
     }
 
-    /// Whether a block has left and is held again.
+    /// Whether a block was retired and isn't held now.
+    pub fn is_gone(&self, digest: &Digest) -> bool {
+        self.block(digest).is_some_and(|known| known.retired) && self.place_of(digest).is_none()
+    }
+
+    /// Whether a block was retired and is held again.
     pub fn has_returned(&self, digest: &Digest) -> bool {
-        let left = self.by_digest.get(digest).is_some_and(|block| self.retired.contains(block));
-        left && self.place_of(digest).is_some()
+        self.block(digest).is_some_and(|known| known.retired) && self.place_of(digest).is_some()
+    }
+
+    /// Whether an admission of a block was taken back.
+    pub fn was_taken_back(&self, digest: &Digest) -> bool {
+        self.block(digest).is_some_and(|known| known.taken_back > 0)
     }
 
     pub fn retirings(&self) -> usize {
-        self.retired.len()
+        self.retirings
     }
 
+    pub fn takings_back(&self) -> usize {
+        self.blocks.iter().map(|known| known.taken_back).sum()
+    }
+
+    /// All of them, also those that were taken back.
     pub fn known(&self) -> &[Known] {
         &self.blocks
+    }
+
+    /// The blocks that count for the statement about two sites.
+    pub fn counting(&self) -> impl Iterator<Item = &Known> {
+        self.blocks.iter().filter(|known| (self.counts)(known.admitted, known.taken_back))
     }
 
     fn learn(&mut self, bytes: &[u8], digest: Digest) -> usize {
@@ -231,6 +273,9 @@ impl Ledger {
             references: block::references(bytes).iter().map(|other| self.by_digest[other]).collect(),
             meaning: [[0; RECORD_NUMBERS]; SLOTS],
             asked: Default::default(),
+            admitted: 0,
+            taken_back: 0,
+            retired: false,
         };
         let referred: Vec<&Known> = known.references.iter().map(|&other| &self.blocks[other]).collect();
         let meaning = std::array::from_fn(|slot| self.record(&known, &referred, slot));
@@ -271,11 +316,10 @@ impl Ledger {
     }
 }
 
-/// The mask of the sites with "two different blocks of one sequence number" among all that these ledgers ever admitted.
-pub fn forked(ledgers: &[&Ledger]) -> u16 {
+/// The mask of the sites with "two different blocks of one sequence number" among these.
+pub fn forked<'a>(blocks: impl Iterator<Item = &'a Known>) -> u16 {
     let mut first: HashMap<(u8, u16), Digest> = HashMap::new();
-    let known = ledgers.iter().flat_map(|ledger| ledger.known());
-    known.fold(0, |mask, known| {
+    blocks.fold(0, |mask, known| {
         let other = *first.entry((known.site, known.sequence)).or_insert(known.digest) != known.digest;
         mask | if other { bit(known.site) } else { 0 }
     })

@@ -18,6 +18,7 @@ extern "C" {
         records_length: usize,
     ) -> Answer;
     fn gt_retire(table: *mut u8, table_length: usize, records: *mut u16, records_length: usize) -> Answer;
+    fn gt_take_back(table: *mut u8, table_length: usize) -> Answer;
     fn gt_forks(table: *const u8, table_length: usize) -> ForkedSites;
     fn gt_ancestors(table: *const u8, table_length: usize, place: usize) -> AncestorPlaces;
     fn gt_build(
@@ -99,6 +100,10 @@ impl Calls for Library {
 
     fn retire(&self, table: &mut [u8], records: &mut [u16]) -> Answer {
         unsafe { gt_retire(table.as_mut_ptr(), table.len(), records.as_mut_ptr(), records.len()) }
+    }
+
+    fn take_back(&self, table: &mut [u8]) -> Answer {
+        unsafe { gt_take_back(table.as_mut_ptr(), table.len()) }
     }
 
     fn forks(&self, table: &mut [u8]) -> ForkedSites {

@@ -1,6 +1,6 @@
 //! Long campaigns: sites that build by the rule and interpret everything, each with a table of 64 places and a ledger without
 //! bounds. In each round every site builds a block, and gets those of the others in an order of its own. Each retires where
-//! its table is full, or sooner.
+//! its table is full, or sooner. Now and then it takes a block back, which comes again.
 
 use crate::block::Request;
 use crate::compare::{Compare, Difference, Next};
@@ -13,6 +13,9 @@ use crate::sizes::{BUFFER_NUMBERS, MAX_BLOCK_BYTES, PLACES, SLOTS};
 /// How many rounds after its first request an owner asks once more, and for what.
 const LATER: usize = 20;
 const ASKED_LATER: u16 = 1;
+
+/// Of so many blocks that come to a site, one is taken back first.
+const TAKEN_BACK_ONE_IN: usize = 32;
 
 pub struct Long<'a> {
     random: &'a Random,
@@ -101,6 +104,10 @@ impl<'a> Long<'a> {
         while kept.ledger.count() >= *fewer_than {
             self.when_full += u64::from(kept.ledger.count() == PLACES);
             laws::check_passed("gt_retire", kept.retire(compare)?)?;
+        }
+        if self.random.one_in(TAKEN_BACK_ONE_IN) {
+            laws::check_passed("gt_admit", kept.admit(compare, block, 1)?)?;
+            laws::check_passed("gt_take_back", kept.take_back(compare)?)?;
         }
         let admission = kept.admit(compare, block, 1)?;
         laws::check_passed("gt_admit", admission)?;

@@ -75,6 +75,7 @@ mod spoiled;
 mod streams;
 mod table;
 mod tables;
+mod taking_back;
 mod targets;
 mod watch;
 

@@ -19,6 +19,7 @@ use crate::shelf::Shelf;
 use crate::shelving::{Coming, Shelving};
 use crate::sizes::{DIGEST_BYTES, PLACES, SLOTS, TABLE_BYTES};
 use crate::table::{Row, Table};
+use crate::taking_back::{Taken, TakingBack};
 use crate::watch::{Question, Watch};
 
 /// What a fresh table is asked for with.
@@ -37,6 +38,7 @@ pub struct Model {
     pub put: fn(&mut Table, Row),
     pub interpretation: Interpretation,
     pub retiring: Retiring,
+    pub taking_back: TakingBack,
     pub watch: Watch,
     pub building: Building,
     pub replay: Replay,
@@ -61,6 +63,7 @@ impl Model {
             put: admission::put,
             interpretation: Interpretation::document(),
             retiring: Retiring::document(),
+            taking_back: TakingBack::document(),
             watch: Watch::document(),
             building: Building::document(),
             replay: Replay::document(),
@@ -156,6 +159,16 @@ impl Calls for Model {
         Answer::success(0)
     }
 
+    fn take_back(&self, table: &mut [u8]) -> Answer {
+        let (held, in_form) = self.held(table);
+        let taken = Taken { table: held, in_form };
+        if let Some(refusal) = first_refusal(&self.taking_back.checks, &taken) {
+            return refusal;
+        }
+        (self.taking_back.table)(&self.taking_back, &taken.table).write(table);
+        Answer::success(0)
+    }
+
     fn forks(&self, table: &mut [u8]) -> ForkedSites {
         let (table, in_form) = self.held(table);
         self.watch.forks(&Question { table, in_form, place: 0 })
@@ -189,6 +202,13 @@ impl Calls for Model {
                 Call::Admission { verdict, block } => self.admit(table, &mut block.to_vec(), verdict),
                 Call::Interpretation { place } => self.interpret(table, place, records),
                 Call::Retiring => self.retire(table, records),
+                Call::TakingBack => {
+                    let answer = self.take_back(table);
+                    if answer.refusal == 0 {
+                        (self.taking_back.records)(records, Table::from_bytes(table).count);
+                    }
+                    answer
+                }
             };
             (self.replay.note)(answers, ran, answer);
             rest = after;

@@ -20,6 +20,7 @@ mod replay;
 mod retiring;
 mod shelf_form;
 mod shelf_rule;
+mod taking_back;
 mod tries;
 mod watch;
 
@@ -35,6 +36,7 @@ use crate::model::{Model, Wanted};
 use crate::process::Process;
 use crate::retiring::Leaving;
 use crate::table::Table;
+use crate::taking_back::Taken;
 use crate::watch::Question;
 
 pub struct Mutant {
@@ -45,6 +47,7 @@ pub struct Mutant {
     after_admission: AfterCall,
     after_interpretation: AfterInterpretation,
     after_retiring: AfterRetiring,
+    after_taking_back: AfterTakingBack,
     after_forks: AfterForks,
     after_ancestors: AfterAncestors,
     after_building: AfterBuilding,
@@ -62,6 +65,7 @@ type AfterForm = Box<dyn Fn(bool, &mut [u8]) -> bool>;
 type AfterReading = Box<dyn Fn(Reading, &mut [u8]) -> Reading>;
 type AfterInterpretation = Box<dyn Fn(Answer, &mut [u8], usize, &mut [u16]) -> Answer>;
 type AfterRetiring = Box<dyn Fn(Answer, &mut [u8], &mut [u16]) -> Answer>;
+type AfterTakingBack = Box<dyn Fn(Answer, &mut [u8]) -> Answer>;
 type AfterForks = Box<dyn Fn(ForkedSites, &mut [u8]) -> ForkedSites>;
 type AfterAncestors = Box<dyn Fn(AncestorPlaces, &mut [u8], usize) -> AncestorPlaces>;
 type AfterBuilding = Box<dyn Fn(Answer, Building) -> Answer>;
@@ -136,6 +140,13 @@ pub fn of_joins() -> Vec<Mutant> {
 pub fn of_retirings() -> Vec<Mutant> {
     let mut mutants = retiring::checks_exchanged();
     mutants.extend(mistaken(retiring::MISTAKES));
+    mutants
+}
+
+/// Those that cases of takings back find.
+pub fn of_takings_back() -> Vec<Mutant> {
+    let mut mutants = taking_back::checks_exchanged();
+    mutants.extend(mistaken(taking_back::MISTAKES));
     mutants
 }
 
@@ -239,6 +250,12 @@ pub fn lawless_with_shelves() -> Vec<(Mutant, &'static str)> {
         (&[shelf_rule::NOTHING_WAITS], ANSWERED_9),
         (&[shelf_rule::OLDEST_PUSHED_OUT], ANSWERED_9),
         (&[tries::STAYS_ON_SHELF], ANSWERED_9),
+        (&[tries::STAYS_ON_SHELF], WAITS_NO_MORE),
+        (&[taking_back::ROW_STAYS], ONE_BY_ONE),
+        (&[taking_back::ALL_OPEN], ONE_BY_ONE),
+        (&[taking_back::FIRST_TAKEN], ONE_BY_ONE),
+        (&[taking_back::TWO_TAKEN], ONE_BY_ONE),
+        (&[taking_back::RETIRED_FORGOTTEN], ONE_BY_ONE),
     ])
 }
 
@@ -320,6 +337,38 @@ pub fn lawless_in_retirings() -> Vec<(Mutant, &'static str)> {
         (&[process::ECHO_QUORUM_F_PLUS_1, process::DELIVERY_AT_F_PLUS_1], ONE_NUMBER_EVER),
         (&[process::SEND_FROM_ANYONE, meaning::REQUEST_OF_ANYONE], REQUESTED_EVER),
         (&[watch::SITES_NOT_COMPARED], WATCHED_EVER),
+        (&[taking_back::AT_COUNT], SAME_ANSWER),
+        (&[taking_back::OF_FIRST], SAME_ANSWER),
+        (&[taking_back::ROW_STAYS], SAME_TABLE),
+        (&[taking_back::COUNT_STAYS], SAME_TABLE),
+        (&[taking_back::RETIRED_FORGOTTEN], SAME_TABLE),
+        (&[taking_back::RETIRED_NOTED], SAME_TABLE),
+        (&[taking_back::FIRST_TAKEN], SAME_TABLE),
+        (&[taking_back::FIRST_TAKEN], COUNTED),
+        (&[taking_back::STILL_COUNTS], COUNTED),
+        (&[taking_back::COUNTS_NO_MORE], COUNTED),
+        (&[taking_back::COUNTS_NO_MORE], WATCHED_EVER),
+    ])
+}
+
+/// The same of laws about takings back.
+pub fn lawless_in_takings_back() -> Vec<(Mutant, &'static str)> {
+    with_laws(&[
+        (&[taking_back::OF_FIRST], GIVES_BACK),
+        (&[taking_back::ROW_STAYS], GIVES_BACK),
+        (&[taking_back::COUNT_STAYS], GIVES_BACK),
+        (&[taking_back::REQUESTS_STAY], GIVES_BACK),
+        (&[taking_back::RETIRED_FORGOTTEN], GIVES_BACK),
+        (&[taking_back::RETIRED_NOTED], GIVES_BACK),
+        (&[taking_back::FIRST_TAKEN], GIVES_BACK),
+        (&[taking_back::TWO_TAKEN], GIVES_BACK),
+        (&[taking_back::OF_FIRST], AS_IF_NEVER),
+        (&[taking_back::REQUESTS_STAY], AS_IF_NEVER),
+        (&[taking_back::RETIRED_FORGOTTEN], AS_IF_NEVER),
+        (&[taking_back::RETIRED_NOTED], AS_IF_NEVER),
+        (&[taking_back::FIRST_TAKEN], AS_IF_NEVER),
+        (&[taking_back::TWO_TAKEN], AS_IF_NEVER),
+        (&[taking_back::PART_CLEARED], AS_IF_NEVER),
     ])
 }
 
@@ -333,6 +382,8 @@ pub fn lawless_for_long() -> Vec<(Mutant, &'static str)> {
         (&[retiring::LAST_PART_CLEARED, retiring::PARTS_FROM_LAST], ALL_DELIVERED),
         (&[process::DELIVERY_AT_2F_PLUS_2], ALL_DELIVERED),
         (&[process::ECHOS_NOT_NOTED], ALL_DELIVERED),
+        (&[taking_back::ALL_OPEN], NEVER_REFUSED),
+        (&[taking_back::ROW_STAYS], NEVER_REFUSED),
     ])
 }
 
@@ -360,7 +411,8 @@ impl Mutant {
     /// With all mistakes of these names.
     fn of(names: &[&str]) -> Mutant {
         let make = |mutant: &mut Mutant| {
-            let all = [mistakes(), mistakes_with_shelves(), mistakes_in_joins(), retiring::MISTAKES.to_vec()].concat();
+            let leaving = [retiring::MISTAKES, taking_back::MISTAKES, taking_back::LEDGER_MISTAKES].concat();
+            let all = [mistakes(), mistakes_with_shelves(), mistakes_in_joins(), leaving].concat();
             for wanted in names {
                 let (_, mistake) = all.iter().find(|(name, _)| name == wanted).expect("a mistake's name");
                 mistake(mutant);
@@ -383,6 +435,7 @@ impl Mutant {
             after_admission: Box::new(|answer, _, _| answer),
             after_interpretation: Box::new(|answer, _, _, _| answer),
             after_retiring: Box::new(|answer, _, _| answer),
+            after_taking_back: Box::new(|answer, _| answer),
             after_forks: Box::new(|answer, _| answer),
             after_ancestors: Box::new(|answer, _, _| answer),
             after_building: Box::new(|answer, _| answer),
@@ -424,6 +477,11 @@ impl Mutant {
         exchange(&mut self.model.retiring.checks, number, finds);
     }
 
+    /// Exchanges a check of taking back.
+    fn taking_back(&mut self, number: u8, finds: fn(&Taken) -> Option<usize>) {
+        exchange(&mut self.model.taking_back.checks, number, finds);
+    }
+
     /// Exchanges a check of the ancestors.
     fn ancestors(&mut self, number: u8, finds: fn(&Question) -> Option<usize>) {
         exchange(&mut self.model.watch.ancestor_checks, number, finds);
@@ -462,6 +520,10 @@ impl Mutant {
 
     fn after_retiring(&mut self, after: impl Fn(Answer, &mut [u8], &mut [u16]) -> Answer + 'static) {
         self.after_retiring = Box::new(after);
+    }
+
+    fn after_taking_back(&mut self, after: impl Fn(Answer, &mut [u8]) -> Answer + 'static) {
+        self.after_taking_back = Box::new(after);
     }
 
     fn after_forks(&mut self, after: impl Fn(ForkedSites, &mut [u8]) -> ForkedSites + 'static) {
@@ -543,6 +605,11 @@ impl Calls for Mutant {
     fn retire(&self, table: &mut [u8], records: &mut [u16]) -> Answer {
         let answer = self.model.retire(table, records);
         (self.after_retiring)(answer, table, records)
+    }
+
+    fn take_back(&self, table: &mut [u8]) -> Answer {
+        let answer = self.model.take_back(table);
+        (self.after_taking_back)(answer, table)
     }
 
     fn forks(&self, table: &mut [u8]) -> ForkedSites {

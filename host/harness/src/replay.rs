@@ -6,11 +6,13 @@ pub enum Call<'a> {
     Admission { verdict: u8, block: &'a [u8] },
     Interpretation { place: usize },
     Retiring,
+    TakingBack,
 }
 
 const ADMISSION: u8 = 0;
 const INTERPRETATION: u8 = 1;
 const RETIRING: u8 = 2;
+const TAKING_BACK: u8 = 3;
 
 /// Bytes of a length and of a place, low byte first.
 pub const WIDE_BYTES: usize = 8;
@@ -30,6 +32,11 @@ pub fn interpretation(place: usize) -> Vec<u8> {
 /// A retiring has nothing to say but that it is one.
 pub fn retiring() -> Vec<u8> {
     vec![RETIRING]
+}
+
+/// A taking back is one byte too.
+pub fn taking_back() -> Vec<u8> {
+    vec![TAKING_BACK]
 }
 
 /// The first call of a list and what follows it; none where the list ends.
@@ -67,6 +74,7 @@ pub fn first(list: &[u8]) -> First<'_> {
             Some((Call::Interpretation { place: place as usize }, rest))
         }
         RETIRING => Some((Call::Retiring, rest)),
+        TAKING_BACK => Some((Call::TakingBack, rest)),
         _ => None,
     }
 }

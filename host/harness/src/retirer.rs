@@ -1,18 +1,20 @@
-//! A keeper that retires: it gets the blocks of a campaign in an order of its own, interprets them by and by, and retires
-//! now and then, sometimes sooner than is good for it. Blocks that have left come again. The list of its calls is kept, to
-//! be replayed.
+//! A keeper that retires: it gets the blocks of a campaign in an order of its own, interprets them by and by, and
+//! retires now and then, sometimes sooner than is good for it. It takes blocks back too, those of wrong files among
+//! them. Blocks that have left and blocks that were taken back come again. The list of its calls is kept, to be
+//! replayed.
 
 use crate::answer::Answer;
-use crate::arrivals::any;
+use crate::arrivals::{any, good};
 use crate::block;
 use crate::campaign::Campaign;
 use crate::compare::{Compare, Difference, Made};
 use crate::contents::some_length;
-use crate::counts::Coming;
+use crate::counts::{Coming, Going};
 use crate::kept::Kept;
+use crate::laws;
 use crate::lent::Lent;
 use crate::random::Random;
-use crate::replay::{admission, interpretation, retiring};
+use crate::replay::{admission, interpretation, retiring, taking_back};
 use crate::sha256::sha256;
 use crate::sizes::{BUFFER_NUMBERS, PLACES};
 use crate::table::Table;
@@ -24,6 +26,11 @@ pub struct Retirer<'a> {
     calls: Vec<u8>,
     answers: Vec<Answer>,
     before: Lent,
+    /// Whether the last call admitted a block.
+    just_admitted: bool,
+    /// Whether each admission is taken back on a copy. Else wrong rules show whether the laws of what the lists leave
+    /// say something by themselves.
+    on_copies: bool,
 }
 
 struct Habits {
@@ -36,6 +43,9 @@ struct Habits {
     again_one_in: usize,
     interprets_one_in: usize,
     refused_one_in: usize,
+    /// Of so many calls one takes back the last block, whether it can be or not; and one begins to load a wrong file.
+    takes_back_one_in: usize,
+    loads_one_in: usize,
 }
 
 impl Habits {
@@ -50,6 +60,8 @@ impl Habits {
             again_one_in: random.pick(&[6, 12, 1000]),
             interprets_one_in: random.pick(&[1, 1, 2, 4]),
             refused_one_in: random.pick(&[6, 12, 1000]),
+            takes_back_one_in: random.pick(&[8, 24, 1000]),
+            loads_one_in: random.pick(&[24, 48, 1000]),
         }
     }
 }
@@ -66,7 +78,9 @@ impl<'a> Retirer<'a> {
         let numbers = if random.one_in(24) { some_length(random) } else { BUFFER_NUMBERS };
         let kept = Kept::new(random, compare, (campaign.sites, campaign.owners), numbers, first_law)?;
         let before = Lent::new(kept.left().table.clone(), kept.left().records.clone());
-        let mut retirer = Retirer { campaign, kept, calls: Vec::new(), answers: Vec::new(), before };
+        let on_copies = first_law.is_some() && random.one_in(2);
+        let (calls, answers) = (Vec::new(), Vec::new());
+        let mut retirer = Retirer { campaign, kept, calls, answers, before, just_admitted: false, on_copies };
         while retirer.answers.len() < habits.most_calls {
             retirer.next_call(random, compare, &habits)?;
         }
@@ -87,18 +101,30 @@ impl<'a> Retirer<'a> {
 
     fn admit(&mut self, compare: &mut Compare, bytes: &[u8], verdict: u8) -> Result<Answer, Difference> {
         let coming = self.coming(bytes);
+        let before = self.kept.left().table.clone();
         self.calls.extend(admission(verdict, bytes));
         let answer = self.kept.admit(compare, bytes, verdict)?;
         compare.counts.retirings.admitted(answer, &coming);
-        self.answers.push(answer);
+        compare.counts.takings_back.admitted(answer, coming.was_taken_back);
+        self.note(answer);
+        self.just_admitted = answer.refusal == 0;
+        if self.just_admitted && self.on_copies {
+            laws::check_gives_back(compare, before, &self.kept.left().table)?;
+        }
         Ok(answer)
+    }
+
+    fn note(&mut self, answer: Answer) {
+        self.answers.push(answer);
+        self.just_admitted = false;
     }
 
     fn coming(&self, bytes: &[u8]) -> Coming {
         let ledger = &self.kept.ledger;
-        let references = block::references(bytes);
+        let (digest, references) = (sha256(bytes), block::references(bytes));
         Coming {
-            has_left: ledger.is_gone(&sha256(bytes)),
+            has_left: ledger.is_gone(&digest),
+            was_taken_back: ledger.was_taken_back(&digest),
             refers_to_lost: references.iter().any(|reference| ledger.is_gone(reference)),
             refers_to_returned: references.iter().any(|reference| ledger.has_returned(reference)),
         }
@@ -110,7 +136,7 @@ impl<'a> Retirer<'a> {
         let again = digest.is_some_and(|digest| self.kept.parts.contains_key(&digest));
         let answer = self.kept.interpret(compare, place)?;
         compare.counts.retirings.interpreted(answer, again);
-        self.answers.push(answer);
+        self.note(answer);
         Ok(())
     }
 
@@ -119,8 +145,27 @@ impl<'a> Retirer<'a> {
         let before = Table::from_bytes(&self.kept.left().table);
         let answer = self.kept.retire(compare)?;
         compare.counts.retirings.asked(&before, self.kept.left().records.len(), answer);
-        self.answers.push(answer);
+        self.note(answer);
         Ok(())
+    }
+
+    fn take_back(&mut self, compare: &mut Compare) -> Result<(), Difference> {
+        self.calls.extend(taking_back());
+        let going = self.going();
+        let answer = self.kept.take_back(compare)?;
+        compare.counts.takings_back.taken(answer, &going);
+        self.note(answer);
+        Ok(())
+    }
+
+    fn going(&self) -> Going {
+        let ledger = &self.kept.ledger;
+        let last = ledger.count().checked_sub(1).map(|place| ledger.at(place));
+        Going {
+            just_admitted: self.just_admitted,
+            has_returned: last.is_some_and(|last| ledger.has_returned(&last.digest)),
+            is_twin: last.is_some_and(|last| ledger.counting().any(|other| other.is_twin_of(last))),
+        }
     }
 
     // ---- Which call comes next
@@ -129,6 +174,12 @@ impl<'a> Retirer<'a> {
         let can = self.kept.ledger.count() >= habits.from && self.kept.ledger.may_retire();
         if can && random.one_in(habits.retires_one_in) || random.one_in(8 * habits.retires_one_in) {
             return self.retire(compare);
+        }
+        if random.one_in(habits.takes_back_one_in) {
+            return self.take_back(compare);
+        }
+        if random.one_in(habits.loads_one_in) {
+            return self.load_wrong_file(random, compare);
         }
         if random.one_in(habits.refused_one_in) {
             return self.odd_call(random, compare);
@@ -149,7 +200,7 @@ impl<'a> Retirer<'a> {
         self.admit(compare, &campaign.blocks[block].bytes, 1).map(|_| ())
     }
 
-    /// The campaign's blocks that were never admitted and whose references are all held.
+    /// The campaign's blocks that were never admitted, or were taken back, and whose references are all held.
     fn ready(&self) -> Vec<usize> {
         let ledger = &self.kept.ledger;
         let new = |block: usize| {
@@ -166,6 +217,21 @@ impl<'a> Retirer<'a> {
     fn gone(&self) -> Vec<usize> {
         let has_left = |block: &usize| self.kept.ledger.is_gone(&self.campaign.blocks[*block].digest);
         (0..self.campaign.blocks.len()).filter(has_left).collect()
+    }
+
+    /// Blocks of another file come and are taken back, the last one first. Many of them would be forks. Something may
+    /// be retired meanwhile.
+    fn load_wrong_file(&mut self, random: &Random, compare: &mut Compare) -> Result<(), Difference> {
+        let mut admitted = 0;
+        for _ in 0..random.between(1, 3) {
+            let held = Table::from_bytes(&self.kept.left().table);
+            let answer = self.admit(compare, &good(random, &held).block, 1)?;
+            admitted += usize::from(answer.refusal == 0);
+        }
+        if random.one_in(4) {
+            self.retire(compare)?;
+        }
+        (0..admitted).try_for_each(|_| self.take_back(compare))
     }
 
     /// A call that is mostly refused.

@@ -4,7 +4,9 @@
 use std::ops::Range;
 
 use crate::calls::Calls;
-use crate::cases::{first_difference, Cases, Found, Kind, GROUPS, JOINS, LASTING, LISTINGS, RETIRINGS, SHELVES};
+use crate::cases::{
+    first_difference, Cases, Found, Kind, GROUPS, JOINS, LASTING, LISTINGS, RETIRINGS, SHELVES, TAKINGS_BACK,
+};
 use crate::counts::Counts;
 use crate::examples;
 use crate::model::Model;
@@ -24,9 +26,10 @@ pub fn run(options: &Options) -> bool {
     let shelves = first(MOST_SHELVES, &options.cases, &SHELVES);
     let joins = first(MOST_JOINS, &options.cases, &JOINS);
     let retirings = first(MOST_RETIRINGS, &options.cases, &RETIRINGS);
+    let takings_back = first(MOST_TAKINGS_BACK, &options.cases, &TAKINGS_BACK);
     let lasting = first(MOST_LASTING, &options.cases, &LASTING);
     // The other way round: what follows the rules must not be found to differ.
-    for cases in [&options.cases, &listings, &shelves, &joins, &retirings, &lasting] {
+    for cases in [&options.cases, &listings, &shelves, &joins, &retirings, &takings_back, &lasting] {
         if let Some(found) = find(&model, &model, &mut cases.clone()) {
             println!("the model differs from itself, case {}, kind {}: {}", found.case, found.kind, found.difference);
             return false;
@@ -39,6 +42,7 @@ pub fn run(options: &Options) -> bool {
         (mutants::of_shelves(), &shelves),
         (mutants::of_joins(), &joins),
         (mutants::of_retirings(), &retirings),
+        (mutants::of_takings_back(), &takings_back),
     ];
     for (mutants, cases) in by_cases {
         for mutant in mutants {
@@ -52,6 +56,7 @@ pub fn run(options: &Options) -> bool {
         (mutants::lawless_with_shelves(), &shelves),
         (mutants::lawless_in_joins(), &joins),
         (mutants::lawless_in_retirings(), &retirings),
+        (mutants::lawless_in_takings_back(), &takings_back),
         (mutants::lawless_for_long(), &lasting),
     ];
     for (lawless, cases) in by_laws {
@@ -70,7 +75,8 @@ const MOST_GROUPS: u64 = 1000;
 const MOST_SHELVES: u64 = 1000;
 const MOST_JOINS: u64 = 1000;
 const MOST_RETIRINGS: u64 = 1500;
-const MOST_LASTING: u64 = 8;
+const MOST_TAKINGS_BACK: u64 = 1000;
+const MOST_LASTING: u64 = 12;
 
 /// The first of the cases, so many at most, all of one kind.
 fn first(most: u64, cases: &Cases, kind: &'static Kind) -> Cases {

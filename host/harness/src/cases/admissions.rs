@@ -3,6 +3,7 @@
 use crate::arrivals::{any, good, Sent};
 use crate::compare::{Compare, Difference};
 use crate::damage::damaged;
+use crate::laws;
 use crate::lent::{Lent, Sides};
 use crate::random::Random;
 use crate::sha256::sha256;
@@ -15,14 +16,17 @@ fn sides(table: Vec<u8>) -> Sides {
     Sides::new(Lent::new(table, Vec::new()))
 }
 
-/// Reads the block, takes its digest and admits it.
+/// Reads the block, takes its digest and admits it; taken back, it leaves the table as it was.
 fn arrive(random: &Random, compare: &mut Compare, sides: &mut Sides, sent: &Sent) -> Result<(), Difference> {
     compare.read_block(&sent.block)?;
     let any = random.between(0, 2 * DIGEST_BYTES);
     let length = random.pick(&[DIGEST_BYTES, DIGEST_BYTES, DIGEST_BYTES - 1, DIGEST_BYTES + 1, 0, any]);
     compare.digest(&sent.block, &random.bytes(length))?;
-    compare.admit(sides, &sent.block, sent.verdict)?;
-    Ok(())
+    let before = sides.expected.table.clone();
+    match compare.admit(sides, &sent.block, sent.verdict)?.refusal {
+        0 => laws::check_gives_back(compare, before, &sides.expected.table),
+        _ => Ok(()),
+    }
 }
 
 /// How many arrivals come to a table that is full.

@@ -7,7 +7,7 @@ use crate::damage::damaged;
 use crate::lent::{Lent, Sides};
 use crate::parts::{bytes_after, cut_in};
 use crate::random::Random;
-use crate::replay::{admission, interpretation, retiring, BEFORE_BLOCK, WIDE_BYTES};
+use crate::replay::{admission, interpretation, retiring, taking_back, BEFORE_BLOCK, WIDE_BYTES};
 use crate::table::Table;
 use crate::tables;
 use crate::targets::some_target;
@@ -61,16 +61,17 @@ fn some_calls(random: &Random, table: &Table) -> Vec<Vec<u8>> {
     let mut held = table.clone();
     let mut earlier = Vec::new();
     for _ in 0..random.between(1, MOST_CALLS) {
-        if random.one_in(4) {
-            calls.push(retiring());
-        } else if random.one_in(2) {
-            let sent = if random.one_in(3) { any(random, table, &earlier) } else { good(random, table) };
-            calls.push(admission(sent.verdict, &sent.block));
-            earlier.push(sent.block);
-            // As if it were admitted: so that its place is asked for.
-            held.count = (held.count + 1).min(held.rows.len());
-        } else {
-            calls.push(interpretation(some_target(random, &held)));
+        match random.below(16) {
+            0..=3 => calls.push(retiring()),
+            4..=6 => calls.push(taking_back()),
+            7..=11 => {
+                let sent = if random.one_in(3) { any(random, table, &earlier) } else { good(random, table) };
+                calls.push(admission(sent.verdict, &sent.block));
+                earlier.push(sent.block);
+                // As if it were admitted: so that its place is asked for.
+                held.count = (held.count + 1).min(held.rows.len());
+            }
+            _ => calls.push(interpretation(some_target(random, &held))),
         }
     }
     calls
@@ -90,7 +91,7 @@ fn damaged_list(random: &Random, calls: &[Vec<u8>]) -> Vec<u8> {
         // Cut in a call's fixed part, or right before its end.
         1 => cut_in(random, &mut calls, at, &[1, 2, WIDE_BYTES, WIDE_BYTES + 1, BEFORE_BLOCK]),
         // Not a call, or another one.
-        2 => calls[at][0] = random.pick(&[2, 3, 3, 4, 128, 255, random.byte()]),
+        2 => calls[at][0] = random.pick(&[2, 3, 4, 4, 5, 128, 255, random.byte()]),
         // The one call taken for the other.
         3 => calls[at][0] ^= 1,
         4 if calls[at].len() > WIDE_BYTES => other_length(random, &mut calls[at], after),

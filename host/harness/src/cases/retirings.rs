@@ -66,6 +66,7 @@ fn campaigns(random: &Random, compare: &mut Compare) -> Result<(), Difference> {
     let watched = [watched(&one)?, watched(&other)?];
     let ever = Ever { sites: [&one.kept, &other.kept], site_count: campaign.sites, watched };
     compare.counts.retirings.ended(&ever);
+    compare.counts.takings_back.ended(&ever);
     laws::check_ever(&ever)?;
     join(random, compare, [one.kept.left(), other.kept.left()])?;
     for retirer in [one, other] {

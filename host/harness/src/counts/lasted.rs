@@ -11,6 +11,7 @@ pub struct Lasted {
     blocks: u64,
     retirings: u64,
     when_full: u64,
+    takings_back: u64,
     deliveries: u64,
     to_the_end: u64,
 }
@@ -20,9 +21,10 @@ impl Lasted {
         let kept = || (0..long.sites).map(|site| long.kept(site));
         self.campaigns += 1;
         self.sites += u64::from(long.sites);
-        self.blocks += long.kept(0).ledger.known().len() as u64;
+        self.blocks += long.kept(0).ledger.counting().count() as u64;
         self.retirings += kept().map(|kept| kept.ledger.retirings() as u64).sum::<u64>();
         self.when_full += long.when_full;
+        self.takings_back += kept().map(|kept| kept.ledger.takings_back() as u64).sum::<u64>();
         self.deliveries += kept().flat_map(|kept| &kept.delivered).map(|numbers| numbers.len() as u64).sum::<u64>();
     }
 
@@ -40,6 +42,7 @@ impl Display for Lasted {
         line("blocks of long campaigns", self.blocks)?;
         line("retirings in long campaigns", self.retirings)?;
         line("retirings in long campaigns with a full table", self.when_full)?;
+        line("takings back in long campaigns", self.takings_back)?;
         line("slots delivered at sites of long campaigns", self.deliveries)?;
         line("sites that came to 65,535 and then got 30", self.to_the_end)
     }

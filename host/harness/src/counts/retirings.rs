@@ -58,6 +58,8 @@ const CAMPAIGNS: [&str; 6] = [
 pub struct Coming {
     /// It has left.
     pub has_left: bool,
+    /// An admission of it was taken back.
+    pub was_taken_back: bool,
     /// It refers to one that has left and isn't held.
     pub refers_to_lost: bool,
     /// It refers to one that has left and came again.
@@ -107,7 +109,7 @@ impl Retirings {
     }
 
     pub fn admitted(&mut self, answer: Answer, coming: &Coming) {
-        let Coming { has_left, refers_to_lost, refers_to_returned } = *coming;
+        let Coming { has_left, refers_to_lost, refers_to_returned, .. } = *coming;
         let [admitted, not_held] = [0, 9].map(|refusal| answer.refusal == refusal);
         self.admitted.note([
             has_left && admitted,
@@ -134,7 +136,7 @@ impl Retirings {
             both && one != other,
             both && ever.forked() != 0 && ever.few_forked(),
             ever.forked() & !named != 0,
-            ever.sites.iter().any(|site| site.ledger.known().len() > PLACES),
+            ever.sites.iter().any(|site| site.ledger.counting().count() > PLACES),
         ]);
     }
 }

@@ -2,7 +2,7 @@
 
 use std::fmt::{self, Display, Formatter};
 
-use crate::alone::{Call, Reply, Story};
+use crate::alone::{Call, Story};
 use crate::brought::Brought;
 use crate::shelf::Shelf;
 use crate::shelf_form::DOCUMENT;
@@ -39,6 +39,7 @@ pub struct Shelves {
     alone_refused_19: u64,
     alone_let_in: u64,
     alone_retired: u64,
+    alone_took_back: u64,
 }
 
 /// Arrivals that lack a reference.
@@ -106,8 +107,9 @@ impl Shelves {
         self.alone += 1;
         self.alone_refused_19 += met(19);
         self.alone_let_in += u64::from(story.replies.iter().any(|reply| !reply.listed.is_empty()));
-        let retires = |(call, reply): (&Call, &Reply)| matches!(call, Call::Retiring) && reply.answer.refusal == 0;
-        self.alone_retired += u64::from(story.calls.iter().zip(&story.replies).any(retires));
+        let passed = || story.calls.iter().zip(&story.replies).filter(|(_, reply)| reply.answer.refusal == 0);
+        self.alone_retired += u64::from(passed().any(|(call, _)| matches!(call, Call::Retiring)));
+        self.alone_took_back += u64::from(passed().any(|(call, _)| matches!(call, Call::TakingBack)));
     }
 }
 
@@ -174,6 +176,7 @@ impl Display for Shelves {
         line("campaigns replayed alone", self.alone)?;
         line("campaigns replayed alone that got 19", self.alone_refused_19)?;
         line("campaigns replayed alone with waiting blocks ended", self.alone_let_in)?;
-        line("campaigns replayed alone that retired", self.alone_retired)
+        line("campaigns replayed alone that retired", self.alone_retired)?;
+        line("campaigns replayed alone that took back", self.alone_took_back)
     }
 }

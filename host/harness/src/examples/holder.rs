@@ -5,6 +5,7 @@ use crate::calls::Calls;
 use crate::draft::Draft;
 use crate::sha256::{sha256, Digest};
 use crate::sizes::{BUFFER_NUMBERS, SLOTS, TABLE_BYTES};
+use crate::table::Table;
 
 /// Site 0 owns all slots.
 pub struct Holder<'a> {
@@ -34,12 +35,24 @@ impl<'a> Holder<'a> {
         (answer.refusal, answer.value)
     }
 
+    pub fn admit(&mut self, bytes: &[u8]) -> (u8, usize) {
+        let answer = self.calls.admit(&mut self.table, &mut bytes.to_vec(), 1);
+        (answer.refusal, answer.value)
+    }
+
+    /// With a change that no call makes.
+    pub fn changed(self, change: fn(&mut Table)) -> Holder<'a> {
+        let mut table = Table::from_bytes(&self.table);
+        change(&mut table);
+        Holder { table: table.to_bytes(), ..self }
+    }
+
     /// Admits a block and interprets it.
     pub fn block(&mut self, site: u8, sequence: u16, places: &[usize], number: Option<u16>) -> usize {
         let references = places.iter().map(|&place| self.digest(place)).collect();
         let requests = number.map(|number| Request { slot: 0, number }).into_iter().collect();
         let bytes = Draft { site, sequence, references, requests, verdict: 1 }.to_bytes();
-        self.calls.admit(&mut self.table, &mut bytes.clone(), 1);
+        self.admit(&bytes);
         self.blocks.push(bytes);
         let place = self.blocks.len() - 1;
         self.interpret(place);

@@ -12,6 +12,8 @@ pub fn all(calls: &dyn Calls) -> Vec<(&'static str, bool)> {
     let both = [&ADMISSION[..], &INTERPRETATION].concat();
     let again = [&both[..], &both].concat();
     let retiring = [&both[..], &[2]].concat();
+    let taken_back = [&ADMISSION[..], &[3], &ADMISSION].concat();
+    let too_late = [&both[..], &[3]].concat();
     let [longer, other_verdict] = [(2, 6), (1, 2)].map(|(at, byte)| changed(&both, at, byte));
     vec![
         ("no calls: none runs", ran(calls, &[], 2) == (0, vec![UNUSED; 2])),
@@ -24,10 +26,14 @@ pub fn all(calls: &dyn Calls) -> Vec<(&'static str, bool)> {
         ("a cut block doesn't run", ran(calls, &both[..14], 2) == (0, vec![UNUSED; 2])),
         ("a block longer than what is left ends the list", ran(calls, &changed(&both, 9, 255), 2).0 == 0),
         ("a block that takes a byte of the next call: 3, and the end", ran(calls, &longer, 2) == (1, vec![3, 0])),
-        ("another first byte ends the list", ran(calls, &changed(&both, 15, 3), 4).0 == 1),
+        ("another first byte ends the list", ran(calls, &changed(&both, 15, 4), 4).0 == 1),
         ("a retiring of nothing: 13", ran(calls, &[2], 2) == (1, vec![13, 0])),
         ("a retiring of the only block: 29", ran(calls, &retiring, 6) == (3, vec![0, 0, 0, 0, 29, 0])),
-        ("bytes of a retiring are calls of their own", ran(calls, &[2, 2, 3, 2], 4) == (2, vec![13, 0, 13, 0])),
+        ("bytes of a retiring are calls of their own", ran(calls, &[2, 2, 4, 2], 4) == (2, vec![13, 0, 13, 0])),
+        ("a taking back of nothing: 32", ran(calls, &[3], 2) == (1, vec![32, 0])),
+        ("a taking back of the only block, which comes again", ran(calls, &taken_back, 6) == (3, vec![0; 6])),
+        ("a taking back of an interpreted block: 33", ran(calls, &too_late, 6) == (3, vec![0, 0, 0, 0, 33, 0])),
+        ("bytes of a taking back are calls of their own", ran(calls, &[3, 3, 4, 3], 4) == (2, vec![32, 0, 32, 0])),
     ]
 }
 

@@ -14,14 +14,14 @@ pub fn all(calls: &dyn Calls) -> Vec<(&'static str, bool)> {
         ("a single block: 29", retired(&mut chain(new(1), 1)) == (29, 0)),
         ("a chain of two: the second is left", chain_of_two(two())),
         ("and then no more: 29", retired(&mut after(two(), 1)) == (29, 0)),
-        ("the first isn't interpreted: 29", retired(&mut changed(two(), |table| unmark(table, &[0, 1]))) == (29, 0)),
-        ("the second isn't interpreted: 29", retired(&mut changed(two(), |table| unmark(table, &[1]))) == (29, 0)),
+        ("the first isn't interpreted: 29", retired(&mut two().changed(|table| unmark(table, &[0, 1]))) == (29, 0)),
+        ("the second isn't interpreted: 29", retired(&mut two().changed(|table| unmark(table, &[1]))) == (29, 0)),
         ("another site's open block refers to it: 29", open_reference(new(4)) == (29, 0)),
         ("another site's open block doesn't refer to it", open_beside(new(4)) == (0, 0)),
         ("later blocks of another site alone: 29", later_of_another(new(4)) == (29, 0)),
         ("a twin alone: 29", twins(new(4)) == (29, 0)),
-        ("a table not in form: 2", retired(&mut changed(two(), |table| table.retired = 2)) == (2, 0)),
-        ("a number too few, and not in form: 2", short(changed(two(), |table| table.retired = 2)) == (2, 0)),
+        ("a table not in form: 2", retired(&mut two().changed(|table| table.retired = 2)) == (2, 0)),
+        ("a number too few, and not in form: 2", short(two().changed(|table| table.retired = 2)) == (2, 0)),
         ("a number too few: 12", short(two()) == (12, 0)),
         ("a number too few, and no block: 12", short(new(4)) == (12, 0)),
         ("the records move, and the last part stays", records_move(chain(new(1), 4))),
@@ -31,10 +31,10 @@ pub fn all(calls: &dyn Calls) -> Vec<(&'static str, bool)> {
         ("the delivery is that of the chain of four", delivery(calls) == [7, 0, 0, 7]),
         (
             "a missing parent of an open place: not in form",
-            !in_form(changed(after(two(), 1), |table| unmark(table, &[0]))),
+            !in_form(after(two(), 1).changed(|table| unmark(table, &[0]))),
         ),
         ("a missing parent where nothing was retired: not in form", {
-            !in_form(changed(after(two(), 1), |table| table.retired = 0))
+            !in_form(after(two(), 1).changed(|table| table.retired = 0))
         }),
         ("sequence 65,534: the last number comes", last_numbers(new(1), u16::MAX - 1) == (0, Some(u16::MAX))),
         ("sequence 65,535: 30", last_numbers(new(1), u16::MAX) == (30, None)),
@@ -65,12 +65,6 @@ fn after(mut holder: Holder, retirings: usize) -> Holder {
     holder
 }
 
-fn changed<'a>(holder: Holder<'a>, change: fn(&mut Table)) -> Holder<'a> {
-    let mut table = Table::from_bytes(&holder.table);
-    change(&mut table);
-    Holder { table: table.to_bytes(), ..holder }
-}
-
 fn unmark(table: &mut Table, places: &[usize]) {
     places.iter().for_each(|&place| table.rows[place].mark = 0);
 }
@@ -93,13 +87,13 @@ fn chain_of_two(mut holder: Holder) -> bool {
 fn open_reference(holder: Holder) -> (u8, usize) {
     let mut holder = chain(holder, 2);
     holder.block(1, 0, &[0], None);
-    retired(&mut changed(holder, |table| unmark(table, &[2])))
+    retired(&mut holder.changed(|table| unmark(table, &[2])))
 }
 
 fn open_beside(holder: Holder) -> (u8, usize) {
     let mut holder = chain(holder, 2);
     holder.block(1, 0, &[1], None);
-    retired(&mut changed(holder, |table| unmark(table, &[2])))
+    retired(&mut holder.changed(|table| unmark(table, &[2])))
 }
 
 fn later_of_another(mut holder: Holder) -> (u8, usize) {
@@ -140,23 +134,18 @@ fn one_more(mut holder: Holder) -> bool {
         && (table.count, table.rows[place].mark) == (PLACES, 1)
 }
 
-fn admitted(holder: &mut Holder, bytes: &[u8]) -> (u8, usize) {
-    let answer = holder.calls.admit(&mut holder.table, &mut bytes.to_vec(), 1);
-    (answer.refusal, answer.value)
-}
-
 /// The second of the chain again as a block of site 0 that refers to the first.
 fn refers_to_lost(mut holder: Holder) -> (u8, usize) {
     let mut twin = holder.blocks[1].clone();
     twin[4] = 1;
     twin.extend([1, 0, 1]);
-    admitted(&mut holder, &twin)
+    holder.admit(&twin)
 }
 
 /// At the next place, unmarked; the block that names it doesn't refer to it again.
 fn comes_again(mut holder: Holder) -> bool {
     let first = holder.blocks[0].clone();
-    let answer = admitted(&mut holder, &first);
+    let answer = holder.admit(&first);
     let table = Table::from_bytes(&holder.table);
     answer == (0, 1) && (table.rows[1].mark, table.rows[0].references) == (0, 0) && in_form(holder)
 }
@@ -166,7 +155,7 @@ fn delivery(calls: &dyn Calls) -> [u16; 4] {
     let whole = chain(Holder::new(calls, 1), 4);
     let mut holder = Holder::new(calls, 1);
     for block in &whole.blocks {
-        let (_, place) = admitted(&mut holder, block);
+        let (_, place) = holder.admit(block);
         holder.interpret(place);
         retired(&mut holder);
     }

@@ -23,6 +23,7 @@ pub fn all(calls: &dyn Calls) -> Vec<(&'static str, bool)> {
         ("admitted meanwhile: dropped with 8", held_meanwhile(new())),
         ("the table is full: dropped with 11", full_table(new())),
         ("no try after a refused arrival", refused_arrival(new())),
+        ("what was let in and taken back doesn't wait again", taken_back(new())),
         ("campaign 4: 21, whatever else", campaign_4(new())),
         ("19 numbers for outcomes: 17, before 2", nineteen_numbers(new())),
         ("a shelf of 8,704 bytes: 2", short_shelf(new())),
@@ -193,6 +194,19 @@ fn refused_arrival(mut follower: Follower) -> bool {
         && follower.arrive(0, &blocks[0]) == refused(8, 0)
         && follower.shelf[0] == 1
         && follower.arrive(0, &requesting(&[(0, 7)])) == let_in(1, 2..3)
+}
+
+/// Both in reverse; then the first is let in alone.
+fn taken_back(mut follower: Follower) -> bool {
+    let blocks = chain(2);
+    let before = follower.tables[0].clone();
+    follower.all_wait(0, &blocks[1..])
+        && follower.arrive(0, &blocks[0]) == let_in(0, 1..2)
+        && (0..2).all(|_| follower.calls.take_back(&mut follower.tables[0]).refusal == 0)
+        && follower.tables[0] == before
+        && follower.nothing_waits()
+        && follower.arrive(0, &blocks[0]) == let_in(0, 0..0)
+        && follower.nothing_waits()
 }
 
 fn campaign_4(mut follower: Follower) -> bool {

@@ -1,8 +1,9 @@
 //! What must hold of an arrival with a shelf, by what was there before and after it.
 
 use super::Law;
-use crate::answer::Answer;
-use crate::brought::{Brought, Plain};
+use crate::answer::{Answer, ArrivalAnswer};
+use crate::brought::{Brought, Plain, TakenBack};
+use crate::lent::first_other;
 use crate::sha256::sha256;
 use crate::shelf::Entry;
 use crate::sizes::RESERVED;
@@ -14,8 +15,15 @@ pub const ONLY_BY_9: &str = "law: by a 9 the shelf changes and nothing else, by 
 pub const ACCOUNTED_FOR: &str = "law: what waited waits still or is listed, a 9 comes to wait, and nothing else does";
 pub const TRIED_OUT: &str = "law: after an admission each block that still waits for the campaign gets 9";
 pub const PLAIN: &str = "law: an arrival and its tries are plain admissions in the order made";
+pub const ONE_BY_ONE: &str =
+    "law: an arrival and all that it let in, taken back one by one, leave the table before it, all bytes";
+pub const WAITS_NO_MORE: &str =
+    "law: what was let in and taken back doesn't wait again: the same arrival then lets in nothing";
 
-pub const LAWS: [Law<Brought>; 6] = [
+pub const LAWS: [Law<Brought>; 8] = [
+    // First, since only some arrivals are taken back: so wrong rules show whether each law says something by itself.
+    Law { name: ONE_BY_ONE, broken: not_taken_back },
+    Law { name: WAITS_NO_MORE, broken: waits_again },
     Law { name: STAYS_IN_FORM, broken: out_of_form },
     Law { name: NEVER_19, broken: too_soon },
     Law { name: ONLY_BY_9, broken: changed },
@@ -89,4 +97,19 @@ fn not_plain(brought: &Brought) -> Option<String> {
         let held = Table::from_bytes(&brought.after.table).place_of(&sha256(&brought.sent.block));
         format!("plainly {answers:?}, the arrival at {held:?}, listed {:?}", brought.listed)
     })
+}
+
+fn not_taken_back(brought: &Brought) -> Option<String> {
+    let TakenBack { refusals, table, .. } = brought.taken_back.as_ref()?;
+    let other = first_other("table", table, &brought.before.table);
+    let refused = refusals.iter().any(|&refusal| refusal != 0);
+    (refused || other.is_some()).then(|| format!("{refusals:?}, {other:?}"))
+}
+
+/// With fewer blocks held, what still waited gets 9 as before.
+fn waits_again(brought: &Brought) -> Option<String> {
+    let TakenBack { again, shelf, .. } = brought.taken_back.as_ref()?;
+    let other = first_other("shelf", shelf, &brought.after.shelf.to_bytes());
+    let alone = ArrivalAnswer { answer: brought.answer, ended: 0 };
+    (*again != alone || other.is_some()).then(|| format!("{again:?}, {other:?}"))
 }

@@ -1,7 +1,7 @@
 //! What must hold of all calls of one campaign, from a start with an empty shelf.
 
 use super::Law;
-use crate::alone::{Call, Story};
+use crate::alone::{Call, Reply, Story};
 use crate::sha256::{sha256, Digest};
 use crate::table::Table;
 
@@ -35,7 +35,7 @@ fn depends_on_others(told: &Told) -> Option<String> {
     what.iter().find(|(differs, _)| *differs).map(|(_, what)| what.to_string())
 }
 
-/// As many ended or wait as got 9; those that wait did get it, and so did those that were let in and haven't left since, by
+/// As many ended or wait as got 9; those that wait did get it, and so did those that were let in and are still held, by
 /// their digests.
 fn lost_or_invented(told: &Told) -> Option<String> {
     let Story { calls, replies, table, waiting, .. } = told.among_others;
@@ -48,17 +48,35 @@ fn lost_or_invented(told: &Told) -> Option<String> {
     let listed: Vec<[u64; 2]> = replies.iter().flat_map(|reply| reply.listed.clone()).collect();
     let held = Table::from_bytes(table);
     let known = |place: usize| held.held().get(place).is_some_and(|row| digests.contains(&row.digest));
-    let let_in = |at: usize| replies[at].listed.iter().filter(|listed| listed[0] == 0).map(|listed| listed[1] as usize);
-    // It has moved down by as many places as blocks were retired since.
-    let known_now = |at: usize, place: usize| place.checked_sub(retired_after(told.among_others, at)).is_none_or(known);
     let lawful = answered_9.len() == waiting.len() + listed.len()
         && waiting.iter().all(|block| answered_9.contains(block))
-        && (0..replies.len()).all(|at| let_in(at).all(|place| known_now(at, place)));
+        && let_in(told.among_others).into_iter().all(known);
     (!lawful).then(|| format!("{} got 9, {} wait, {listed:?} ended", answered_9.len(), waiting.len()))
 }
 
-/// How many blocks were retired after a call.
-fn retired_after(story: &Story, at: usize) -> usize {
-    let later = story.calls.iter().zip(&story.replies).skip(at + 1);
-    later.filter(|(call, reply)| matches!(call, Call::Retiring) && reply.answer.refusal == 0).count()
+/// The places at which blocks that were let in from the shelf stand at the end.
+fn let_in(story: &Story) -> Vec<usize> {
+    let mut standing: Vec<usize> = Vec::new();
+    // How many blocks are held: admissions tell it, and none was let in before the first one.
+    let mut count = 0;
+    let passed = story.calls.iter().zip(&story.replies).filter(|(_, reply)| reply.answer.refusal == 0);
+    for (call, Reply { answer, listed }) in passed {
+        match call {
+            Call::Arrival(..) | Call::Admission(_) => {
+                let places = listed.iter().filter(|listed| listed[0] == 0).map(|listed| listed[1] as usize);
+                count = answer.value + 1 + places.clone().count();
+                standing.extend(places);
+            }
+            Call::Interpretation(_) => {}
+            Call::Retiring => {
+                count = count.saturating_sub(1);
+                standing = standing.iter().filter_map(|place| place.checked_sub(1)).collect();
+            }
+            Call::TakingBack => {
+                count = count.saturating_sub(1);
+                standing.retain(|&place| place < count);
+            }
+        }
+    }
+    standing
 }

@@ -31,13 +31,13 @@ pub const MISTAKES: &[Mistake] = &[
     }),
     ("replay: another first byte is skipped", |m| {
         m.model.replay.first = |list| {
-            let others = list.iter().take_while(|&&byte| byte > 2).count();
+            let others = list.iter().take_while(|&&byte| byte > 3).count();
             first(&list[others..])
         }
     }),
     ("replay: another first byte is an interpretation", |m| {
         m.model.replay.first = |list| match list {
-            [3..=255, rest @ ..] => {
+            [4..=255, rest @ ..] => {
                 wide(rest).map(|(place, rest)| (Call::Interpretation { place: place as usize }, rest))
             }
             _ => first(list),
@@ -76,12 +76,6 @@ pub const MISTAKES: &[Mistake] = &[
             other => Some(other),
         }
     }),
-    ("replay: 3 is a retiring too", |m| {
-        m.model.replay.first = |list| match list {
-            [3, rest @ ..] => Some((Call::Retiring, rest)),
-            _ => first(list),
-        }
-    }),
     ("replay: all bytes from 2 on are retirings", |m| {
         m.model.replay.first = |list| match list {
             [2..=255, rest @ ..] => Some((Call::Retiring, rest)),
@@ -93,6 +87,58 @@ pub const MISTAKES: &[Mistake] = &[
             (Call::Retiring, rest) => {
                 let more = rest.iter().take_while(|&&byte| byte == 2).count();
                 Some((Call::Retiring, &rest[more..]))
+            }
+            other => Some(other),
+        }
+    }),
+    ("replay: a taking back ends the list", |m| {
+        m.model.replay.first = |list| first(list).filter(|(call, _)| !matches!(call, Call::TakingBack))
+    }),
+    ("replay: a taking back has a place like an interpretation", |m| {
+        m.model.replay.first = |list| match list {
+            [3, rest @ ..] => wide(rest).map(|(_, rest)| (Call::TakingBack, rest)),
+            _ => first(list),
+        }
+    }),
+    ("replay: a taking back has a verdict", |m| {
+        m.model.replay.first = |list| match list {
+            [3, rest @ ..] => rest.split_first().map(|(_, rest)| (Call::TakingBack, rest)),
+            _ => first(list),
+        }
+    }),
+    ("replay: a taking back that ends the list is taken as cut", |m| {
+        m.model.replay.first =
+            |list| first(list).filter(|(call, rest)| !matches!(call, Call::TakingBack) || !rest.is_empty())
+    }),
+    ("replay: a taking back is a retiring", |m| {
+        m.model.replay.first = |list| match first(list)? {
+            (Call::TakingBack, rest) => Some((Call::Retiring, rest)),
+            other => Some(other),
+        }
+    }),
+    ("replay: a retiring is a taking back", |m| {
+        m.model.replay.first = |list| match first(list)? {
+            (Call::Retiring, rest) => Some((Call::TakingBack, rest)),
+            other => Some(other),
+        }
+    }),
+    ("replay: all bytes from 3 on are takings back", |m| {
+        m.model.replay.first = |list| match list {
+            [3..=255, rest @ ..] => Some((Call::TakingBack, rest)),
+            _ => first(list),
+        }
+    }),
+    ("replay: 4 is a taking back too", |m| {
+        m.model.replay.first = |list| match list {
+            [4, rest @ ..] => Some((Call::TakingBack, rest)),
+            _ => first(list),
+        }
+    }),
+    ("replay: all takings back in a row are one", |m| {
+        m.model.replay.first = |list| match first(list)? {
+            (Call::TakingBack, rest) => {
+                let more = rest.iter().take_while(|&&byte| byte == 3).count();
+                Some((Call::TakingBack, &rest[more..]))
             }
             other => Some(other),
         }
