@@ -1,6 +1,6 @@
 // Histories, meanings and ledgers, and the theorem of two sites: specs/Promises.antt says it, proofs/Theorem.antt shows it for the calls
-// of admission, interpretation, retiring and taking back, with SHA-256. `replay` runs a whole list of calls, so the theorem speaks of code for lists too.
-// Promises: `replay` is the run that the theorem is about. Assumes nothing.
+// of admission, interpretation, retiring and taking back, with SHA-256. `replay` runs a whole list of calls, so the theorem speaks of code
+// for lists too. Promises: `replay` is the run that the theorem is about. Assumes nothing.
 mod call;
 
 ghost use mathlib.Core.Path.{_≡_};

@@ -2,5 +2,5 @@
 pub mod Own
 pub mod Steps
 pub mod Runs
-pub mod Undone
+pub mod Undoing
 pub mod Promises

@@ -22,10 +22,10 @@ use Rattle.shelf.proofs.Formed.{of-ruled, formed-bytes}
 use Rattle.shelf.proofs.Ruled.{ruled-empty}
 use Rattle.shelf.proofs.Laid.{empty-laid, waiting-laid}
 use Rattle.campaigns.specs.Promises.{only, timesWaiting}
-use Rattle.controller.specs.Run.{ControllerCall, OwnCall, Alone, Controller, emptyStart, arrivalAt, after, ownRun, aloneAfter, aloneReplies}
+use Rattle.controller.specs.Run.{ControllerCall, OwnCall, Alone, Controller, emptyStart, after, ownRun, aloneAfter, aloneReplies}
 use Rattle.controller.specs.Promises.{begin, plainCalls, RunKeeps, Independent, CampaignKeeps, ArrivalUndone}
 use Rattle.controller.proofs.Runs.{run-formed, run-plain, run-alone, run-replies, run-listed, run-accounted}
-use Rattle.controller.proofs.Undone.{arrival-undone}
+use Rattle.controller.proofs.Undoing.{arrival-undone}
 
 -- ---- the empty shelf
 
@@ -109,6 +109,5 @@ campaigns c low s law setups₁ setups₂ buffers₁ buffers₂ calls₁ calls�
 
 -- ---- an arrival that is taken back
 
-pub undone : (x : Controller) (c : ℕ) (b : Bytes) (verdict room : ℕ) → arrivalAt sha256 x c b verdict room .answer .refusal ≡ 0
-    → ArrivalUndone sha256 x c b verdict room
+pub undone : (x : Controller) (c : ℕ) (b : Bytes) (verdict room : ℕ) → ArrivalUndone sha256 x c b verdict room
 undone = arrival-undone sha256 sha256-length

@@ -77,10 +77,11 @@ module _ (digest : Bytes → Bytes) where
 
 -- ---- taking back
 
--- at any controller, an arrival for a campaign that was admitted
+-- at any controller, an arrival for a campaign
 pub record ArrivalUndone (digest : Bytes → Bytes) (x : Controller) (c : ℕ) (b : Bytes) (verdict room : ℕ) : Type 0 where
   -- "straight after an admission that is the table before it (each block let in from the shelf being an admission of its own)": all bytes
-  pub table : UndoneBy (suc (countIn letIn (arrivalAt digest x c b verdict room .tries))) (arrivalAt digest x c b verdict room .table) (x .site c .table)
+  pub table : arrivalAt digest x c b verdict room .answer .refusal ≡ 0
+      → UndoneBy (suc (countIn letIn (arrivalAt digest x c b verdict room .tries))) (arrivalAt digest x c b verdict room .table) (x .site c .table)
   -- a block that is taken back does not return to the shelf, and the records stay
   pub shelf : (y : Controller) → step digest y c (made takeBack) .shelf ≡ y .shelf
   pub records : (y : Controller) → step digest y c (made takeBack) .site c .records ≡ y .site c .records

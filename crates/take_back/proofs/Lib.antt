@@ -1,8 +1,8 @@
--- The laws of taking back. Left is about the table's bytes without its last row, Undone about a row put and taken back, TakenBack about the call,
--- Causes about its refusals; Promises gathers them. Turns is about the code. Other crates' proofs cite them.
-pub mod Left
-pub mod Undone
+-- The laws of taking back. WithoutRow is about the table's bytes without its last row, TakenBack about the call, Causes about its refusals, Undoing
+-- about admissions that are taken back; Promises gathers them. Turns is about the code. Other crates' proofs cite them.
+pub mod WithoutRow
 pub mod TakenBack
 pub mod Causes
+pub mod Undoing
 pub mod Promises
 mod Turns

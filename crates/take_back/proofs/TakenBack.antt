@@ -1,31 +1,21 @@
--- A taking back that passes its checks: the table shows the other places as they were, and is in form. One that is refused changes nothing. And
--- straight after an admission it passes, and leaves the table before it; and so after many. Assumes nothing.
-use mathlib.Core.Path.{_≡_, refl, sym, ap, _∙_, subst}
-use mathlib.Core.Bool.{true, false}
+-- A taking back that passes its checks: the table shows the other places as they were, is in form, and its rows stand as their bytes where they did
+-- before. One that is refused changes nothing. Assumes nothing.
+use mathlib.Core.Path.{_≡_, refl, sym, subst}
+use mathlib.Core.Bool.{true}
 use mathlib.Core.Logic.{_≢_}
-use mathlib.Core.List.{List, [], _∷_}
-use Prim.Native.Nat.{ℕ, suc, _+_, _-_, _<_}
-use native.Mathlib.Omega.{arith}
+use Prim.Native.Nat.{_<_}
 use lib.Dec.{eqb}
-use lib.ListN.{length}
-use borrow.Author.Tests.{eqb-true, eqb-false, ne-eqb, lt-ltb, ltb-true}
+use borrow.Author.Tests.{eqb-true, eqb-false, ne-eqb, ltb-true}
 use Rattle.base.specs.Bytes.{Bytes}
 use Rattle.base.proofs.Tests.{by-test}
-use Rattle.block.specs.Limits.{referenceSize}
-use Rattle.block.specs.declared.Answer.{Answer}
-use Rattle.table.specs.Layout.{setupOf, countOf, markAt, viewOf, withRow}
+use Rattle.table.specs.Layout.{setupOf, countOf, viewOf}
 use Rattle.table.specs.Form.{inForm}
-use Rattle.table.specs.Checks.{success, answerTo}
-use Rattle.table.specs.Promises.{Grown, Shows}
+use Rattle.table.specs.Promises.{Shows}
 use Rattle.table.proofs.Formed.{Formed, formed-of, shows-formed}
 use Rattle.table.proofs.Canonical.{Canonical}
 use Rattle.table.proofs.Checks.{numbered, AllHold, all-hold}
-use Rattle.admission.specs.Admission.{rowFor, admission, admitted}
-use Rattle.admission.proofs.Promises.{promises}
 use Rattle.take_back.specs.TakingBack.{withoutLast, withoutRow, takingBackChecks, takingBack, takenBack}
-use Rattle.take_back.specs.Promises.{UndoneBy, Brought, loaded, admittedOf}
-use Rattle.take_back.proofs.Left.{held-left, left-shows, left-canonical}
-use Rattle.take_back.proofs.Undone.{row-undone}
+use Rattle.take_back.proofs.WithoutRow.{held-left, left-shows, left-canonical}
 
 module _ (t : Bytes) (e : takingBack t .refusal ≡ 0) where
   passes : AllHold (takingBackChecks (inForm t) (viewOf t))
@@ -35,10 +25,10 @@ module _ (t : Bytes) (e : takingBack t .refusal ≡ 0) where
   formed : Formed t
   formed = formed-of t (passes .0)
 
-  pub some : 0 < countOf t
+  some : 0 < countOf t
   some = ltb-true 0 (countOf t) (passes .1 .0)
 
-  table-passed : takenBack t ≡ withoutRow t
+  pub table-passed : takenBack t ≡ withoutRow t
   unfolding takenBack
   table-passed = rw e
 
@@ -68,73 +58,3 @@ module _ (t : Bytes) where
 
   pub taken-canonical : Canonical t → Canonical (takenBack t)
   taken-canonical c = either Canonical c (λ e. canonical-left t e c)
-
--- ---- straight after an admission
-
-goes : (t : Bytes) → inForm t ≡ true → 0 < countOf t → markAt t (countOf t - 1) ≡ 0 → takingBack t ≡ success 0
-unfolding takingBack answerTo
-goes t f h m = rw (f, lt-ltb 0 (countOf t) h, m)
-
-module _ (digest : Bytes → Bytes) (sized : (b : Bytes) → length (digest b) ≡ referenceSize) (t b : Bytes) (verdict : ℕ)
-    (e : admission digest t b verdict .refusal ≡ 0) where
-  abbrev t′ : Bytes
-  t′ = admitted digest t b verdict
-
-  grown : Grown t t′ (rowFor digest (viewOf t) b)
-  grown = promises digest sized .shown t b verdict e
-
-  was : inForm t ≡ true
-  was = promises digest sized .causes t b verdict .none .0 e .0 .linked .isNew .readable .formed
-
-  passes-back : takingBack t′ ≡ success 0
-  passes-back =
-      let last : countOf t′ - 1 ≡ countOf t = omega (arith, grown .count) in
-      goes t′ (promises digest sized .kept t b verdict was) (omega (arith, grown .count)) (ap (markAt t′) last ∙ grown .here .mark)
-
-  with-row : t′ ≡ withRow t (rowFor digest (viewOf t) b)
-  unfolding admitted
-  with-row = rw e
-
-  pub undone : UndoneBy 1 t′ t
-  unfolding UndoneBy
-  undone = (
-    passes-back,
-    table-passed t′ (ap (λ (a : Answer). a .refusal) passes-back) ∙ ap withoutRow with-row
-        ∙ row-undone t (rowFor digest (viewOf t) b) (formed-of t was .size) (promises digest sized .causes t b verdict .none .0 e .1) (sized b) (formed-of t was .zeros),
-  )
-
--- ---- and after many
-
-module _ (digest : Bytes → Bytes) (sized : (b : Bytes) → length (digest b) ≡ referenceSize) where
-  refused-stays : (t b : Bytes) (verdict : ℕ) → eqb (admission digest t b verdict .refusal) 0 ≡ false → admitted digest t b verdict ≡ t
-  unfolding admitted
-  refused-stays t b verdict n = rw n
-
-  -- an admission, and what is undone before it
-  one-more : (t b : Bytes) (verdict : ℕ) → eqb (admission digest t b verdict .refusal) 0 ≡ true → (n : ℕ) (t₀ : Bytes) → UndoneBy n t t₀
-      → UndoneBy (suc n) (admitted digest t b verdict) t₀
-  unfolding UndoneBy
-  one-more t b verdict y n t₀ w =
-      let u = undone digest sized t b verdict (eqb-true (admission digest t b verdict .refusal) 0 y) in
-      (u .0, subst (λ (x : Bytes). UndoneBy n x t₀) (sym (u .1)) w)
-
-  all-undone : (bs : List Brought) (t : Bytes) (n : ℕ) (t₀ : Bytes) → UndoneBy n t t₀ → UndoneBy (admittedOf digest t bs + n) (loaded digest t bs) t₀
-  unfolding loaded admittedOf
-  all-undone [] t n t₀ w = let k : n ≡ 0 + n = omega arith in subst (λ (m : ℕ). UndoneBy m t t₀) k w
-  all-undone (b ∷ bs) t n t₀ w =
-      let t₁ : Bytes = admitted digest t (b .block) (b .verdict) in
-      let more = all-undone bs t₁ in
-      by-test (eqb (admission digest t (b .block) (b .verdict) .refusal) 0)
-      (λ y.
-      let k : admittedOf digest t₁ bs + suc n ≡ 1 + admittedOf digest t₁ bs + n = omega arith in
-      rw y (subst (λ (m : ℕ). UndoneBy m (loaded digest t₁ bs) t₀) k (more (suc n) t₀ (one-more t (b .block) (b .verdict) y n t₀ w))))
-      (λ z.
-      let k : admittedOf digest t₁ bs + n ≡ 0 + admittedOf digest t₁ bs + n = omega arith in
-      rw z (subst (λ (m : ℕ). UndoneBy m (loaded digest t₁ bs) t₀) k
-      (more n t₀ (subst (λ (x : Bytes). UndoneBy n x t₀) (sym (refused-stays t (b .block) (b .verdict) z)) w))))
-
-  pub file-undone : (t : Bytes) (file : List Brought) → UndoneBy (admittedOf digest t file) (loaded digest t file) t
-  unfolding UndoneBy
-  file-undone t file =
-      let k : admittedOf digest t file + 0 ≡ admittedOf digest t file = omega arith in
-      subst (λ (m : ℕ). UndoneBy m (loaded digest t file) t) k (all-undone file t 0 t refl)

@@ -48,10 +48,11 @@ module _ (digest : Bytes → Bytes) where
       (λ h e. absurd (omega arith)) (λ l h e. absurd (omega arith)) (λ l h n e. absurd (omega arith)) (λ g y e. absurd (omega arith)) (λ g n m e. absurd (omega arith))
       (λ g n y e. absurd (omega (arith, g .missing))) (λ k z e. z) (λ k n z e. e)
 
-  pub arrival-undone : ((b : Bytes) → length (digest b) ≡ referenceSize) → (x : Controller) (c : ℕ) (b : Bytes) (verdict room : ℕ)
-      → arrivalAt digest x c b verdict room .answer .refusal ≡ 0 → ArrivalUndone digest x c b verdict room
-  unfolding step siteStep loaded admittedOf
-  arrival-undone sized x c b verdict room e =
+  table-undone : ((b : Bytes) → length (digest b) ≡ referenceSize) → (x : Controller) (c : ℕ) (b : Bytes) (verdict room : ℕ)
+      → arrivalAt digest x c b verdict room .answer .refusal ≡ 0
+      → UndoneBy (suc (countIn letIn (arrivalAt digest x c b verdict room .tries))) (arrivalAt digest x c b verdict room .table) (x .site c .table)
+  unfolding loaded admittedOf
+  table-undone sized x c b verdict room e =
       let t : Bytes = x .site c .table in
       let t₁ : Bytes = admitted digest t b verdict in
       let t′ : Bytes = arrivalAt digest x c b verdict room .table in
@@ -60,9 +61,11 @@ module _ (digest : Bytes → Bytes) where
       let all : List Brought = record { block = b; verdict = verdict } ∷ brought ys in
       let own : admission digest t b verdict .refusal ≡ 0 = was-admitted t (x .shelf) c b verdict room e in
       let number : admittedOf digest t all ≡ suc (countIn letIn ys) = rw own (omega (arith, tries-admitted ys t₁ t′ tried)) in
-      record {
-        table = subst (λ (k : ℕ). UndoneBy k t′ t) number
-            (subst (λ (z : Bytes). UndoneBy (admittedOf digest t all) z t) (tries-loaded ys t₁ t′ tried) (promises .fileUndone digest sized t all));
-        shelf = λ y. refl;
-        records = λ y. rw (eq-eqb c c refl);
-      }
+      subst (λ (k : ℕ). UndoneBy k t′ t) number
+      (subst (λ (z : Bytes). UndoneBy (admittedOf digest t all) z t) (tries-loaded ys t₁ t′ tried) (promises .fileUndone digest sized t all))
+
+  pub arrival-undone : ((b : Bytes) → length (digest b) ≡ referenceSize) → (x : Controller) (c : ℕ) (b : Bytes) (verdict room : ℕ)
+      → ArrivalUndone digest x c b verdict room
+  unfolding step siteStep
+  arrival-undone sized x c b verdict room =
+      record { table = table-undone sized x c b verdict room; shelf = λ y. refl; records = λ y. rw (eq-eqb c c refl) }
