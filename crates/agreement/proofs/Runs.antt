@@ -24,7 +24,6 @@ use Rattle.admission.proofs.Promises.{promises}
 use Rattle.interpret.specs.Interpretation.{interpretationChecks, interpretation, marked, recorded}
 use Rattle.interpret.proofs.Kept.{marked-passed, recorded-passed}
 use Rattle.retire.specs.Retiring.{retiringChecks, retiring, retiredTable, retiredRecords}
-use Rattle.agreement.specs.History.{meaning}
 use Rattle.take_back.specs.TakingBack.{takingBackChecks, takingBack, takenBack}
 use Rattle.agreement.specs.Ledger.{Call, admit, interpret, retire, takeBack, Ledger, taken, viewIn, ledgerAnswer, ledgerStep, ledgerAfter, ledgerAnswers}
 use Rattle.agreement.specs.Run.{Site, siteAnswer, siteStep, siteAfter, siteAnswers}

@@ -1,6 +1,6 @@
 -- A taking back that passes: every other place keeps its history, and that of the last place is no longer among them. Assumes nothing.
 use mathlib.Core.Path.{_≡_, ap, subst}
-use mathlib.Core.List.{List, _∷_, _++_}
+use mathlib.Core.List.{List, _++_}
 use Prim.Native.Nat.{ℕ, _-_}
 use native.Mathlib.Omega.{arith}
 use Rattle.base.specs.Bytes.{Bytes}

@@ -2,8 +2,7 @@
 -- nothing.
 use mathlib.Core.Path.{_≡_, refl}
 use mathlib.Core.Bool.{true, false}
-use mathlib.Core.Logic.{_↔_, _≢_, Iff·rfl, Iff·trans}
-use mathlib.Core.List.{List}
+use mathlib.Core.Logic.{_↔_, _≢_, Iff·trans}
 use Prim.Native.Nat.{ℕ, _-_}
 use native.Mathlib.Omega.{arith}
 use lib.Dec.{eqb, ltb}
@@ -12,7 +11,7 @@ use borrow.Author.Tests.{eqb-true, eq-eqb, lt-ltb, le-ltb, ltb-true, ltb-false}
 use Rattle.base.specs.Bytes.{Bytes}
 use Rattle.table.specs.Layout.{countOf, markAt, viewOf}
 use Rattle.table.specs.Form.{inForm}
-use Rattle.table.specs.Checks.{Check, answerTo}
+use Rattle.table.specs.Checks.{answerTo}
 use Rattle.table.proofs.Checks.{none-refused, past-check, at-check, elsewhere, never-answered, and-then, absent, present}
 use Rattle.take_back.specs.TakingBack.{takingBackChecks, takingBack}
 use Rattle.take_back.specs.Promises.{SomeHeld, Causes}

@@ -7,7 +7,7 @@ use Prim.Native.Nat.{ℕ, suc, _-_}
 use native.Mathlib.Omega.{arith}
 use lib.Dec.{eqb}
 use lib.ListN.{replicate}
-use borrow.Author.Tests.{eq-eqb, ne-eqb, lt-ltb}
+use borrow.Author.Tests.{ne-eqb, lt-ltb}
 use Rattle.base.specs.Bytes.{Bytes, splice}
 use Rattle.block.specs.declared.Answer.{Answer}
 use Rattle.table.specs.Layout.{countOffset, rowSize, rowStart, countOf, markAt}

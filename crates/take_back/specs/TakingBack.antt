@@ -2,7 +2,7 @@
 -- same ones.
 use mathlib.Core.Bool.{Bool, cond, not}
 use mathlib.Core.List.{List, [], _∷_}
-use Prim.Native.Nat.{ℕ, _-_}
+use Prim.Native.Nat.{_-_}
 use lib.Dec.{eqb, ltb}
 use lib.ListN.{replicate}
 use Rattle.base.specs.Bytes.{Bytes, splice}
