@@ -1,5 +1,5 @@
 -- An admitted block stands at the next place, and its row shows what its bytes say; and a table in form is in form after a call, for its
--- row is in form. Assumes nothing.
+-- row is in form. A refusal leaves the table. Assumes nothing.
 use mathlib.Core.Path.{_≡_, sym, ap, _∙_}
 use mathlib.Core.Bool.{Bool, true, false, _&&_}
 use mathlib.Core.Logic.{_≢_}
@@ -7,7 +7,7 @@ use Prim.Native.Nat.{ℕ, _≤_, _<_}
 use native.Mathlib.Omega.{arith}
 use lib.Dec.{eqb, ltb}
 use lib.ListN.{length}
-use borrow.Author.Tests.{eqb-true, ltb-true}
+use borrow.Author.Tests.{eqb-true, ne-eqb, ltb-true}
 use Rattle.base.specs.Search.{firstBelow}
 use Rattle.base.specs.Count.{countBelow}
 use Rattle.base.specs.Bytes.{Bytes, sameBytes}
@@ -30,6 +30,11 @@ use Rattle.table.proofs.Put.{grown, grown-formed}
 use Rattle.admission.specs.Admission.{lists, rowFor, admission, admitted}
 use Rattle.admission.specs.Promises.{Readable, Parented}
 use Rattle.admission.proofs.Causes.{causes}
+
+-- a refusal leaves the table
+pub refused-table : (digest : Bytes → Bytes) (t b : Bytes) (verdict : ℕ) → admission digest t b verdict .refusal ≢ 0 → admitted digest t b verdict ≡ t
+unfolding admitted
+refused-table digest t b verdict n = rw (ne-eqb (admission digest t b verdict .refusal) 0 n)
 
 -- ---- a block refers to as many places as it has references, at most
 

@@ -6,7 +6,7 @@ use mathlib.Core.List.{List, [], _∷_, _++_, List·Memᴰ, List·Memᴰ·not-ni
 use Prim.Native.Nat.{ℕ, _+_}
 use native.Mathlib.Omega.{arith}
 use lib.Dec.{eqb}
-use lib.ListN.{length}
+use lib.ListN.{length, drop}
 use borrow.Author.Tests.{eqb-true, eqb-false, eq-eqb, ne-eqb}
 use Rattle.base.specs.Bytes.{Bytes}
 use Rattle.base.proofs.Tests.{by-test, true-not-false}
@@ -17,7 +17,8 @@ use Rattle.block.specs.declared.Reading.{Reading}
 use Rattle.block.specs.declared.Reading.the-variants.{Block, Misshapen, BadRequest, RepeatedReference}
 use Rattle.setup.specs.Setup.{Setup}
 use Rattle.table.specs.View.{View}
-use Rattle.table.specs.Checks.{Check, answerTo}
+use Rattle.table.specs.Rules.{heldInForm}
+use Rattle.table.specs.Checks.{Check, check, answerTo}
 use Rattle.table.proofs.Checks.{past-check, elsewhere, never-answered}
 use Rattle.admission.specs.Admission.{heldChecks, admissionChecks, admission, admitted}
 use Rattle.admission.proofs.Promises.{promises}
@@ -62,17 +63,9 @@ admission-not-two digest s v b verdict value f y e =
     let after7 = past-other _ _ _ after5 (reader-not-two (reading b)) in
     never-answered 2 (heldChecks digest v b) value refl after7
 
-interpretation-not-two : (v : View) (size i : ℕ) (f : Bool) → f ≡ true → answerTo (interpretationChecks f v size i) 0 .refusal ≢ 2
-unfolding elsewhere
-interpretation-not-two v size i f y e = never-answered 2 _ 0 refl (past-check _ _ _ 2 (λ n. true-not-false y n) .0 e .1)
-
-retiring-not-two : (v : View) (size : ℕ) (f : Bool) → f ≡ true → answerTo (retiringChecks f v size) 0 .refusal ≢ 2
-unfolding elsewhere
-retiring-not-two v size f y e = never-answered 2 _ 0 refl (past-check _ _ _ 2 (λ n. true-not-false y n) .0 e .1)
-
-taking-back-not-two : (v : View) (f : Bool) → f ≡ true → answerTo (takingBackChecks f v) 0 .refusal ≢ 2
-unfolding elsewhere
-taking-back-not-two v f y e = never-answered 2 _ 0 refl (past-check _ _ _ 2 (λ n. true-not-false y n) .0 e .1)
+-- where the first check is that of form, and holds, and no other has the number
+formed-not-two : (cs : List Check) (f : Bool) → f ≡ true → elsewhere 2 cs ≡ true → answerTo (check 2 f 0 ∷ cs) 0 .refusal ≢ 2
+formed-not-two cs f y other e = never-answered 2 cs 0 other (past-check _ _ _ 2 (λ n. true-not-false y n) .0 e .1)
 
 -- ---- one call
 
@@ -146,16 +139,18 @@ module _ (digest : Bytes → Bytes) (sized : (b : Bytes) → length (digest b) �
         (λ n. let e : siteAnswer digest x c .refusal ≢ 0 = eqb-false _ 0 n in rw (refused c e, site-stays c e) t)
 
     -- the table is in form, so 2 is no answer
+    after-form : (c : Call) (cs : List Check) → ledgerAnswer digest s size l c ≡ answerTo (check 2 (heldInForm s (viewIn digest l)) 0 ∷ cs) 0 → elsewhere 2 cs ≡ true
+        → siteAnswer digest x c .refusal ≢ 2
+    after-form c cs q other e =
+        formed-not-two cs _ (ledger-formed digest s size l x (t .tied)) other (ap (λ (a : Answer). a .refusal) (sym (same c ∙ q)) ∙ e)
+
     pub never-two : (c : Call) → siteAnswer digest x c .refusal ≢ 2
-    unfolding ledgerAnswer
+    unfolding ledgerAnswer elsewhere
     never-two (admit b verdict) e =
         admission-not-two digest s (viewIn digest l) b verdict (l .held) _ (ledger-formed digest s size l x (t .tied)) (ap (λ (a : Answer). a .refusal) (sym (same (admit b verdict))) ∙ e)
-    never-two (interpret i) e =
-        interpretation-not-two (viewIn digest l) size i _ (ledger-formed digest s size l x (t .tied)) (ap (λ (a : Answer). a .refusal) (sym (same (interpret i))) ∙ e)
-    never-two retire e =
-        retiring-not-two (viewIn digest l) size _ (ledger-formed digest s size l x (t .tied)) (ap (λ (a : Answer). a .refusal) (sym (same retire)) ∙ e)
-    never-two takeBack e =
-        taking-back-not-two (viewIn digest l) _ (ledger-formed digest s size l x (t .tied)) (ap (λ (a : Answer). a .refusal) (sym (same takeBack)) ∙ e)
+    never-two (interpret i) e = after-form (interpret i) (drop 1 (interpretationChecks true (viewIn digest l) size i)) refl refl e
+    never-two retire e = after-form retire (drop 1 (retiringChecks true (viewIn digest l) size)) refl refl e
+    never-two takeBack e = after-form takeBack (drop 1 (takingBackChecks true (viewIn digest l))) refl refl e
 
   -- ---- a list of calls
 

@@ -10,10 +10,10 @@ use Rattle.base.specs.Bytes.{Bytes}
 use Rattle.base.specs.List.{someIn}
 use Rattle.base.proofs.Tests.{by-test, true-not-false, or-left, or-right}
 use Rattle.admission.specs.Admission.{admission}
+use Rattle.admission.proofs.Kept.{refused-table}
 use Rattle.shelf.specs.Layout.{Waiting}
 use Rattle.campaigns.specs.Passes.{Passed, waitsOn, admits, pass, settled}
 use Rattle.campaigns.proofs.Inductions.{pass-by, settled-by}
-use Rattle.campaigns.proofs.Tries.{refused-table}
 
 module _ (digest : Bytes → Bytes) (c : ℕ) where
   -- the campaign's blocks among these get 9 from the table

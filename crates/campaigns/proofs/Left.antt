@@ -16,6 +16,7 @@ use Rattle.block.specs.Answers.{putAnswers}
 use Rattle.block.specs.declared.Answer.{Answer}
 use Rattle.block.proofs.Answered.{put-append}
 use Rattle.admission.specs.Admission.{admission, admitted}
+use Rattle.admission.proofs.Kept.{refused-table}
 use Rattle.shelf.specs.Layout.{Waiting}
 use Rattle.shelf.specs.Rules.{isFor}
 use Rattle.shelf.specs.Steps.{noWaiting, without}
@@ -23,7 +24,7 @@ use Rattle.campaigns.specs.Passes.{Passed, waitsOn, outcome, outcomesOf,
 use Rattle.campaigns.specs.Steps.{Turned, passedBy, takenOut, turned}
 use Rattle.campaigns.specs.declared.Pass.{Pass}
 use Rattle.campaigns.proofs.Inductions.{pass-fewer, passes-enough}
-use Rattle.campaigns.proofs.Tries.{outcomes-append, refused-table}
+use Rattle.campaigns.proofs.Tries.{outcomes-append}
 
 -- ---- the outcomes in the buffer, and how many
 

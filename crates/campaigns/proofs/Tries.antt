@@ -1,8 +1,6 @@
 -- Laws of lists of tries: their outcomes, and that they are admissions one after the other. Assumes nothing.
 use mathlib.Core.Path.{_≡_, refl, sym, ap, subst}
-use mathlib.Core.Logic.{_≢_}
 use mathlib.Core.List.{List, [], _∷_, _++_}
-use borrow.Author.Tests.{ne-eqb}
 use Rattle.base.specs.Bytes.{Bytes}
 use Rattle.base.proofs.Tests.{by-test}
 use Rattle.block.specs.declared.Answer.{Answer}
@@ -20,11 +18,6 @@ outcomes-append (x ∷ xs) ys =
     (λ n. rw n (ap (λ (l : List Answer). outcome (x .answer) ∷ l) (outcomes-append xs ys)))
 
 module _ (digest : Bytes → Bytes) where
-  -- a refusal leaves the table
-  pub refused-table : (t b : Bytes) (verdict : _) → admission digest t b verdict .refusal ≢ 0 → admitted digest t b verdict ≡ t
-  unfolding admitted
-  refused-table t b verdict n = rw (ne-eqb (admission digest t b verdict .refusal) 0 n)
-
   pub tried-append : (xs : List Try) (t t′ t″ : Bytes) (ys : List Try) → TriedFrom digest t xs t′ → TriedFrom digest t′ ys t″ → TriedFrom digest t (xs ++ ys) t″
   unfolding TriedFrom
   tried-append [] t t′ t″ ys e f = subst (λ (x : Bytes). TriedFrom digest x ys t″) (sym e) f

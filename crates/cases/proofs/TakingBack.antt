@@ -1,7 +1,7 @@
 -- The cases of taking back, by computing: what is long is compared by a test, which is fast. Assumes nothing.
-use mathlib.Core.Path.{_≡_, refl, sym, ap, _∙_, subst}
+use mathlib.Core.Path.{_≡_, refl, sym, ap, ap₂, _∙_, subst}
 use mathlib.Core.Bool.{Bool, true}
-use mathlib.Core.List.{List, _++_}
+use mathlib.Core.List.{_++_}
 use native.Mathlib.Omega.{arith}
 use lib.ListN.{replicate}
 use Rattle.base.specs.List.{someIn}
@@ -16,20 +16,20 @@ use Rattle.take_back.specs.TakingBack.{takenBack}
 use Rattle.take_back.specs.Promises.{UndoneBy}
 use Rattle.take_back.proofs.Promises.{promises}
 use Rattle.campaigns.specs.Arriving.{Arrived}
-use Rattle.agreement.specs.Ledger.{Ledger, empty}
+use Rattle.agreement.specs.Ledger.{Ledger}
 use Rattle.agreement.specs.Ledger.Call.{takeBack}
 use Rattle.agreement.specs.Promises.{forked, NoCollision, Interpreted}
 use Rattle.agreement.proofs.Theorem.{promised}
 use Rattle.cases.specs.Toy.{toy}
-use Rattle.cases.specs.Run.{tableAfter, Turn, callsOf, answersOf, ledgerLeft, siteLeft, zeros, echoes}
+use Rattle.cases.specs.Run.{tableAfter, callsOf, answersOf, ledgerLeft, siteLeft, zeros, echoes}
 use Rattle.cases.specs.Blocks.{sites, fresh, numbered, holding}
 use Rattle.cases.specs.Form.{marked, retiredSome}
 use Rattle.cases.specs.Arrivals.{tableOf, chain}
 use Rattle.cases.specs.Retiring.{afterFork, forkRetired}
-use Rattle.cases.specs.TakingBack.{fourMarked, TakingBackOrderCases, three, twinOf, twinsHeld, BeforeCases, LetInCases, takenBackTurns, forkTakenBack, againTakenBack, CountedCases, alike, alikeTakenBack, alikeUnknown, SharedDigestCases}
+use Rattle.cases.specs.TakingBack.{fourMarked, TakingBackOrderCases, three, twinOf, twinsHeld, BeforeCases, LetInCases, takenBackTurns, forkTakenBack, forkHeld, againTakenBack, CountedCases, alike, alikeTakenBack, alikeUnknown, SharedDigestCases}
 use Rattle.cases.proofs.Toy.{toyDigest}
 use Rattle.cases.proofs.Opened.{openedLedger, openedWatch}
-use Rattle.cases.proofs.Told.{told, session, ledgerFrom, ledger-left, whole, record-told, unretired-told}
+use Rattle.cases.proofs.Told.{session, ledgerFrom, ledger-left, whole, record-told, unretired-told}
 use Rattle.cases.proofs.Premises.{lawful-setup, collision, no-collision}
 use Rattle.cases.proofs.Full.{last-placed, last-leaves}
 use Rattle.cases.proofs.Arrivals.{passing}
@@ -40,7 +40,7 @@ unfolding openedWatch tableOf fourMarked three twinOf twinsHeld
 openedBefore = true
 
 unfoldable openedTurns : Bool
-unfolding openedLedger someIn forked collision afterFork forkRetired takenBackTurns forkTakenBack againTakenBack alike alikeTakenBack alikeUnknown
+unfolding openedLedger someIn forked collision afterFork forkRetired takenBackTurns forkTakenBack forkHeld againTakenBack alike alikeTakenBack alikeUnknown
 openedTurns = true
 
 pub order : TakingBackOrderCases
@@ -90,6 +90,8 @@ beforeCases =
       fullTable = full-undone;
       downToEmpty = down-to-empty;
       noFurther = refl;
+      lastAlone = refl;
+      anotherAlone = refl;
       refusedTable = four-stays;
       named = refl;
       notNamed = refl;
@@ -112,32 +114,37 @@ letInCases = record { letIn = ap (λ (r : Arrived). r .table) (passing .mixedPas
 
 -- ---- ledgers
 
-module _ (turns : List Turn) (e : told (sites 4) empty (callsOf turns) (answersOf turns) ≡ answersOf turns) where
-  -- what holds of the ledger computed holds of the ledger
-  is-left : ledgerLeft (sites 4) turns ≡ ledgerFrom turns
-  is-left = ledger-left (sites 4) turns lawful-setup e
+fork-taken : ledgerLeft (sites 4) forkTakenBack ≡ ledgerFrom forkTakenBack
+unfolding openedTurns
+fork-taken = ledger-left (sites 4) forkTakenBack lawful-setup refl
+
+fork-elsewhere : forked (ledgerLeft (sites 4) forkTakenBack .blocks ++ ledgerLeft (sites 4) forkHeld .blocks) 0 ≡ true
+unfolding openedTurns
+fork-elsewhere = ap₂ (λ (l k : Ledger). forked (l .blocks ++ k .blocks) 0) fork-taken (ledger-left (sites 4) forkHeld lawful-setup refl)
 
 pub countedCases : CountedCases
 unfolding openedTurns
 countedCases =
     record {
       taken = session (sites 4) takenBackTurns refl refl;
-      blocks = ap (λ (l : Ledger). l .blocks) (is-left takenBackTurns refl);
+      blocks = ap (λ (l : Ledger). l .blocks) (ledger-left (sites 4) takenBackTurns lawful-setup refl);
       forkTaken = session (sites 4) forkTakenBack refl refl;
-      notForked = ap (λ (l : Ledger). forked (l .blocks) 0) (is-left forkTakenBack refl);
+      notForked = ap (λ (l : Ledger). forked (l .blocks) 0) fork-taken;
+      elsewhereTaken = session (sites 4) forkHeld refl refl;
+      forkedElsewhere = fork-elsewhere;
       againTaken = session (sites 4) againTakenBack refl refl;
-      stillForked = ap (λ (l : Ledger). forked (l .blocks) 0) (is-left againTakenBack refl);
+      stillForked = ap (λ (l : Ledger). forked (l .blocks) 0) (ledger-left (sites 4) againTakenBack lawful-setup refl);
     }
 
 -- ---- a shared digest
 
 one-is : ledgerLeft (sites 4) alikeTakenBack ≡ ledgerFrom alikeTakenBack
 unfolding openedTurns
-one-is = is-left alikeTakenBack refl
+one-is = ledger-left (sites 4) alikeTakenBack lawful-setup refl
 
 other-is : ledgerLeft (sites 4) alikeUnknown ≡ ledgerFrom alikeUnknown
 unfolding openedTurns
-other-is = is-left alikeUnknown refl
+other-is = ledger-left (sites 4) alikeUnknown lawful-setup refl
 
 no-collisions : NoCollision toy (ledgerLeft (sites 4) alikeTakenBack .blocks ++ ledgerLeft (sites 4) alikeUnknown .blocks)
 unfolding openedTurns

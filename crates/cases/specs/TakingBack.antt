@@ -32,8 +32,8 @@ unfoldable pub fourMarked : Bytes
 fourMarked = marked (marked (marked (marked four 0 1) 1 1) 2 1) 3 1
 
 -- k places, with every row marked, those from the count on too
-abbrev pub allMarked : ℕ → View
-allMarked k = record { retired = 0; held = k; row = λ i. markedIf true (rowFor toy nothing first) }
+abbrev pub markedView : ℕ → View
+markedView k = record { retired = 0; held = k; row = λ i. markedIf true (rowFor toy nothing first) }
 
 -- "32 .. 33 .. in that order after 2": a row for each two. The first call has both causes and gets the earlier number; in the second only the
 -- earlier cause is mended, and it gets the later number.
@@ -45,7 +45,7 @@ pub record TakingBackOrderCases : Type 0 where
       (answers toy (marked four 3 1) (takeBack ∷ []) ≡ refused 2 0 ∷ []) × (answers toy fourMarked (takeBack ∷ []) ≡ refused 33 0 ∷ [])
   -- 32, 33: of no table in form can both be said, so this row is about the checks
   pub heldBeforeInterpreted :
-      (answerTo (takingBackChecks true (allMarked 0)) 0 ≡ refused 32 0) × (answerTo (takingBackChecks true (allMarked 1)) 0 ≡ refused 33 0)
+      (answerTo (takingBackChecks true (markedView 0)) 0 ≡ refused 32 0) × (answerTo (takingBackChecks true (markedView 1)) 0 ≡ refused 33 0)
   -- a table that has retired something and holds nothing
   pub retiredEmpty : answers toy (retiredSome fresh) (takeBack ∷ []) ≡ refused 32 0 ∷ []
 
@@ -76,6 +76,9 @@ pub record BeforeCases : Type 0 where
   -- down to the empty table, and no further
   pub downToEmpty : tableAfter toy three (replicate 3 takeBack) ≡ fresh
   pub noFurther : answers toy three (replicate 4 takeBack) ≡ done ∷ done ∷ done ∷ refused 32 0 ∷ []
+  -- the last place decides, whatever else is interpreted
+  pub lastAlone : answers toy (marked twinsHeld 1 1) (takeBack ∷ []) ≡ refused 33 0 ∷ []
+  pub anotherAlone : answers toy (marked twinsHeld 0 1) (takeBack ∷ []) ≡ done ∷ []
   -- a refusal changes nothing
   pub refusedTable : takenBack fourMarked ≡ fourMarked
   -- the watch names a fork as long as both blocks are held
@@ -113,6 +116,10 @@ takenBackTurns =
 unfoldable pub forkTakenBack : List Turn
 forkTakenBack = good first giving placed 0 ∷ good fork giving placed 1 ∷ takeBack giving done ∷ []
 
+-- it is held at another site
+unfoldable pub forkHeld : List Turn
+forkHeld = good fork giving placed 0 ∷ []
+
 -- it was retired, is admitted again, and that is taken back
 unfoldable pub againTakenBack : List Turn
 againTakenBack = forkRetired ++ (good fork giving placed 2 ∷ takeBack giving done ∷ [])
@@ -124,6 +131,9 @@ pub record CountedCases : Type 0 where
   -- a fork that was taken back is none
   pub forkTaken : Session (sites 4) forkTakenBack
   pub notForked : forked (ledgerLeft (sites 4) forkTakenBack .blocks) 0 ≡ false
+  -- "at either site": what one took back counts where the other holds it
+  pub elsewhereTaken : Session (sites 4) forkHeld
+  pub forkedElsewhere : forked (ledgerLeft (sites 4) forkTakenBack .blocks ++ ledgerLeft (sites 4) forkHeld .blocks) 0 ≡ true
   -- one that was admitted before, and retired, still is
   pub againTaken : Session (sites 4) againTakenBack
   pub stillForked : forked (ledgerLeft (sites 4) againTakenBack .blocks) 0 ≡ true

@@ -17,6 +17,7 @@ use Rattle.block.specs.Limits.{referenceSize}
 use Rattle.block.specs.declared.Answer.{Answer}
 use Rattle.table.specs.Checks.{answerTo, refused}
 use Rattle.admission.specs.Admission.{admission, admitted}
+use Rattle.admission.proofs.Kept.{refused-table}
 use Rattle.agreement.specs.Ledger.{admit}
 use Rattle.agreement.specs.Run.{Site, siteStep, siteAfter}
 use Rattle.shelf.specs.Layout.{Waiting, waitingIn}
@@ -25,7 +26,6 @@ use Rattle.shelf.specs.Form.{inForm}
 use Rattle.campaigns.specs.Passes.{Try, outcomesOf}
 use Rattle.campaigns.specs.Arriving.{Arrived, Called, outcomesSize, unchanged, arrived}
 use Rattle.campaigns.specs.Promises.{only, timesWaiting, timesEnded, TriedFrom, Tested, CallKeeps}
-use Rattle.campaigns.proofs.Tries.{refused-table}
 use Rattle.campaigns.proofs.Ways.{called-is, at17}
 use Rattle.campaigns.proofs.Promises.{call-keeps, called-waiting}
 use Rattle.controller.specs.Run.{CampaignCall, arrives, made, isTaken, Controller, Alone, arrivalAt, replyTo, step, triesBy, takenBy, plainBy, aloneArrived, aloneReply, aloneStep}

@@ -1,14 +1,14 @@
 -- A row that is put at the next place and taken back leaves the table as it was, all bytes: zeros come over the row, and the old count over the
 -- new one. So straight after an admission a taking back passes and leaves the table before it, and after many admissions as many do. Assumes nothing.
 use mathlib.Core.Path.{_≡_, refl, sym, ap, _∙_, subst}
-use mathlib.Core.Bool.{true, false}
+use mathlib.Core.Bool.{true}
 use mathlib.Core.List.{List, [], _∷_}
 use Prim.Native.Nat.{ℕ, suc, _+_, _-_, _<_}
 use native.Mathlib.Omega.{arith}
 use lib.Dec.{eqb}
 use lib.ListN.{length, take, drop, replicate, length-replicate, length-drop}
 use lib.Seq.{drop-cons}
-use borrow.Author.Tests.{eqb-true, lt-ltb}
+use borrow.Author.Tests.{eqb-true, eqb-false, lt-ltb}
 use Rattle.base.specs.Bytes.{Bytes, allZero, splice}
 use Rattle.base.proofs.Tests.{by-test}
 use Rattle.base.proofs.Bytes.{zeros-take}
@@ -24,6 +24,7 @@ use Rattle.table.proofs.Formed.{formed-of}
 use Rattle.table.proofs.RowBytes.{length-row}
 use Rattle.table.proofs.Put.{grown as grown-row}
 use Rattle.admission.specs.Admission.{rowFor, admission, admitted}
+use Rattle.admission.proofs.Kept.{refused-table}
 use Rattle.admission.proofs.Promises.{promises}
 use Rattle.take_back.specs.TakingBack.{withoutRow, takingBack}
 use Rattle.take_back.specs.Promises.{UndoneBy, Brought, loaded, admittedOf}
@@ -106,10 +107,6 @@ module _ (digest : Bytes → Bytes) (sized : (b : Bytes) → length (digest b) �
 -- ---- and after many
 
 module _ (digest : Bytes → Bytes) (sized : (b : Bytes) → length (digest b) ≡ referenceSize) where
-  refused-stays : (t b : Bytes) (verdict : ℕ) → eqb (admission digest t b verdict .refusal) 0 ≡ false → admitted digest t b verdict ≡ t
-  unfolding admitted
-  refused-stays t b verdict n = rw n
-
   -- an admission, and what is undone before it
   one-more : (t b : Bytes) (verdict : ℕ) → eqb (admission digest t b verdict .refusal) 0 ≡ true → (n : ℕ) (t₀ : Bytes) → UndoneBy n t t₀
       → UndoneBy (suc n) (admitted digest t b verdict) t₀
@@ -131,7 +128,7 @@ module _ (digest : Bytes → Bytes) (sized : (b : Bytes) → length (digest b) �
       (λ z.
       let k : admittedOf digest t₁ bs + n ≡ 0 + admittedOf digest t₁ bs + n = omega arith in
       rw z (subst (λ (m : ℕ). UndoneBy m (loaded digest t₁ bs) t₀) k
-      (more n t₀ (subst (λ (x : Bytes). UndoneBy n x t₀) (sym (refused-stays t (b .block) (b .verdict) z)) w))))
+      (more n t₀ (subst (λ (x : Bytes). UndoneBy n x t₀) (sym (refused-table digest t (b .block) (b .verdict) (eqb-false _ 0 z))) w))))
 
   pub file-undone : (t : Bytes) (file : List Brought) → UndoneBy (admittedOf digest t file) (loaded digest t file) t
   unfolding UndoneBy

@@ -15,6 +15,7 @@ use Rattle.block.specs.Answers.{putAnswers}
 use Rattle.block.specs.declared.Answer.{Answer}
 use Rattle.table.specs.Checks.{refused, answerTo}
 use Rattle.admission.specs.Admission.{admission, admitted}
+use Rattle.admission.proofs.Kept.{refused-table}
 use Rattle.shelf.specs.Layout.{Waiting, waitingIn, shelfBytes}
 use Rattle.shelf.specs.Rules.{campaignCount, maxCampaign, hasPlace}
 use Rattle.shelf.specs.Form.{inForm}
@@ -23,7 +24,6 @@ use Rattle.campaigns.specs.Passes.{Try, outcomesOf, settled}
 use Rattle.campaigns.specs.Arriving.{Arrived, Called, outcomesSize, listed, arrived, arrival}
 use Rattle.campaigns.specs.Steps.{shelvedAt}
 use Rattle.campaigns.specs.declared.Arrival.{Arrival}
-use Rattle.campaigns.proofs.Tries.{refused-table}
 use Rattle.campaigns.proofs.Nines.{withTable, shelved-any, shelved-tries, nine-short}
 use Rattle.campaigns.proofs.arrive.Statement.{statement}
 use Rattle.campaigns.proofs.arrive.Tie as tie

@@ -15,6 +15,7 @@ use Rattle.sha256.specs.Sha256.{sha256}
 use Rattle.block.specs.Answers.{putAnswer}
 use Rattle.block.specs.declared.Answer.{Answer}
 use Rattle.admission.specs.Admission.{admission, admitted}
+use Rattle.admission.proofs.Kept.{refused-table}
 use Rattle.shelf.specs.Layout.{Waiting, campaignAt, blockAt, waitingAt, waitingIn, shelfBytes}
 use Rattle.shelf.specs.Rules.{isFor}
 use Rattle.shelf.specs.Steps.{noWaiting, without}
@@ -22,7 +23,6 @@ use Rattle.shelf.proofs.Laid.{laid-size, laid-entry, laid-entry-of}
 use Rattle.campaigns.specs.Passes.{outcome}
 use Rattle.campaigns.specs.Steps.{Standing, turned}
 use Rattle.campaigns.specs.declared.Pass.{Pass}
-use Rattle.campaigns.proofs.Tries.{refused-table}
 use Rattle.campaigns.proofs.passing.turn.Statement.{statement}
 use Rattle.campaigns.proofs.passing.turn.Tie as tie
 
