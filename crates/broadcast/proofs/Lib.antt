@@ -8,3 +8,4 @@ pub mod Sound
 pub mod Settled
 pub mod Hears
 mod Ways
+pub mod Promises

@@ -1,3 +1,4 @@
--- One slot's process. Record and Process are what a reader must believe.
+-- One slot's process. Record, Process and Promises are what a reader must believe.
 pub mod Record
 pub mod Process
+pub mod Promises

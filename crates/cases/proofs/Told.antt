@@ -9,6 +9,7 @@ use native.Mathlib.Omega.{arith}
 use lib.Dec.{eqb}
 use lib.ListN.{length, getD, drop, replicate, length-replicate}
 use borrow.Author.Tests.{eqb-true}
+use Rattle.base.specs.Bytes.{partAt}
 use Rattle.base.specs.List.{listBelow}
 use Rattle.base.specs.Search.{allBelow}
 use Rattle.base.proofs.Tests.{by-test, and-left, and-right}
@@ -19,13 +20,14 @@ use Rattle.block.specs.declared.Answer.{Answer}
 use Rattle.setup.specs.Setup.{Setup, lawful}
 use Rattle.broadcast.specs.declared.SlotRecord.{SlotRecord}
 use Rattle.broadcast.specs.declared.Sent.{Sent}
+use Rattle.broadcast.specs.Record.{recordSize, flatten}
 use Rattle.table.specs.Rules.{heldInForm}
 use Rattle.table.specs.Fresh.{emptyTable, freshTable}
 use Rattle.table.specs.Checks.{answerTo}
 use Rattle.admission.specs.Admission.{admissionChecks}
-use Rattle.interpret.specs.Buffer.{bufferSize, recordIn}
+use Rattle.interpret.specs.Buffer.{bufferSize, partOf, recordIn}
 use Rattle.interpret.specs.Interpretation.{interpretationChecks}
-use Rattle.interpret.proofs.Parts.{record-in}
+use Rattle.interpret.proofs.Parts.{numbers-part, record-in}
 use Rattle.agreement.specs.History.{slotRecord, meaning}
 use Rattle.retire.specs.Retiring.{retiringChecks}
 use Rattle.take_back.specs.TakingBack.{takingBackChecks}
@@ -119,6 +121,17 @@ module _ (s : Setup) where
         (λ slot _. record-sized s slot (historyAt toy (ledgerOf toy s buffer calls) place)) _ place slot h
         (promises .first .shown clear place (subst (λ (l : Ledger). Interpreted l place) (sym ledger-told) m))
         ∙ ap (λ (l : Ledger). slotRecord s slot (historyAt toy l place)) ledger-told
+
+    -- the numbers of a slot in the part of a place
+    pub numbers-told : RetiredClear toy (ledgerOf toy s buffer calls) → (place slot : ℕ) → slot < slotCount → Interpreted (claimed empty calls ys) place
+        → partAt recordSize (partOf (siteWith toy s buffer calls .records) place) slot ≡ flatten (slotRecord s slot (historyAt toy (claimed empty calls ys) place))
+    unfolding meaning
+    numbers-told clear place slot h m =
+        ap (λ (part : List ℕ). partAt recordSize part slot)
+        (promises .first .shown clear place (subst (λ (l : Ledger). Interpreted l place) (sym ledger-told) m)
+        ∙ ap (λ (l : Ledger). meaning s (historyAt toy l place)) ledger-told)
+        ∙ numbers-part (λ slot. slotRecord s slot (historyAt toy (claimed empty calls ys) place))
+        (λ slot _. record-sized s slot (historyAt toy (claimed empty calls ys) place)) slot h
 
 -- a buffer of zeros, or of other numbers
 pub whole : (n : ℕ) → length (replicate bufferSize n) ≡ bufferSize

@@ -11,6 +11,8 @@ pub mod Building
 pub mod Starred
 pub mod Thresholds
 pub mod Traps
+pub mod Process
+pub mod Records
 pub mod Premises
 pub mod Arrival
 pub mod Builders

@@ -110,7 +110,8 @@ module _ (records : ℕ → SlotRecord) (s : (slot : ℕ) → slot < slotCount �
   unfolding numbersOf
   numbers-length = length-joined recordSize (listBelow flat slotCount) flat-size ∙ ap (λ (n : ℕ). recordSize * n) (length-list flat slotCount)
 
-  numbers-part : (slot : ℕ) → slot < slotCount → partAt recordSize (numbersOf records) slot ≡ flat slot
+  -- the numbers of a slot
+  pub numbers-part : (slot : ℕ) → slot < slotCount → partAt recordSize (numbersOf records) slot ≡ flat slot
   unfolding numbersOf
   numbers-part slot h =
       sym (parts-at slotCount recordSize (joined (listBelow flat slotCount)) slot h)

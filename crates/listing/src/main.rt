@@ -79,7 +79,7 @@ fn read_on(input: &mut [u8], count: usize, is_ended: bool, wanted: usize) -> Fro
     }
     let read = read_more(input, count);
     if read.is_failed {
-        say(b"listing: reading failed\n");
+        say(b"giangotum-listing: reading failed\n");
     }
     read
 }
@@ -90,7 +90,7 @@ fn write_front(output: &[u8], count: usize) -> bool
 {
     let is_written = io::write_all(STDOUT_FILENO, &output[..count]);
     if !is_written {
-        say(b"listing: writing failed\n");
+        say(b"giangotum-listing: writing failed\n");
     }
     !is_written
 }

@@ -1,0 +1,47 @@
+-- The rows of one slot's process hold, and those of single messages. Assumes nothing.
+use mathlib.Core.Path.{refl}
+use native.Mathlib.Omega.{arith}
+use Rattle.cases.specs.Blocks.{sites}
+use Rattle.cases.specs.Process.{silent, asksLater, branching, branchingOn, readyOfTwo, echoesOfOthers, threeReadiesTwoEchoes, readyOfOne, otherOfOne, otherOfTwo, afterThird, otherReadyingThree, afterReadyingThree, aside, ProcessCases, MessageCases}
+use Rattle.cases.proofs.Opened.{openedLedger}
+use Rattle.cases.proofs.Told.{campaign}
+
+pub process : ProcessCases
+unfolding openedLedger silent asksLater branching branchingOn readyOfTwo echoesOfOthers threeReadiesTwoEchoes readyOfOne otherOfOne otherOfTwo afterThird
+    otherReadyingThree afterReadyingThree aside
+process =
+    record {
+      laterRequest = campaign (sites 4) 0 _ refl (omega arith) refl refl refl;
+      requestAfterEcho = campaign (sites 4) 0 _ refl (omega arith) refl refl refl;
+      echoesAndReady = campaign (sites 4) 0 _ refl (omega arith) refl refl refl;
+      readyThenEchoes = campaign (sites 4) 0 _ refl (omega arith) refl refl refl;
+      readiesAndEcho = campaign (sites 4) 0 _ refl (omega arith) refl refl refl;
+      readiesThenEchoes = campaign (sites 7) 0 _ refl (omega arith) refl refl refl;
+      otherReady = campaign (sites 4) 0 _ refl (omega arith) refl refl refl;
+      readyAndDelivery = campaign (sites 1) 0 _ refl (omega arith) refl refl refl;
+      ownOther = campaign (sites 1) 0 _ refl (omega arith) refl refl refl;
+      readyForAnother = campaign (sites 4) 0 _ refl (omega arith) refl refl refl;
+      deliveredForAnother = campaign (sites 4) 0 _ refl (omega arith) refl refl refl;
+      otherDelivered = campaign (sites 4) 0 _ refl (omega arith) refl refl refl;
+      echoAfterReady = campaign (sites 4) 0 _ refl (omega arith) refl refl refl;
+      echoAfterDelivery = campaign (sites 4) 0 _ refl (omega arith) refl refl refl;
+      echoAfterEchoes = campaign (sites 4) 0 _ refl (omega arith) refl refl refl;
+      parentOfSite = campaign (sites 4) 0 _ refl (omega arith) refl refl refl;
+      withoutParent = campaign (sites 4) 0 _ refl (omega arith) refl refl refl;
+    }
+
+pub messages : MessageCases
+unfolding openedLedger
+messages =
+    record {
+      sendOfOther = λ r. refl;
+      noNumber = λ r kind. refl;
+      senderFour = λ r kind. refl;
+      senderLast = λ r kind. refl;
+      seventeenSites = λ r kind. refl;
+      echoOneShort = refl;
+      readyOneShort = refl;
+      deliveryOneShort = refl;
+      readyThoughDelivered = refl;
+      notedThoughDelivered = refl;
+    }

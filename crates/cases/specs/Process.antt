@@ -1,0 +1,280 @@
+-- Document 01, "One slot's process" and "Interpreting a place": rows for sentences that a wrong rule could break while the small skies, the
+-- thresholds and the traps stay as they are. Where nothing else is said site 0 owns the slot. The digest is the toy one.
+use mathlib.Core.Path.{_≡_}
+use mathlib.Core.List.{List, [], _∷_, map}
+use Prim.Native.Nat.{ℕ}
+use Rattle.base.specs.Bytes.{Bytes}
+use Rattle.broadcast.specs.declared.Kind.{Kind}
+use Rattle.broadcast.specs.declared.Kind.the-variants.{Send, Echo, Ready}
+use Rattle.broadcast.specs.declared.Sent.{Sent}
+use Rattle.broadcast.specs.declared.SlotRecord.{SlotRecord}
+use Rattle.broadcast.specs.Record.{none, withEcho, withReady, withDelivered, inBoth, noteEcho, noteReady}
+use Rattle.broadcast.specs.Process.{received}
+use Rattle.cases.specs.Toy.{toy, request, block}
+use Rattle.cases.specs.Run.{Campaign, _making_, sends, echoes, readies, delivers, readiesAndDelivers}
+use Rattle.cases.specs.Blocks.{sites, first, fork, third, threeSites, echoing, readying}
+use Rattle.cases.specs.Starred.{chained, twoReadies}
+use Rattle.cases.specs.Thresholds.{oneToFive, threeReadies}
+use Rattle.cases.specs.Traps.{mark, otherEchoing, otherReadying, idle, readyingThree}
+
+-- ---- the blocks
+
+-- site 0 requests nothing in its first block, and 42 in its second
+unfoldable pub silent : Bytes
+silent = block 0 0 [] []
+
+unfoldable pub asksLater : Bytes
+asksLater = block 0 1 (toy silent ∷ []) (request 0 42 ∷ [])
+
+-- site 0 begins once more, with a reference to its fork, and goes on from there
+unfoldable pub branching : Bytes
+branching = block 0 0 (toy fork ∷ []) []
+
+unfoldable pub branchingOn : Bytes
+branchingOn = block 0 1 (toy branching ∷ []) []
+
+-- n 4: site 3 hears READY of site 2 alone, and a block later ECHO of two others
+unfoldable pub readyOfTwo : Bytes
+readyOfTwo = block 3 0 (toy (readying threeSites 2) ∷ []) []
+
+unfoldable pub echoesOfOthers : Bytes
+echoesOfOthers = block 3 1 (toy readyOfTwo ∷ toy (echoing 0) ∷ toy (echoing 1) ∷ []) []
+
+-- n 7: site 6 hears ECHO of two sites and READY of three others
+unfoldable pub threeReadiesTwoEchoes : Bytes
+threeReadiesTwoEchoes =
+    block 6 0 (toy (echoing 4) ∷ toy (echoing 5) ∷ map (λ p. toy (readying oneToFive p)) (1 ∷ 2 ∷ 3 ∷ [])) []
+
+-- n 4: site 3 hears READY 42 of site 1, a block later READY 43 of the same site, and a block later READY 43 of site 2
+unfoldable pub readyOfOne : Bytes
+readyOfOne = block 3 0 (toy (readying threeSites 1) ∷ []) []
+
+unfoldable pub otherOfOne : Bytes
+otherOfOne = block 3 1 (toy readyOfOne ∷ toy (otherReadying 1) ∷ []) []
+
+unfoldable pub otherOfTwo : Bytes
+otherOfTwo = block 3 2 (toy otherOfOne ∷ toy (otherReadying 2) ∷ []) []
+
+-- n 4: site 3 sends ECHO 43, and then hears READY 42 of two sites
+unfoldable pub afterThird : Bytes
+afterThird = block 3 1 (toy third ∷ toy (readying threeSites 0) ∷ toy (readying threeSites 1) ∷ []) []
+
+-- n 4: site 3 hears ECHO 43 of three sites
+unfoldable pub otherReadyingThree : Bytes
+otherReadyingThree = block 3 0 (map (λ p. toy (otherEchoing p)) threeSites) []
+
+-- n 4: site 3 hears ECHO 42 of three sites, the owner's among them, and a block later SEND
+unfoldable pub afterReadyingThree : Bytes
+afterReadyingThree = block 3 1 (toy readyingThree ∷ toy first ∷ []) []
+
+-- n 1: a second first block of the site
+unfoldable pub aside : Bytes
+aside = block 0 0 [] (mark ∷ [])
+
+pub record ProcessCases : Type 0 where
+  -- "If the block has a counted request v, its site is the owner and entry 0 is 0, it sends SEND v": at whatever sequence number
+  pub laterRequest : Campaign (sites 4) 0 (silent making none ∷ asksLater making sends 42 ∷ [])
+  -- and whatever else was sent or heard: the owner has sent ECHO 43, of its other branch, and heard it, before it requests 42
+  pub requestAfterEcho : Campaign (sites 4) 0
+      (fork making sends 43
+      ∷ branching making echoes 43
+      ∷ branchingOn making none
+      ∷ block 0 2 (toy branchingOn ∷ []) (request 0 42 ∷ []) making sends 42
+      ∷ [])
+  -- "Supporters, for ECHO and READY each by itself": n 4, ECHO of two sites and READY of a third: no READY, no delivery
+  pub echoesAndReady : Campaign (sites 4) 0
+      (first making sends 42
+      ∷ echoing 0 making echoes 42
+      ∷ echoing 1 making echoes 42
+      ∷ echoing 2 making echoes 42
+      ∷ readying threeSites 2 making readies 42
+      ∷ block 3 0 (toy (echoing 0) ∷ toy (echoing 1) ∷ toy (readying threeSites 2) ∷ []) [] making none
+      ∷ [])
+  -- the same with READY first and the ECHOs a block later; the third ECHO, of the site that READY came from, brings READY
+  pub readyThenEchoes : Campaign (sites 4) 0
+      (first making sends 42
+      ∷ echoing 0 making echoes 42
+      ∷ echoing 1 making echoes 42
+      ∷ echoing 2 making echoes 42
+      ∷ readying threeSites 2 making readies 42
+      ∷ readyOfTwo making none
+      ∷ echoesOfOthers making none
+      ∷ block 3 2 (toy echoesOfOthers ∷ toy (echoing 2) ∷ []) [] making readies 42
+      ∷ [])
+  -- n 4, READY of two sites and ECHO of a third: READY, no delivery
+  pub readiesAndEcho : Campaign (sites 4) 0
+      (first making sends 42
+      ∷ echoing 0 making echoes 42
+      ∷ echoing 1 making echoes 42
+      ∷ echoing 2 making echoes 42
+      ∷ readying threeSites 1 making readies 42
+      ∷ readying threeSites 2 making readies 42
+      ∷ block 3 0 (toy (echoing 0) ∷ toy (readying threeSites 1) ∷ toy (readying threeSites 2) ∷ []) [] making readies 42
+      ∷ [])
+  -- n 7, READY of three sites and ECHO of two others: READY, no delivery; a block later its own READY and ECHO of two more: no delivery
+  pub readiesThenEchoes : Campaign (sites 7) 0
+      (first making sends 42
+      ∷ echoing 1 making echoes 42
+      ∷ echoing 2 making echoes 42
+      ∷ echoing 3 making echoes 42
+      ∷ echoing 4 making echoes 42
+      ∷ echoing 5 making echoes 42
+      ∷ readying oneToFive 1 making readies 42
+      ∷ readying oneToFive 2 making readies 42
+      ∷ readying oneToFive 3 making readies 42
+      ∷ threeReadiesTwoEchoes making readies 42
+      ∷ block 6 1 (toy threeReadiesTwoEchoes ∷ toy (echoing 1) ∷ toy (echoing 2) ∷ []) [] making none
+      ∷ [])
+  -- "READY v from p, none heard from p": a second READY of site 1, of another number, is not noted; what was noted first stays, and with READY
+  -- 42 of site 0 it has its two
+  pub otherReady : Campaign (sites 4) 0
+      (first making sends 42
+      ∷ echoing 0 making echoes 42
+      ∷ echoing 1 making echoes 42
+      ∷ echoing 2 making echoes 42
+      ∷ readying threeSites 0 making readies 42
+      ∷ readying threeSites 1 making readies 42
+      ∷ fork making sends 43
+      ∷ otherEchoing 0 making echoes 43
+      ∷ otherEchoing 1 making echoes 43
+      ∷ otherEchoing 2 making echoes 43
+      ∷ otherReadying 1 making readies 43
+      ∷ otherReadying 2 making readies 43
+      ∷ readyOfOne making none
+      ∷ otherOfOne making none
+      ∷ otherOfTwo making none
+      ∷ block 3 3 (toy otherOfTwo ∷ toy (readying threeSites 0) ∷ []) [] making readies 42
+      ∷ [])
+  -- READY and delivery by one message: n 1, where one READY is enough for both
+  pub readyAndDelivery : Campaign (sites 1) 0
+      (chained 0 making sends 7
+      ∷ chained 1 making echoes 7
+      ∷ chained 2 making readies 7
+      ∷ block 0 0 (toy (chained 2) ∷ []) (mark ∷ []) making readiesAndDelivers 7
+      ∷ [])
+  -- "the messages made in the blocks directly referred to": an own block other than the parent is heard, with a parent and without
+  pub ownOther : Campaign (sites 1) 0
+      (chained 0 making sends 7
+      ∷ chained 1 making echoes 7
+      ∷ aside making none
+      ∷ block 0 1 (toy aside ∷ toy (chained 1) ∷ []) [] making readies 7
+      ∷ block 0 0 (toy (chained 1) ∷ []) (mark ∷ []) making readies 7
+      ∷ [])
+  -- READY is for the number that has the ECHOs, whatever the site's own ECHO was for
+  pub readyForAnother : Campaign (sites 4) 0
+      (first making sends 42
+      ∷ fork making sends 43
+      ∷ echoing 0 making echoes 42
+      ∷ echoing 1 making echoes 42
+      ∷ echoing 2 making echoes 42
+      ∷ third making echoes 43
+      ∷ block 3 1 (toy third ∷ map (λ p. toy (echoing p)) threeSites) [] making readies 42
+      ∷ [])
+  -- and so it is where the READYs bring it; it is delivered too
+  pub deliveredForAnother : Campaign (sites 4) 0
+      (first making sends 42
+      ∷ fork making sends 43
+      ∷ echoing 0 making echoes 42
+      ∷ echoing 1 making echoes 42
+      ∷ echoing 2 making echoes 42
+      ∷ readying threeSites 0 making readies 42
+      ∷ readying threeSites 1 making readies 42
+      ∷ third making echoes 43
+      ∷ afterThird making readies 42
+      ∷ block 3 2 (toy afterThird ∷ []) [] making delivers 42
+      ∷ [])
+  -- a number is delivered that has its READYs, whatever the site's own READY was for
+  pub otherDelivered : Campaign (sites 4) 0
+      (fork making sends 43
+      ∷ otherEchoing 0 making echoes 43
+      ∷ otherEchoing 1 making echoes 43
+      ∷ otherEchoing 2 making echoes 43
+      ∷ otherReadyingThree making readies 43
+      ∷ first making sends 42
+      ∷ echoing 0 making echoes 42
+      ∷ echoing 1 making echoes 42
+      ∷ echoing 2 making echoes 42
+      ∷ readying threeSites 0 making readies 42
+      ∷ readying threeSites 1 making readies 42
+      ∷ readying threeSites 2 making readies 42
+      ∷ block 3 1 (toy otherReadyingThree ∷ map (λ p. toy (readying threeSites p)) threeSites) [] making delivers 42
+      ∷ [])
+  -- "SEND v from the owner, ECHO not sent: send ECHO v": whatever else was sent. Its own READY, heard here, is the third
+  pub echoAfterReady : Campaign (sites 4) 0
+      (first making sends 42
+      ∷ echoing 0 making echoes 42
+      ∷ echoing 1 making echoes 42
+      ∷ echoing 2 making echoes 42
+      ∷ readying threeSites 0 making readies 42
+      ∷ readying threeSites 1 making readies 42
+      ∷ twoReadies making readies 42
+      ∷ block 3 1 (toy twoReadies ∷ toy first ∷ []) [] making withDelivered 42 (echoes 42)
+      ∷ [])
+  -- and delivered
+  pub echoAfterDelivery : Campaign (sites 4) 0
+      (first making sends 42
+      ∷ echoing 0 making echoes 42
+      ∷ echoing 1 making echoes 42
+      ∷ echoing 2 making echoes 42
+      ∷ readying threeSites 0 making readies 42
+      ∷ readying threeSites 1 making readies 42
+      ∷ readying threeSites 2 making readies 42
+      ∷ threeReadies making readiesAndDelivers 42
+      ∷ block 3 1 (toy threeReadies ∷ toy first ∷ []) [] making echoes 42
+      ∷ [])
+  -- and heard, the owner's ECHO too. The third ECHO brings READY, and a fourth, a block later, none: "and READY isn't sent"
+  pub echoAfterEchoes : Campaign (sites 4) 0
+      (first making sends 42
+      ∷ echoing 0 making echoes 42
+      ∷ echoing 1 making echoes 42
+      ∷ echoing 2 making echoes 42
+      ∷ readyingThree making readies 42
+      ∷ afterReadyingThree making echoes 42
+      ∷ block 3 2 (toy afterReadyingThree ∷ []) [] making none
+      ∷ [])
+  -- "entries 0 to 35 of the parent's record": a block of another site with the sequence number one less, though listed first, is no parent
+  pub parentOfSite : Campaign (sites 4) 0
+      (first making sends 42
+      ∷ echoing 2 making echoes 42
+      ∷ idle making none
+      ∷ block 1 1 (toy (echoing 2) ∷ toy idle ∷ toy first ∷ []) [] making echoes 42
+      ∷ [])
+  -- "all 0 without a parent": a block of sequence 0 that refers to a block of its own site has no parent, and sends its own SEND
+  pub withoutParent : Campaign (sites 4) 0
+      (first making sends 42
+      ∷ block 0 0 (toy first ∷ []) (request 0 43 ∷ []) making withEcho 42 (sends 43)
+      ∷ [])
+
+-- ---- one message by itself
+
+-- heard of sites 0 and 1, and 42 of site 9, which n 4 does not have
+abbrev pub heard : ℕ → ℕ → List ℕ
+heard first second = first ∷ second ∷ 0 ∷ 0 ∷ 0 ∷ 0 ∷ 0 ∷ 0 ∷ 0 ∷ 42 ∷ 0 ∷ 0 ∷ 0 ∷ 0 ∷ 0 ∷ 0 ∷ []
+
+-- what was sent, the ECHOs and the READYs heard, and nothing made
+abbrev pub having : Sent → List ℕ → List ℕ → SlotRecord
+having sent echoes readies = record { sent = sent; echoes = echoes; readies = readies; made = none }
+
+-- n 4, and site 0 owns the slot
+pub record MessageCases : Type 0 where
+  -- "SEND v from the owner": "From others: nothing", on a record of any content
+  pub sendOfOther : (r : SlotRecord) → received r 4 0 Send 1 42 ≡ r
+  -- "A message of number 0 .. changes nothing"
+  pub noNumber : (r : SlotRecord) (kind : Kind) → received r 4 0 kind 0 0 ≡ r
+  -- "or from a sender not below n": the first such, though it be the owner, and the last
+  pub senderFour : (r : SlotRecord) (kind : Kind) → received r 4 4 kind 4 42 ≡ r
+  pub senderLast : (r : SlotRecord) (kind : Kind) → received r 4 0 kind 255 42 ≡ r
+  -- no setup has more than 16 sites, and a record has no entry for a seventeenth
+  pub seventeenSites : (r : SlotRecord) (kind : Kind) → received r 17 16 kind 16 42 ≡ r
+  -- "the sites below n whose heard entry is v": site 9 supports nothing, so that each number is one short
+  pub echoOneShort : received (having none (heard 42 0) (heard 0 0)) 4 0 Echo 1 42 ≡ having none (heard 42 42) (heard 0 0)
+  pub readyOneShort : received (having none (heard 0 0) (heard 0 0)) 4 0 Ready 0 42 ≡ having none (heard 0 0) (heard 42 0)
+  pub deliveryOneShort :
+      received (having (withReady 42 none) (heard 0 0) (heard 42 0)) 4 0 Ready 1 42 ≡ having (withReady 42 none) (heard 0 0) (heard 42 42)
+  -- "and READY isn't sent" is all that READY asks beside its supporters, "and nothing is delivered" all that delivery asks
+  pub readyThoughDelivered :
+      received (having (withDelivered 9 none) (heard 42 42) (heard 0 0)) 4 0 Echo 2 42
+      ≡ inBoth (withReady 42) (noteEcho 2 42 (having (withDelivered 9 none) (heard 42 42) (heard 0 0)))
+  pub notedThoughDelivered :
+      received (having (withDelivered 9 (withReady 8 none)) (heard 42 42) (heard 42 42)) 4 0 Ready 2 42
+      ≡ noteReady 2 42 (having (withDelivered 9 (withReady 8 none)) (heard 42 42) (heard 42 42))
