@@ -1,12 +1,13 @@
 #!/usr/bin/env bash
 # Checks the logs that rt ci left of the must-fail edits: each edit has one, and none shows an edit that was refused
-# only for a name: a proof file that names what the edited code no longer has, or an edit that names what is not in
-# scope. Such an edit says nothing about the contract.
+# for a name: a proof file that names what the edited code no longer has, a walk of another shape that lacks a field, or an
+# edit that names what is not in scope. Such an edit says nothing about the contract.
 set -u
 cd "$(dirname "$0")/.." || exit 1
 shopt -s nullglob
 
 unfit='that can be named from here'
+reshaped='has no field'
 unknown='is not in scope'
 edits=0
 bad=0
@@ -17,7 +18,7 @@ complain() { # MESSAGE
 }
 
 for log in target/must-fail/*/*/.log; do
-    grep -q -F -e "$unfit" -e "$unknown" "$log"
+    grep -q -F -e "$unfit" -e "$reshaped" -e "$unknown" "$log"
     case $? in
     0) complain "$log: refused for a name, not for a fact" ;;
     1) ;;
