@@ -16,7 +16,6 @@ from pathlib import Path
 HOST = Path(__file__).resolve().parents[1] / "host"
 HEADERS = "".join((HOST / file).read_text(encoding="ascii") for file in ("giangotum.h", "giangotum_core.h"))
 LIMIT = 65536  # bytes that the device has for everything
-AIM = 57344
 
 
 def output_of(*command):
@@ -90,7 +89,6 @@ def state_device(device, measured):
 
     total = state_sum("Memory of the core's calls, in bytes", device, measured, lent)
     line("limit", LIMIT, verdict(total, LIMIT))
-    line("aim", AIM, verdict(total, AIM))
     print()
     print("Code and constants: these calls are linked by themselves, without what they don't reach (--gc-sections), and all")
     print("sections that would be loaded are added up (size -A), gaps between functions included. In place of a C library's,")
