@@ -11,7 +11,7 @@ use Rattle.base.proofs.Parts.{parts-list}
 use Rattle.base.proofs.Members.{list-has, list-from}
 use Rattle.block.specs.Limits.{referenceSize}
 use Rattle.block.specs.Layout.{referenceCount, referenceList, referenceAt, referencesOf}
-use Rattle.block.specs.Steps.{Shaped}
+use Rattle.block.specs.Promises.{Shaped}
 use Rattle.block.proofs.Shape.{references-counted}
 use Rattle.admission.specs.Admission.{lists}
 

@@ -12,7 +12,7 @@ use Rattle.base.specs.Mask.{inMask}
 use Rattle.base.specs.Bytes.{Bytes, sameBytes}
 use Rattle.base.proofs.Sets.{mask-has, mask-has-not}
 use Rattle.block.specs.Layout.{referenceCount, referenceList, referenceAt}
-use Rattle.block.specs.Steps.{Shaped}
+use Rattle.block.specs.Promises.{Shaped}
 use Rattle.block.proofs.Shape.{references-counted}
 use Rattle.table.specs.View.{View}
 use Rattle.table.specs.Layout.{countOf, digestAt}

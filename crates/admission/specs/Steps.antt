@@ -12,7 +12,7 @@ use Rattle.base.specs.Number.{pair}
 use Rattle.sha256.specs.Sha256.{sha256}
 use Rattle.block.specs.Limits.{referenceSize, slotCount}
 use Rattle.block.specs.Layout.{referenceList, referenceAt, requestsIn, countedRequest}
-use Rattle.block.specs.Steps.{Shaped}
+use Rattle.block.specs.Promises.{Shaped}
 use Rattle.block.specs.declared.Answer.{Answer}
 use Rattle.table.specs.View.{Row, View}
 use Rattle.table.specs.Layout.{countOf, digestAt, viewOf, withRow}

@@ -9,7 +9,7 @@ ghost use mathlib.Core.Path.{_≡_};
 ghost use mathlib.Core.Bool.{true};
 ghost use Rattle.sha256.specs.Sha256.{sha256};
 ghost use Rattle.block.specs.Reading.{fieldsOf};
-ghost use Rattle.block.specs.Steps.{Shaped};
+ghost use Rattle.block.specs.Promises.{Shaped};
 ghost use Rattle.table.specs.Form.{inForm};
 ghost use Rattle.admission.specs.Admission.{admission, admitted};
 ghost use Rattle.admission.specs.Steps.{heldAnswer, entered};

@@ -13,7 +13,7 @@ use Rattle.base.specs.Bytes.{Bytes, sameBytes}
 use Rattle.base.proofs.Tests.{by-test}
 use Rattle.base.proofs.Bytes.{same-equal, same-other}
 use Rattle.block.specs.Layout.{sequenceOf, referencesOf}
-use Rattle.block.specs.Steps.{Shaped}
+use Rattle.block.specs.Promises.{Shaped}
 use Rattle.agreement.specs.History.{History, Histories, node, end, _and_, blockOf, listOf, children, isParentOf, Ancestor, direct, further}
 use Rattle.agreement.specs.Ancestry.{found, gather, find, historyOf, AncestorIn, refers, through}
 use Rattle.agreement.proofs.Histories.{child-ind}

@@ -18,7 +18,7 @@ use Rattle.base.proofs.Bytes.{same-equal, same-other}
 use Rattle.base.proofs.Members.{newest, newest-has}
 use Rattle.block.specs.Layout.{siteOf, sequenceOf, referencesOf}
 use Rattle.block.specs.Reading.{fieldsOf}
-use Rattle.block.specs.Steps.{Shaped}
+use Rattle.block.specs.Promises.{Shaped}
 use Rattle.block.proofs.Accepted.{reading-accepted}
 use Rattle.table.specs.Layout.{countOf, digestAt, siteAt, sequenceAt, rowAt, viewOf}
 use Rattle.table.specs.Rules.{hasDigest, placeOf, parentRow, parents, parentRule}

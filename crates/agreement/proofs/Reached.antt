@@ -16,7 +16,7 @@ use Rattle.block.specs.Limits.{referenceSize, slotCount}
 use Rattle.block.specs.Layout.{siteOf, sequenceOf, referencesOf, requestFor}
 use Rattle.block.specs.Reading.{reading, fieldsOf}
 use Rattle.block.specs.declared.Reading.the-variants.{Block}
-use Rattle.block.specs.Steps.{Shaped}
+use Rattle.block.specs.Promises.{Shaped}
 use Rattle.block.proofs.Accepted.{reading-accepted}
 use Rattle.setup.specs.Setup.{Setup, lawful}
 use Rattle.table.specs.View.{maxPlaces, SameRow}

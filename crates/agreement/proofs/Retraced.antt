@@ -18,7 +18,7 @@ use Rattle.base.proofs.Tests.{by-test, true-not-false, not-true-false}
 use Rattle.base.proofs.Splice.{length-splice}
 use Rattle.block.specs.Limits.{referenceSize}
 use Rattle.block.specs.Reading.{fieldsOf}
-use Rattle.block.specs.Steps.{Shaped}
+use Rattle.block.specs.Promises.{Shaped}
 use Rattle.block.proofs.Accepted.{reading-accepted}
 use Rattle.setup.specs.Setup.{Setup, lawful}
 use Rattle.table.specs.View.{maxPlaces, Row, interpreted, View, SameRow}

@@ -15,7 +15,7 @@ use Rattle.base.proofs.Tests.{and-right}
 use Rattle.base.proofs.Members.{newest, newest-has, newest-from, newest-same, map-newest}
 use Rattle.block.specs.Limits.{referenceSize}
 use Rattle.block.specs.Layout.{referencesOf}
-use Rattle.block.specs.Steps.{Shaped}
+use Rattle.block.specs.Promises.{Shaped}
 use Rattle.setup.specs.Setup.{Setup}
 use Rattle.table.specs.View.{maxPlaces}
 use Rattle.table.specs.Layout.{setupOf, countOf, rowAt, viewOf}

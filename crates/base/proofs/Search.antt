@@ -1,14 +1,14 @@
 -- Laws of the first number below a bound that passes a test: the turns of the loop that looks for it, and what it is. Assumes nothing.
 use mathlib.Core.Path.{_≡_, refl, sym, ap}
 use mathlib.Core.Bool.{Bool, true, false, not, cond, _||_}
-use mathlib.Core.Logic.{inl, inr}
+use mathlib.Core.Logic.{_↔_, inl, inr}
 use Prim.Native.Nat.{ℕ, zero, suc, _+_, _≤_, _<_}
 use native.Mathlib.Nat.{eq-or-lt-of-le, le-of-suc-le-suc}
 use native.Mathlib.Numerals.{add-one}
 use native.Mathlib.Omega.{arith}
 use lib.Dec.{eqb, ltb}
 use borrow.Author.Tests.{eqb-true, eqb-false, lt-ltb, le-ltb, ltb-true, ltb-false, not-true, not-false}
-use Rattle.base.specs.Search.{firstBelow, anyBelow, allBelow}
+use Rattle.base.specs.Search.{firstBelow, anyBelow, allBelow, First}
 use Rattle.base.proofs.Tests.{by-test, true-not-false, not-true-false}
 
 module _ (f : ℕ → Bool) where
@@ -99,6 +99,21 @@ module _ (f : ℕ → Bool) where
 
   pub any-true-at : (k : ℕ) → anyBelow f k ≡ true → (j : ℕ) × (j < k) × (f j ≡ true)
   any-true-at k e = (firstBelow f k, any-first k e, first-passes k (any-first k e))
+
+-- where the test below k is what P says, some number passes exactly if there is one of which P holds, and the first that passes is the first of those
+module _ (f : ℕ → Bool) (k : ℕ) (P : ℕ → Type 0) (means : (i : ℕ) → ((i < k) × (f i ≡ true)) ↔ P i) where
+  pub any-such : (anyBelow f k ≡ true) ↔ ((i : ℕ) × P i)
+  any-such = (
+    λ e. let w = any-true-at f k e in (w .0, means (w .0) .0 (w .1, w .2)),
+    λ w. let p = means (w .0) .1 (w .1) in any-true f k (w .0) (p .0) (p .1),
+  )
+
+  pub first-such : anyBelow f k ≡ true → First P (firstBelow f k)
+  first-such e =
+      record {
+        here = means (firstBelow f k) .0 (any-first f k e, first-passes f k (any-first f k e));
+        before = λ j h p. true-not-false (means j .1 p .1) (first-before f k j h);
+      }
 
 -- one turn more
 pub any-more : (f : ℕ → Bool) (k : ℕ) → anyBelow f (k + 1) ≡ (anyBelow f k || f k)

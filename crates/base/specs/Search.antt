@@ -1,6 +1,6 @@
 -- The first number below a bound that passes a test: every 'index of the first such', 'lowest such place' and 'all different'. Assumes nothing.
 use mathlib.Core.Bool.{Bool, not, cond}
-use Prim.Native.Nat.{ℕ, zero, suc}
+use Prim.Native.Nat.{ℕ, zero, suc, _<_}
 use lib.Dec.{ltb}
 
 -- the least number below k that passes the test, and k if there is none
@@ -15,3 +15,8 @@ anyBelow test k = ltb (firstBelow test k) k
 -- whether all numbers below k do
 unfoldable pub allBelow : (ℕ → Bool) → ℕ → Bool
 allBelow test k = not (anyBelow (λ i. not (test i)) k)
+
+-- i is the first number of which P holds: the same of propositions, as promises have it
+pub record First (P : ℕ → Type 0) (i : ℕ) : Type 0 where
+  pub here : P i
+  pub before : (j : ℕ) → j < i → P j → ⊥

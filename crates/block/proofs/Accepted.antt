@@ -9,7 +9,7 @@ use Rattle.base.specs.Bytes.{Bytes}
 use Rattle.block.specs.Limits.{maxReferences, maxRequests, blockSize}
 use Rattle.block.specs.Layout.{referenceCount, requestCount, referenceList, requestList}
 use Rattle.block.specs.Reading.{wellShaped, badRequestAt, repeatedAt, fieldsOf, reading}
-use Rattle.block.specs.Steps.{Shaped}
+use Rattle.block.specs.Promises.{Shaped}
 use Rattle.block.specs.declared.Fields.{Fields}
 use Rattle.block.specs.declared.Reading.the-variants.{Block, Misshapen, BadRequest, RepeatedReference}
 use Rattle.block.proofs.Shape.{shaped, well-shaped}

@@ -1,9 +1,10 @@
--- The laws of blocks, and of answers in a buffer. RoundTrip is the promise of specs/Codec.antt; the files before it lead up to it.
+-- The laws of blocks, and of answers in a buffer. RoundTrip is the promise of specs/Codec.antt, Causes that of specs/Promises.antt.
 pub mod Lists
 pub mod Admissible
 pub mod Shape
 pub mod Encoding
 pub mod Accepted
+pub mod Causes
 pub mod RoundTrip
 pub mod Refused
 pub mod Answered

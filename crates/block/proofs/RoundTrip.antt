@@ -17,7 +17,7 @@ use Rattle.block.specs.Limits.{headerSize, referenceSize, requestSize}
 use Rattle.block.specs.Layout.{Content, siteOf, sequenceOf, referenceCount, requestCount, referenceList, requestList, referenceAt, requestAt, requestBytes, referencesIn, requestsIn, content, contentOf, encode}
 use Rattle.block.specs.Reading.{badRequest, badRequestAt, repeatedAt, fieldsOf, reading}
 use Rattle.block.specs.Codec.{Digest, Admissible, noRequest, Fitting, Gives, RoundTrip}
-use Rattle.block.specs.Steps.{Shaped}
+use Rattle.block.specs.Promises.{Shaped}
 use Rattle.block.specs.declared.Request.{Request}
 use Rattle.block.specs.declared.Fields.{Fields}
 use Rattle.block.specs.declared.Reading.the-variants.{Block}

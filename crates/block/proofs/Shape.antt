@@ -13,7 +13,7 @@ use Rattle.base.proofs.Parts.{part-size, rest-part}
 use Rattle.block.specs.Limits.{headerSize, referenceSize, requestSize, maxReferences, maxRequests, blockSize, maxBlockSize}
 use Rattle.block.specs.Layout.{referenceCount, requestCount, referenceList, requestList}
 use Rattle.block.specs.Reading.{wellShaped}
-use Rattle.block.specs.Steps.{Shaped}
+use Rattle.block.specs.Promises.{Shaped}
 
 pub shaped : (b : Bytes) → wellShaped b ≡ true → Shaped b
 unfolding wellShaped

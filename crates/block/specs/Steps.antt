@@ -4,16 +4,9 @@ use Prim.Native.Nat.{ℕ, _+_, _*_, _/_, _≤_}
 use lib.ListN.{length}
 use Rattle.base.specs.Search.{firstBelow}
 use Rattle.base.specs.Bytes.{Bytes, sameBytes}
-use Rattle.block.specs.Limits.{headerSize, referenceSize, requestSize, maxReferences, maxRequests, maxRequestListSize, blockSize}
-use Rattle.block.specs.Layout.{referenceCount, requestCount, referenceAt}
+use Rattle.block.specs.Limits.{headerSize, referenceSize, requestSize, maxReferences, maxRequestListSize}
+use Rattle.block.specs.Layout.{referenceAt}
 use Rattle.block.specs.Reading.{badRequestAt, repeatedAt}
-
--- bytes that pass check 3
-pub record Shaped (b : Bytes) : Type 0 where
-  pub header : headerSize ≤ length b
-  pub references : referenceCount b ≤ maxReferences
-  pub requests : requestCount b ≤ maxRequests
-  pub exact : length b ≡ blockSize (referenceCount b) (requestCount b)
 
 -- two lists that a block holds, and an output that holds the block
 pub record Writable (references requests output : Bytes) : Type 0 where

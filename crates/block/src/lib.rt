@@ -8,7 +8,7 @@ pub mod writing;
 
 ghost use mathlib.Core.Path.{_≡_};
 ghost use Rattle.block.specs.Reading.{wellShaped, reading, answerOf};
-ghost use Rattle.block.specs.Steps.{Shaped};
+ghost use Rattle.block.specs.Promises.{Shaped};
 
 // Sizes in bytes, and the limits of a block.
 pub const HEADER_SIZE: usize = 5;

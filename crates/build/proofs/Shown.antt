@@ -11,7 +11,7 @@ use Rattle.base.proofs.Members.{at-member, member-at}
 use Rattle.block.specs.Layout.{Content, referenceCount, referenceList, referenceAt, content, contentOf}
 use Rattle.block.specs.Reading.{fieldsOf}
 use Rattle.block.specs.Codec.{Reads}
-use Rattle.block.specs.Steps.{Shaped}
+use Rattle.block.specs.Promises.{Shaped}
 use Rattle.block.proofs.Lists.{references-length, references-at}
 use Rattle.block.proofs.Shape.{references-counted}
 use Rattle.block.proofs.Accepted.{reading-accepted}

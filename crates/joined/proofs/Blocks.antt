@@ -11,7 +11,7 @@ use Rattle.base.proofs.Tests.{by-test, not-true-false, same-tests}
 use Rattle.block.specs.Limits.{slotCount}
 use Rattle.block.specs.Layout.{siteOf, sequenceOf, referencesOf, requestFor}
 use Rattle.block.specs.Reading.{reading, fieldsOf}
-use Rattle.block.specs.Steps.{Shaped}
+use Rattle.block.specs.Promises.{Shaped}
 use Rattle.block.specs.declared.Reading.the-variants.{Block}
 use Rattle.block.proofs.Accepted.{reading-accepted}
 use Rattle.table.specs.View.{maxPlaces, View}

@@ -13,7 +13,7 @@ use Rattle.sha256.proofs.Laws.{sha256-length}
 use Rattle.block.specs.Limits.{headerSize, referenceSize, maxReferences}
 use Rattle.block.specs.Layout.{referenceCount, referenceList, requestsIn, countedRequest}
 use Rattle.block.specs.Reading.{fieldsOf}
-use Rattle.block.specs.Steps.{Shaped}
+use Rattle.block.specs.Promises.{Shaped}
 use Rattle.block.specs.declared.Answer.{Answer}
 use Rattle.block.specs.declared.Fields.{Fields}
 use Rattle.block.proofs.Shape.{reference-part, request-part}

@@ -11,7 +11,8 @@ use Rattle.base.specs.Number.{numberAt}
 use Rattle.block.specs.Limits.{headerSize}
 use Rattle.block.specs.Layout.{referenceCount, requestCount, referenceList, requestList}
 use Rattle.block.specs.Reading.{badRequestAt, repeatedAt, reading}
-use Rattle.block.specs.Steps.{Shaped, firstBad, firstRepeated}
+use Rattle.block.specs.Promises.{Shaped}
+use Rattle.block.specs.Steps.{firstBad, firstRepeated}
 use Rattle.block.specs.declared.Reading.the-variants.{Block, BadRequest, RepeatedReference}
 use Rattle.block.proofs.Shape.{well-shaped, middle, reference-part, request-part, references-counted, requests-counted}
 use Rattle.block.proofs.read_shaped.Statement.{statement}
