@@ -164,13 +164,14 @@ unfolding contentOf content
 fields-given b f e =
     let a = reading-accepted b f e in
     let s = a .accepted .shape in
-    let p : f .references ≡ referenceCount b = ap (λ (x : Fields). x .references) (a .fields) in
-    let q : f .requests ≡ requestCount b = ap (λ (x : Fields). x .requests) (a .fields) in
-    record {
-      content = rw (a .fields);
-      references = references-length (referenceList b) ∙ references-counted b s ∙ sym p;
-      requests = requests-length (requestList b) ∙ requests-counted b s ∙ sym q;
-    }
+    rw (a .fields)
+    (record {
+      content = refl;
+      references = references-length (referenceList b) ∙ references-counted b s;
+      requests = requests-length (requestList b) ∙ requests-counted b s;
+      reference = λ i h. sym (references-at (referenceList b) i (omega (arith, references-counted b s)));
+      request = λ i h. sym (requests-at (requestList b) i (omega (arith, requests-counted b s)));
+    })
 
 -- ---- all of it
 

@@ -6,7 +6,7 @@ use Prim.Native.Nat.{ℕ, _+_, _*_, _≤_, _<_}
 use lib.ListN.{length, getD, take, drop}
 use Rattle.base.specs.Bytes.{Bytes, AllBytes}
 use Rattle.block.specs.Limits.{headerSize, referenceSize, maxReferences, maxRequests, maxSlot}
-use Rattle.block.specs.Layout.{Content, content, contentOf, encode}
+use Rattle.block.specs.Layout.{Content, referenceAt, requestAt, content, contentOf, encode}
 use Rattle.block.specs.Reading.{fieldsOf, reading}
 use Rattle.block.specs.declared.Request.{Request}
 use Rattle.block.specs.declared.Fields.{Fields}
@@ -42,15 +42,23 @@ pub record Reads (b : Bytes) (c : Content) : Type 0 where
   pub accepted : reading b ≡ Block (fieldsOf b)
   pub content : contentOf b ≡ c
 
--- the numbers f and the two parts of b that they set out are b's content
-pub record Gives (f : Fields) (b : Bytes) : Type 0 where
-  pub content :
-      content (f .site) (f .sequence)
-      (take (referenceSize * f .references) (drop headerSize b))
-      (drop (headerSize + referenceSize * f .references) b)
-      ≡ contentOf b
-  pub references : length (contentOf b .references) ≡ f .references
-  pub requests : length (contentOf b .requests) ≡ f .requests
+-- what the numbers f say of the block b
+module _ (f : Fields) (b : Bytes) where
+  -- the two parts of b that they set out
+  abbrev pub referencePart : Bytes
+  referencePart = take (referenceSize * f .references) (drop headerSize b)
+
+  abbrev pub requestPart : Bytes
+  requestPart = drop (headerSize + referenceSize * f .references) b
+
+  -- numbers and parts are b's content
+  pub record Gives : Type 0 where
+    pub content : content (f .site) (f .sequence) referencePart requestPart ≡ contentOf b
+    pub references : length (contentOf b .references) ≡ f .references
+    pub requests : length (contentOf b .requests) ≡ f .requests
+    -- and what the parts hand out at an index is the entry there
+    pub reference : (i : ℕ) → i < f .references → referenceAt referencePart i ≡ getD (contentOf b .references) i []
+    pub request : (i : ℕ) → i < f .requests → requestAt requestPart i ≡ getD (contentOf b .requests) i noRequest
 
 pub record RoundTrip : Type 0 where
   -- the bytes of a fitting content read to that content
