@@ -2,14 +2,14 @@
 -- and is the number of the rest; the first check's own says that it does not hold, where no later check has that number. So a call's
 -- number is taken apart from its first check on. Assumes nothing.
 use mathlib.Core.Path.{_≡_, refl, sym, ap, _∙_}
-use mathlib.Core.Bool.{Bool, true, false, not, _&&_}
+use mathlib.Core.Bool.{Bool, true, false, cond, not, _&&_}
 use mathlib.Core.Logic.{_↔_, _≢_, Iff·rfl, Iff·trans, Iff·and}
 use mathlib.Core.List.{List, [], _∷_}
 use Prim.Native.Nat.{ℕ}
 use lib.Dec.{eqb}
 use borrow.Author.Tests.{eqb-false, not-true, not-false}
 use Rattle.base.proofs.Tests.{by-test, true-not-false, not-true-false, and-left, and-right}
-use Rattle.table.specs.Checks.{Check, answerTo}
+use Rattle.table.specs.Checks.{Check, refused, answerTo}
 
 pub none-refused : (value : ℕ) → answerTo [] value .refusal ≡ 0
 unfolding answerTo
@@ -31,9 +31,15 @@ module _ (c : Check) (cs : List Check) (value : ℕ) where
     λ p. rest-answers (p .0) ∙ p .1,
   )
 
-  -- no later check answers its number
+  -- no later check answers n
+  pub at-number : (n : ℕ) → answerTo cs value .refusal ≢ n → (answerTo (c ∷ cs) value .refusal ≡ n) ↔ ((c .holds ≡ false) × (c .number ≡ n))
+  at-number n later = (
+    λ e. by-test (c .holds) (λ y. absurd (later (sym (rest-answers y) ∙ e))) (λ f. (f, sym (here-refused f) ∙ e)),
+    λ p. here-refused (p .0) ∙ p .1,
+  )
+
   pub at-check : answerTo cs value .refusal ≢ c .number → (answerTo (c ∷ cs) value .refusal ≡ c .number) ↔ (c .holds ≡ false)
-  at-check later = (λ e. not-true-false (c .holds) (λ y. later (sym (rest-answers y) ∙ e)), here-refused)
+  at-check later = Iff·trans (at-number (c .number) later) (λ p. p .0, λ f. (f, refl))
 
 -- n is neither 0 nor the number of one of the checks
 unfoldable pub elsewhere : ℕ → List Check → Bool
@@ -47,6 +53,24 @@ never-answered n [] value e q = eqb-false 0 n (not-true _ e) (sym (none-refused 
 never-answered n (c ∷ cs) value e q =
     let other : c .number ≢ n = eqb-false (c .number) n (not-true _ (and-left (not (eqb (c .number) n)) (elsewhere n cs) e)) in
     never-answered n cs value (and-right (not (eqb (c .number) n)) (elsewhere n cs) e) (past-check c cs value n (λ f. other) .0 q .1)
+
+-- ---- the value beside a number
+
+-- whatever answers n returns v
+abbrev pub Returns : ℕ → ℕ → List Check → ℕ → Type 0
+Returns n v [] value = 0 ≡ n → value ≡ v
+Returns n v (c ∷ cs) value = (c .holds ≡ false → c .number ≡ n → c .value ≡ v) × Returns n v cs value
+
+pub value-beside : (n v : ℕ) (cs : List Check) (value : ℕ) → Returns n v cs value → answerTo cs value .refusal ≡ n → answerTo cs value .value ≡ v
+unfolding answerTo
+value-beside n v [] value r e = r e
+value-beside n v (c ∷ cs) value r e = go (c .holds) refl (value-beside n v cs value (r .1)) e
+  where
+    go : (t : Bool) → c .holds ≡ t → (answerTo cs value .refusal ≡ n → answerTo cs value .value ≡ v)
+        → cond t (answerTo cs value) (refused (c .number) (c .value)) .refusal ≡ n
+        → cond t (answerTo cs value) (refused (c .number) (c .value)) .value ≡ v
+    go true h rest e = rest e
+    go false h rest e = r .0 h e
 
 -- ---- a success says that every check holds
 

@@ -10,4 +10,5 @@ pub mod Marked
 pub mod Canonical
 pub mod Laid
 pub mod Empty
+mod Freshness
 pub mod Promises

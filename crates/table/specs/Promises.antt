@@ -1,16 +1,17 @@
 -- What the table promises beyond the contracts of its functions; proofs/Promises.antt shows it.
 use mathlib.Core.Path.{_≡_}
-use mathlib.Core.Bool.{true}
+use mathlib.Core.Bool.{true, false}
+use mathlib.Core.Logic.{_↔_, _≢_}
 use Prim.Native.Nat.{ℕ, suc, _≤_, _<_}
 use lib.Dec.{eqb}
-use lib.ListN.{length, drop}
+use lib.ListN.{length, drop, replicate}
 use Rattle.base.specs.Bytes.{Bytes, AllBytes, allZero}
 use Rattle.block.specs.Limits.{referenceSize}
 use Rattle.setup.specs.Setup.{Setup, lawful}
 use Rattle.table.specs.View.{maxPlaces, Row, SameRow, markedIf, View, SameBelow}
 use Rattle.table.specs.Layout.{rowStart, tableSize, setupOf, retiredOf, countOf, rowAt, viewOf, layout, withRow, withMark}
 use Rattle.table.specs.Form.{inForm}
-use Rattle.table.specs.Fresh.{emptyTable}
+use Rattle.table.specs.Fresh.{emptyTable, freshTable, freshAnswer, freshIn}
 
 -- t′ is t with the row r at the next place, and nothing else changed
 pub record Grown (t t′ : Bytes) (r : Row) : Type 0 where
@@ -47,7 +48,28 @@ pub record Shows (s : Setup) (v : View) (t : Bytes) : Type 0 where
   pub rows : SameBelow (viewOf t) v (v .held)
   pub zeros : allZero (drop (rowStart (v .held)) t) ≡ true
 
+-- `fresh` of a setup
+pub record FreshCauses (s : Setup) : Type 0 where
+  -- 1 comes under its cause and under no other
+  pub one : (freshTable s .refusal ≡ 1) ↔ (lawful s ≡ false)
+  pub none : (freshTable s .refusal ≡ 0) ↔ (lawful s ≡ true)
+  -- "the table handed back is all zero"
+  pub zeros : freshTable s .refusal ≡ 1 → freshTable s .table ≡ replicate tableSize 0
+  pub shown : freshTable s .refusal ≡ 0 → Empty s (freshTable s .table)
+
+-- `fresh_in` of a setup and a lent buffer
+pub record FreshInCauses (s : Setup) (t : Bytes) : Type 0 where
+  pub one : (freshAnswer s t .refusal ≡ 1) ↔ (lawful s ≡ false)
+  pub two : (freshAnswer s t .refusal ≡ 2) ↔ ((lawful s ≡ true) × (length t ≢ tableSize))
+  pub none : (freshAnswer s t .refusal ≡ 0) ↔ ((lawful s ≡ true) × (length t ≡ tableSize))
+  pub noValue : freshAnswer s t .value ≡ 0
+  -- a refusal leaves the buffer
+  pub refused : freshAnswer s t .refusal ≢ 0 → freshIn s t ≡ t
+  pub shown : freshAnswer s t .refusal ≡ 0 → Empty s (freshIn s t)
+
 pub record Promises : Type 0 where
+  pub fresh : (s : Setup) → FreshCauses s
+  pub freshIn : (s : Setup) (t : Bytes) → FreshInCauses s t
   -- a table in form is the layout of its own contents: none of its bytes is left to choose
   pub laid : (t : Bytes) → AllBytes t → inForm t ≡ true → t ≡ layout (setupOf t) (viewOf t)
   -- the empty table of a lawful setup
