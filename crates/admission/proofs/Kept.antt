@@ -90,7 +90,7 @@ module _ (digest : Bytes → Bytes) (t t′ b : Bytes) (verdict : ℕ) (p : Pare
         mark = omega (arith, g .here .mark);
         lower = λ j h y. refers-held (viewOf t) b differ j (sym (g .here .refersTo j h) ∙ y);
         few = few;
-        new = λ j h e. p .linked .isNew .new (j, h, g .below j h .digest ∙ e ∙ g .here .digest);
+        new = λ j h e. p .linked .isNew .new (j, (h, g .below j h .digest ∙ e ∙ g .here .digest));
         -- it is uninterpreted
         closed = λ m. absurd (omega (arith, g .here .mark));
         parent =

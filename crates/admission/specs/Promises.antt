@@ -1,11 +1,14 @@
 -- What admission promises beyond its two equations; proofs/Promises.antt shows it for every digest of 32 bytes, and so for SHA-256.
 use mathlib.Core.Path.{_≡_}
-use mathlib.Core.Logic.{_↔_, _≢_}
-use mathlib.Core.Bool.{true}
-use Prim.Native.Nat.{ℕ, _<_}
+use mathlib.Core.Logic.{_↔_, _≢_, _⊎_}
+use mathlib.Core.Bool.{true, false}
+use Prim.Native.Nat.{ℕ, _≤_, _<_}
+use Rattle.base.specs.Search.{First}
 use Rattle.base.specs.Bytes.{Bytes}
 use Rattle.block.specs.Layout.{siteOf, referenceCount, referenceList, referenceAt}
-use Rattle.block.specs.Reading.{fieldsOf, reading}
+use Rattle.block.specs.Reading.{fieldsOf, reading, answerOf}
+use Rattle.block.specs.Promises.{Shaped}
+use Rattle.block.specs.declared.Answer.{Answer}
 use Rattle.block.specs.declared.Reading.the-variants.{Block}
 use Rattle.table.specs.View.{maxPlaces}
 use Rattle.table.specs.Layout.{setupOf, countOf, digestAt, viewOf}
@@ -14,20 +17,41 @@ use Rattle.table.specs.Form.{inForm}
 use Rattle.table.specs.Promises.{Grown}
 use Rattle.admission.specs.Admission.{rowFor, admission, admitted}
 
--- checks 2 to 7 hold
+-- checks 2 and 3 hold, then 4, then 5
+pub record Whole (t b : Bytes) : Type 0 where
+  pub formed : inForm t ≡ true
+  pub shape : Shaped b
+
+pub record OfSite (t b : Bytes) : Type 0 where
+  pub isWhole : Whole t b
+  pub site : siteOf b < setupOf t .sites
+
+pub record Vouched (t b : Bytes) (verdict : ℕ) : Type 0 where
+  pub ofSite : OfSite t b
+  pub link : verdict ≡ 1
+
+-- checks 2 to 7 hold; what is accepted has passed 3
 pub record Readable (t b : Bytes) (verdict : ℕ) : Type 0 where
   pub formed : inForm t ≡ true
   pub site : siteOf b < setupOf t .sites
   pub link : verdict ≡ 1
   pub accepted : reading b ≡ Block (fieldsOf b)
 
--- a place holds the digest
-abbrev pub DigestHeld : Bytes → Bytes → Type 0
-DigestHeld t d = (place : ℕ) × (place < countOf t) × (digestAt t place ≡ d)
+-- this place holds the digest
+abbrev pub HeldAt : Bytes → Bytes → ℕ → Type 0
+HeldAt t d place = (place < countOf t) × (digestAt t place ≡ d)
 
--- a reference of the block is held at no place
+-- some place does
+abbrev pub DigestHeld : Bytes → Bytes → Type 0
+DigestHeld t d = (place : ℕ) × HeldAt t d place
+
+-- reference i of the block is held at no place
+abbrev pub MissingAt : Bytes → Bytes → ℕ → Type 0
+MissingAt t b i = (i < referenceCount b) × (DigestHeld t (referenceAt (referenceList b) i) → ⊥)
+
+-- some reference of it is not
 abbrev pub ReferenceMissing : Bytes → Bytes → Type 0
-ReferenceMissing t b = (i : ℕ) × (i < referenceCount b) × ((place : ℕ) → place < countOf t → digestAt t place ≢ referenceAt (referenceList b) i)
+ReferenceMissing t b = (i : ℕ) × MissingAt t b i
 
 module _ (digest : Bytes → Bytes) where
   -- the parent rule for the block at the next place
@@ -47,13 +71,33 @@ module _ (digest : Bytes → Bytes) where
     pub linked : Linked t b verdict
     pub parent : ParentRule t b
 
-  -- each refusal comes under its cause and under no other
-  pub record Causes (t b : Bytes) (verdict : ℕ) : Type 0 where
-    pub eight : (admission digest t b verdict .refusal ≡ 8) ↔ (Readable t b verdict × DigestHeld t (digest b))
-    pub nine : (admission digest t b verdict .refusal ≡ 9) ↔ (New t b verdict × ReferenceMissing t b)
-    pub ten : (admission digest t b verdict .refusal ≡ 10) ↔ (Linked t b verdict × (ParentRule t b → ⊥))
-    pub eleven : (admission digest t b verdict .refusal ≡ 11) ↔ (Parented t b verdict × (countOf t ≡ maxPlaces))
-    pub none : (admission digest t b verdict .refusal ≡ 0) ↔ (Parented t b verdict × (countOf t < maxPlaces))
+  module _ (t b : Bytes) (verdict : ℕ) where
+    abbrev pub answer : Answer
+    answer = admission digest t b verdict
+
+    -- each refusal comes under its cause and under no other
+    pub record Causes : Type 0 where
+      pub two : (answer .refusal ≡ 2) ↔ (inForm t ≡ false)
+      pub three : (answer .refusal ≡ 3) ↔ ((inForm t ≡ true) × (Shaped b → ⊥))
+      pub four : (answer .refusal ≡ 4) ↔ (Whole t b × (setupOf t .sites ≤ siteOf b))
+      pub five : (answer .refusal ≡ 5) ↔ (OfSite t b × (verdict ≢ 1))
+      -- the reader's own, with its index
+      pub six : (answer .refusal ≡ 6) ↔ (Vouched t b verdict × (answerOf (reading b) .refusal ≡ 6))
+      pub seven : (answer .refusal ≡ 7) ↔ (Vouched t b verdict × (answerOf (reading b) .refusal ≡ 7))
+      pub index : (answer .refusal ≡ 6) ⊎ (answer .refusal ≡ 7) → answer .value ≡ answerOf (reading b) .value
+      pub eight : (answer .refusal ≡ 8) ↔ (Readable t b verdict × DigestHeld t (digest b))
+      -- "its place"
+      pub heldPlace : answer .refusal ≡ 8 → First (HeldAt t (digest b)) (answer .value)
+      pub nine : (answer .refusal ≡ 9) ↔ (New t b verdict × ReferenceMissing t b)
+      -- "index of first such"
+      pub firstMissing : answer .refusal ≡ 9 → First (MissingAt t b) (answer .value)
+      pub ten : (answer .refusal ≡ 10) ↔ (Linked t b verdict × (ParentRule t b → ⊥))
+      pub eleven : (answer .refusal ≡ 11) ↔ (Parented t b verdict × (countOf t ≡ maxPlaces))
+      pub none : (answer .refusal ≡ 0) ↔ (Parented t b verdict × (countOf t < maxPlaces))
+      -- "with the place from admission"
+      pub place : answer .refusal ≡ 0 → answer .value ≡ countOf t
+      -- beside any other refusal the value is 0
+      pub noValue : answer .refusal ≢ 0 → answer .refusal ≢ 6 → answer .refusal ≢ 7 → answer .refusal ≢ 8 → answer .refusal ≢ 9 → answer .value ≡ 0
 
   pub record Promises : Type 0 where
     pub causes : (t b : Bytes) (verdict : ℕ) → Causes t b verdict

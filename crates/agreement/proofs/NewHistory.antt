@@ -75,7 +75,7 @@ module _ (digest : Bytes → Bytes) (t : Bytes) (block : ℕ → Bytes)
       lost : anyBelow (hasDigest (viewOf t) r) (countOf t) ≡ false → ⊥
       lost n =
           let i = reference-from b shape r m in
-          p .linked .found (i .0, i .1, λ place h e. same-other _ _ (any-false-at (hasDigest (viewOf t) r) (countOf t) n place h) (e ∙ sym (i .2)))
+          p .linked .found (i .0, (i .1, λ w. same-other _ _ (any-false-at (hasDigest (viewOf t) r) (countOf t) n (w .0) (w .1 .0)) (w .1 .1 ∙ sym (i .2))))
 
   held : (r : Bytes) → List·Memᴰ r (referencesOf b) → place r < countOf t
   held r m = any-first (hasDigest (viewOf t) r) (countOf t) (there r m)

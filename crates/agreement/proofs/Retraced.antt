@@ -191,17 +191,17 @@ module _ (digest : Bytes → Bytes) (sized : (b : Bytes) → length (digest b) �
     shape = reading-accepted b (fieldsOf b) (rows .accepted k here) .accepted .shape
 
     new : DigestHeld u (digest b) → ⊥
-    new (place, h, e) =
+    new (place, (h, e)) =
         let l : place < k = omega (arith, a .count) in
         row .new place l (sym (a .same place l .digest) ∙ e ∙ sym (rows .digests k here))
 
     found : ReferenceMissing u b → ⊥
-    found (i, h, none) =
+    found (i, (h, none)) =
         let m = reference-has b shape i h in
         let q = rows .linked k here _ m in
         let y : rowAt t k .refersTo (q .0) ≡ true = rows .refers k (q .0) here (q .1) ∙ ap (lists b) (q .2) ∙ member-lists b shape _ m in
         let l : q .0 < k = row .lower (q .0) (omega (arith, few, q .1)) y in
-        none (q .0) (omega (arith, a .count)) (a .same (q .0) l .digest ∙ q .2)
+        none (q .0, (omega (arith, a .count), a .same (q .0) l .digest ∙ q .2))
 
     refers-is : (j : ℕ) → j < k → (ltb j (countOf u) && lists b (digestAt u j)) ≡ rowAt t k .refersTo j
     refers-is j l = rw (lt-ltb j (countOf u) (omega (arith, a .count)), a .same j l .digest) (sym (rows .refers k j here (omega arith)))

@@ -1,7 +1,7 @@
 -- Each refusal of the reader comes under its cause and under no other, with the index of the first such entry. Assumes nothing.
 use mathlib.Core.Path.{_≡_, refl, ap, subst, sym}
 use mathlib.Core.Bool.{Bool, true}
-use mathlib.Core.Logic.{_↔_, inl, inr}
+use mathlib.Core.Logic.{_↔_, _≢_, inl, inr}
 use Prim.Native.Nat.{ℕ, _<_}
 use native.Mathlib.Omega.{arith}
 use lib.Dec.{eqb, ltb}
@@ -13,10 +13,19 @@ use Rattle.base.proofs.Search.{any-true, any-true-at, any-such, first-such}
 use Rattle.base.proofs.Bytes.{same-equal, equal-same}
 use Rattle.block.specs.Limits.{maxSlot}
 use Rattle.block.specs.Layout.{referenceCount, requestCount, referenceList, requestList, referenceAt, requestAt}
-use Rattle.block.specs.Reading.{wellShaped, badRequestAt, repeatedAt, reading}
+use Rattle.block.specs.Reading.{wellShaped, badRequestAt, repeatedAt, reading, answerOf}
 use Rattle.block.specs.Promises.{Shaped, BadIn, BadAt, RepeatedAt, GoodRequests, answer, Causes}
 use Rattle.block.specs.declared.Answer.{Answer}
+use Rattle.block.specs.declared.Reading.{Reading}
+use Rattle.block.specs.declared.Reading.the-variants.{Block, Misshapen, BadRequest, RepeatedReference}
 use Rattle.block.proofs.Shape.{shaped, well-shaped}
+
+-- the reader has no other numbers
+pub other-number : (r : Reading) (n : ℕ) → 0 ≢ n → 3 ≢ n → 6 ≢ n → 7 ≢ n → answerOf r .refusal ≢ n
+other-number (Block f) n a b c d = a
+other-number Misshapen n a b c d = b
+other-number (BadRequest i) n a b c d = c
+other-number (RepeatedReference i) n a b c d = d
 
 -- ---- what the tests of checks 6 and 7 say
 

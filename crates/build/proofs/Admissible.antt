@@ -75,9 +75,8 @@ module _ (seen : ℕ → Bool) (t : Bytes) (p : ℕ) (requests : Bytes) (all : A
 
   found : ReferenceMissing t block → ⊥
   found m =
-      let l : m .0 < length (picked seen v p) = omega (arith, m .1, count-picked) in
-      m .2 (place (m .0)) (picked-held seen v p (m .0) l)
-      (sym (shown-reference block next reads (m .0) (m .1) ∙ reference-at seen t p requests (m .0) l))
+      let l : m .0 < length (picked seen v p) = omega (arith, m .1 .0, count-picked) in
+      m .1 .1 (place (m .0), (picked-held seen v p (m .0) l, sym (shown-reference block next reads (m .0) (m .1 .0) ∙ reference-at seen t p requests (m .0) l)))
 
   module _ (unforked : Shares v seen p → ⊥) (digest : Bytes → Bytes) where
     abbrev row : Row

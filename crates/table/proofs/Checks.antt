@@ -3,7 +3,7 @@
 -- number is taken apart from its first check on. Assumes nothing.
 use mathlib.Core.Path.{_≡_, refl, sym, ap, _∙_}
 use mathlib.Core.Bool.{Bool, true, false, cond, not, _&&_}
-use mathlib.Core.Logic.{_↔_, _≢_, Iff·rfl, Iff·trans, Iff·and}
+use mathlib.Core.Logic.{_↔_, _≢_, _⊎_, inl, inr, Iff·rfl, Iff·trans, Iff·and}
 use mathlib.Core.List.{List, [], _∷_}
 use Prim.Native.Nat.{ℕ}
 use lib.Dec.{eqb}
@@ -31,15 +31,15 @@ module _ (c : Check) (cs : List Check) (value : ℕ) where
     λ p. rest-answers (p .0) ∙ p .1,
   )
 
-  -- no later check answers n
-  pub at-number : (n : ℕ) → answerTo cs value .refusal ≢ n → (answerTo (c ∷ cs) value .refusal ≡ n) ↔ ((c .holds ≡ false) × (c .number ≡ n))
+  -- no later check answers n where this one holds
+  pub at-number : (n : ℕ) → (c .holds ≡ true → answerTo cs value .refusal ≢ n) → (answerTo (c ∷ cs) value .refusal ≡ n) ↔ ((c .holds ≡ false) × (c .number ≡ n))
   at-number n later = (
-    λ e. by-test (c .holds) (λ y. absurd (later (sym (rest-answers y) ∙ e))) (λ f. (f, sym (here-refused f) ∙ e)),
+    λ e. by-test (c .holds) (λ y. absurd (later y (sym (rest-answers y) ∙ e))) (λ f. (f, sym (here-refused f) ∙ e)),
     λ p. here-refused (p .0) ∙ p .1,
   )
 
   pub at-check : answerTo cs value .refusal ≢ c .number → (answerTo (c ∷ cs) value .refusal ≡ c .number) ↔ (c .holds ≡ false)
-  at-check later = Iff·trans (at-number (c .number) later) (λ p. p .0, λ f. (f, refl))
+  at-check later = Iff·trans (at-number (c .number) (λ _. later)) (λ p. p .0, λ f. (f, refl))
 
 -- n is neither 0 nor the number of one of the checks
 unfoldable pub elsewhere : ℕ → List Check → Bool
@@ -102,3 +102,8 @@ module _ (test : Bool) (P : Type 0) (means : (test ≡ true) ↔ P) where
 
   pub present : (not test ≡ false) ↔ P
   present = (λ e. means .0 (not-false test e), λ p. ap not (means .1 p))
+
+-- a check of two tests fails where one of them does
+pub either-fails : (x y : Bool) {A B : Type 0} → (x ≡ false) ↔ A → (y ≡ false) ↔ B → ((x && y) ≡ false) ↔ (A ⊎ B)
+either-fails true y a b = (λ e. inr (b .0 e), λ w. elim w [ inl p ↦ true-not-false refl (a .1 p) | inr q ↦ b .1 q ])
+either-fails false y a b = (λ e. inl (a .0 refl), λ w. refl)
