@@ -7,6 +7,7 @@ use Prim.Native.Nat.{ℕ, _+_, _*_, _/_, _≤_, _<_}
 use native.Mathlib.Omega.{arith}
 use lib.ListN.{length, getD, drop, length-map}
 use Rattle.base.specs.Bytes.{Bytes, AllBytes}
+use Rattle.base.proofs.Tests.{not-true-false}
 use Rattle.base.proofs.List.{map-at}
 use Rattle.base.proofs.Bytes.{bytes-take, bytes-drop}
 use Rattle.block.specs.Limits.{headerSize, referenceSize, requestSize, blockSize}
@@ -14,6 +15,7 @@ use Rattle.block.specs.Layout.{Content}
 use Rattle.block.specs.Codec.{Digest, Fitting, Reads}
 use Rattle.block.proofs.Lists.{requests-length, requests-at}
 use Rattle.block.proofs.Admissible.{request-good}
+use Rattle.block.proofs.Causes.{bad-means}
 use Rattle.block.proofs.Encoding.{encode-length}
 use Rattle.block.proofs.RoundTrip.{round-trip}
 use Rattle.table.specs.Layout.{rowStart, setupOf, countOf, digestAt, viewOf}
@@ -101,7 +103,7 @@ module _ (seen : ℕ → Bool) (t : Bytes) (p : ℕ) (requests : Bytes) where
           fewRequests = omega (arith, as-many-requests, asked .fits);
           admissible = λ i h.
               let l : i < length requests / requestSize = omega (arith, as-many-requests) in
-              rw (requests-at requests i l) (request-good requests allRequests i (asked .admissible i l));
+              rw (requests-at requests i l) (request-good requests allRequests i (not-true-false _ (λ y. asked .noneBad (i, bad-means requests (length requests / requestSize) i .0 (l, y)))));
         }
 
     pub next-reads : Reads (nextBlock seen (viewOf t) p requests) next

@@ -11,7 +11,7 @@ use Rattle.table.specs.Layout.{viewOf}
 use Rattle.build.specs.Building.{nextBlock, builtFrom}
 use Rattle.build.specs.Promises.{Admissible, answer, after, Promised}
 use Rattle.build.proofs.Fits.{next-reads}
-use Rattle.build.proofs.Causes.{sixteen, thirty, seventeen, none, value}
+use Rattle.build.proofs.Causes.{two, four, three, six, first-bad, sixteen, thirty, seventeen, none, value, no-value}
 use Rattle.build.proofs.Admissible.{next-admissible}
 
 module _ (seen : ℕ → Bool) (t : Bytes) (p : ℕ) (requests output : Bytes) (done : answer seen t p requests output .refusal ≡ 0) where
@@ -38,11 +38,17 @@ module _ (seen : ℕ → Bool) (t : Bytes) (p : ℕ) (requests output : Bytes) (
 pub promised : (seen : ℕ → Bool) (t : Bytes) (p : ℕ) (requests output : Bytes) → Promised seen t p requests output
 promised seen t p requests output =
     record {
+      two = two seen t p requests output;
+      four = four seen t p requests output;
+      three = three seen t p requests output;
+      six = six seen t p requests output;
+      firstBad = first-bad seen t p requests output;
       sixteen = sixteen seen t p requests output;
       thirty = thirty seen t p requests output;
       seventeen = seventeen seen t p requests output;
       none = none seen t p requests output;
       value = value seen t p requests output;
+      noValue = no-value seen t p requests output;
       read = λ all allRequests e.
           rw (front seen t p requests output e) (let last = none seen t p requests output .0 e .0 in next-reads seen t p requests all allRequests (last .able .asked) (last .within));
       rest = rest seen t p requests output;

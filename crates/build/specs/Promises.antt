@@ -1,12 +1,13 @@
 -- What building promises beyond its two equations, whichever places are looked at; proofs/Promises.antt shows it.
 use mathlib.Core.Path.{_≡_}
 use mathlib.Core.Bool.{Bool, true, false}
-use mathlib.Core.Logic.{_↔_, _⊎_}
+use mathlib.Core.Logic.{_↔_, _≢_, _⊎_}
 use Prim.Native.Nat.{ℕ, _/_, _%_, _≤_, _<_}
 use lib.ListN.{length, take, drop}
+use Rattle.base.specs.Search.{First}
 use Rattle.base.specs.Bytes.{Bytes, AllBytes}
 use Rattle.block.specs.Limits.{requestSize, maxRequestListSize}
-use Rattle.block.specs.Reading.{badRequestAt}
+use Rattle.block.specs.Promises.{BadIn}
 use Rattle.block.specs.Codec.{Reads}
 use Rattle.block.specs.declared.Answer.{Answer}
 use Rattle.table.specs.View.{maxPlaces}
@@ -18,13 +19,27 @@ use Rattle.watch.specs.Forks.{ofSite}
 use Rattle.watch.specs.Promises.{Shares}
 use Rattle.build.specs.Building.{maxSequence, nextSequence, nextContent, nextBlock, buildingFrom, builtFrom}
 
+-- checks 2 and 4 hold, then 3
+pub record BySite (t : Bytes) (p : ℕ) : Type 0 where
+  pub formed : inForm t ≡ true
+  pub site : p < setupOf t .sites
+
+pub record Listed (t : Bytes) (p : ℕ) (requests : Bytes) : Type 0 where
+  pub bySite : BySite t p
+  pub fits : length requests ≤ maxRequestListSize
+  pub whole : length requests % requestSize ≡ 0
+
+-- request i of the list has a slot over 7, or number 0
+abbrev pub BadRequest : Bytes → ℕ → Type 0
+BadRequest requests = BadIn requests (length requests / requestSize)
+
 -- checks 2, 4, 3 and 6 hold
 pub record Asked (t : Bytes) (p : ℕ) (requests : Bytes) : Type 0 where
   pub formed : inForm t ≡ true
   pub site : p < setupOf t .sites
   pub fits : length requests ≤ maxRequestListSize
   pub whole : length requests % requestSize ≡ 0
-  pub admissible : (i : ℕ) → i < length requests / requestSize → badRequestAt requests i ≡ false
+  pub noneBad : ((i : ℕ) × BadRequest requests i) → ⊥
 
 -- a held block of the site has sequence number 65,535: none can follow
 pub record Ended (seen : ℕ → Bool) (t : Bytes) (p : ℕ) : Type 0 where
@@ -65,12 +80,20 @@ module _ (seen : ℕ → Bool) (t : Bytes) (p : ℕ) (requests output : Bytes) w
 
   pub record Promised : Type 0 where
     -- each refusal comes under its cause and under no other
+    pub two : (answer .refusal ≡ 2) ↔ (inForm t ≡ false)
+    pub four : (answer .refusal ≡ 4) ↔ ((inForm t ≡ true) × (setupOf t .sites ≤ p))
+    pub three : (answer .refusal ≡ 3) ↔ (BySite t p × ((maxRequestListSize < length requests) ⊎ (length requests % requestSize ≢ 0)))
+    pub six : (answer .refusal ≡ 6) ↔ (Listed t p requests × ((i : ℕ) × BadRequest requests i))
+    -- "index of first such request"
+    pub firstBad : answer .refusal ≡ 6 → First (BadRequest requests) (answer .value)
     pub sixteen : (answer .refusal ≡ 16) ↔ (Asked t p requests × Shares (viewOf t) seen p)
     pub thirty : (answer .refusal ≡ 30) ↔ (Able × Ended seen t p)
     pub seventeen : (answer .refusal ≡ 17) ↔ (Lasting × (length output < needed))
     pub none : (answer .refusal ≡ 0) ↔ (Lasting × (needed ≤ length output))
     -- the length, and the length needed
     pub value : (answer .refusal ≡ 0) ⊎ (answer .refusal ≡ 17) → answer .value ≡ needed
+    -- beside any other refusal the value is 0
+    pub noValue : answer .refusal ≢ 0 → answer .refusal ≢ 6 → answer .refusal ≢ 17 → answer .value ≡ 0
     -- what is built reads back to exactly the picked content
     pub read : AllBytes t → AllBytes requests → answer .refusal ≡ 0 → Reads (take needed after) (nextContent seen (viewOf t) p requests)
     -- bytes after the block stay
