@@ -11,8 +11,7 @@ use Rattle.base.specs.Bytes.{Bytes}
 use Rattle.base.proofs.Tests.{by-test}
 use Rattle.block.specs.Reading.{reading, answerOf}
 use Rattle.block.specs.declared.Answer.{Answer}
-use Rattle.block.specs.declared.Reading.{Reading}
-use Rattle.block.specs.declared.Reading.the-variants.{Block, Misshapen, BadRequest, RepeatedReference}
+use Rattle.block.proofs.Causes.{other-number}
 use Rattle.table.specs.Checks.{refused, answerTo}
 use Rattle.table.proofs.Checks.{elsewhere, never-answered}
 use Rattle.admission.specs.Admission.{admission, admitted}
@@ -32,22 +31,16 @@ pub record Elsewhere (n : ℕ) : Type 0 where
   pub not20 : n ≢ 20
   pub not21 : n ≢ 21
 
-reader-elsewhere : (r : Reading) → Elsewhere (answerOf r .refusal)
-reader-elsewhere (Block f) = record { not17 = λ e. omega arith; not19 = λ e. omega arith; not20 = λ e. omega arith; not21 = λ e. omega arith }
-reader-elsewhere Misshapen = record { not17 = λ e. omega arith; not19 = λ e. omega arith; not20 = λ e. omega arith; not21 = λ e. omega arith }
-reader-elsewhere (BadRequest i) = record { not17 = λ e. omega arith; not19 = λ e. omega arith; not20 = λ e. omega arith; not21 = λ e. omega arith }
-reader-elsewhere (RepeatedReference i) = record { not17 = λ e. omega arith; not19 = λ e. omega arith; not20 = λ e. omega arith; not21 = λ e. omega arith }
-
 pub admission-elsewhere : (digest : Bytes → Bytes) (t b : Bytes) (verdict : ℕ) → Elsewhere (admission digest t b verdict .refusal)
 unfolding admission elsewhere
 admission-elsewhere digest t b verdict =
-    let r = answerOf (reading b) .refusal in
-    let e = reader-elsewhere (reading b) in
+    let read : (n : ℕ) → 7 < n → eqb (answerOf (reading b) .refusal) n ≡ false =
+    λ n h. ne-eqb _ n (other-number (reading b) n (λ e. omega arith) (λ e. omega arith) (λ e. omega arith) (λ e. omega arith)) in
     record {
-      not17 = never-answered 17 _ _ (rw (ne-eqb r 17 (e .not17)));
-      not19 = never-answered 19 _ _ (rw (ne-eqb r 19 (e .not19)));
-      not20 = never-answered 20 _ _ (rw (ne-eqb r 20 (e .not20)));
-      not21 = never-answered 21 _ _ (rw (ne-eqb r 21 (e .not21)));
+      not17 = never-answered 17 _ _ (rw (read 17 (omega arith)));
+      not19 = never-answered 19 _ _ (rw (read 19 (omega arith)));
+      not20 = never-answered 20 _ _ (rw (read 20 (omega arith)));
+      not21 = never-answered 21 _ _ (rw (read 21 (omega arith)));
     }
 
 module _ (digest : Bytes → Bytes) (t s : Bytes) (c : ℕ) (b : Bytes) (verdict room : ℕ) where

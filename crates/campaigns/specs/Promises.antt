@@ -2,7 +2,7 @@
 -- so for SHA-256.
 use mathlib.Core.Path.{_≡_}
 use mathlib.Core.Bool.{Bool, true, false, cond, not, _&&_}
-use mathlib.Core.Logic.{_↔_, _≢_}
+use mathlib.Core.Logic.{_↔_, _≢_, _⊎_}
 use mathlib.Core.List.{List, [], _∷_, List·Memᴰ}
 use Prim.Native.Nat.{ℕ, _+_, _≤_, _<_}
 use lib.Dec.{eqb}
@@ -45,6 +45,11 @@ module _ (digest : Bytes → Bytes) where
     abbrev pub number : ℕ
     number = called .answer .refusal
 
+    -- checks 21 and 17 hold
+    pub record Lent : Type 0 where
+      pub campaign : c ≤ maxCampaign
+      pub outcomes : outcomesSize ≤ room
+
     -- the checks before admission's hold
     pub record Tested : Type 0 where
       pub campaign : c ≤ maxCampaign
@@ -63,11 +68,17 @@ module _ (digest : Bytes → Bytes) where
       pub twenty : (number ≡ 20) ↔ (WouldGet9 × (waits c b (waitingIn s) ≡ true))
       pub nineteen : (number ≡ 19) ↔ (WouldGet9 × ((waits c b (waitingIn s) ≡ false) × (hasPlace c (waitingIn s) ≡ false)))
       pub nine : (number ≡ 9) ↔ (WouldGet9 × ((waits c b (waitingIn s) ≡ false) × (hasPlace c (waitingIn s) ≡ true)))
-      -- a shelf that is not in form gets 2, with no value
-      pub two : c ≤ maxCampaign → outcomesSize ≤ room → inForm s ≡ false → called .answer ≡ record { refusal = 2; value = 0 }
-      -- else the answer is admission's, with its value; that of a 9 too
+      -- 2: shelf or table not in form
+      pub two : (number ≡ 2) ↔ (Lent × ((inForm s ≡ false) ⊎ (table.inForm t ≡ false)))
+      -- any other number is admission's
+      pub otherNumbers : (n : ℕ) → n ≢ 2 → n ≢ 9 → n ≢ 17 → n ≢ 19 → n ≢ 20 → n ≢ 21
+          → (number ≡ n) ↔ (Tested × (admission digest t b verdict .refusal ≡ n))
+      -- and then the whole answer is; that of a 9 too
       pub others : Tested → admission digest t b verdict .refusal ≢ 9 → called .answer ≡ admission digest t b verdict
       pub index : number ≡ 9 → called .answer ≡ admission digest t b verdict
+      -- 17 tells how many numbers are needed; beside all but 17 and those for which admission names a value it is 0
+      pub needed : number ≡ 17 → called .answer .value ≡ outcomesSize
+      pub noValue : number ≢ 17 → number ≢ 0 → number ≢ 6 → number ≢ 7 → number ≢ 8 → number ≢ 9 → called .answer .value ≡ 0
 
     pub record CallKeeps : Type 0 where
       pub causes : Causes

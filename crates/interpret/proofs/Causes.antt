@@ -1,25 +1,25 @@
 -- Each refusal of an interpretation comes under its cause and under no other, and there is none where every check holds. Assumes nothing.
-use mathlib.Core.Path.{_≡_, refl}
-use mathlib.Core.Bool.{Bool, true, not}
+use mathlib.Core.Path.{_≡_, refl, sym, ap, _∙_, subst}
+use mathlib.Core.Bool.{Bool, true, not, cond}
 use mathlib.Core.Logic.{_↔_, _≢_, Iff·trans}
 use mathlib.Core.List.{List}
 use Prim.Native.Nat.{ℕ, _<_}
 use native.Mathlib.Omega.{arith}
 use lib.Dec.{eqb}
 use lib.ListN.{length, drop}
-use borrow.Author.Tests.{eq-eqb, ne-eqb, eqb-true, eqb-false, lt-ltb, not-true}
-use Rattle.base.specs.Search.{firstBelow, anyBelow}
+use borrow.Author.Tests.{eq-eqb, ne-eqb, eqb-true, eqb-false, not-true}
+use Rattle.base.specs.Search.{firstBelow, anyBelow, First}
 use Rattle.base.specs.Bytes.{Bytes}
-use Rattle.base.proofs.Tests.{true-not-false, and-left, and-right}
-use Rattle.base.proofs.Search.{any-true, any-true-at, any-first, first-passes, first-before}
+use Rattle.base.proofs.Tests.{and-left, and-right}
+use Rattle.base.proofs.Search.{any-such, first-such}
 use Rattle.table.specs.Layout.{markAt, rowAt, viewOf}
 use Rattle.table.specs.Rules.{refersUninterpreted}
 use Rattle.table.specs.Form.{inForm}
 use Rattle.table.specs.Checks.{Check, answerTo}
-use Rattle.table.proofs.Checks.{none-refused, past-check, at-check, elsewhere, never-answered, and-then, absent, present}
+use Rattle.table.proofs.Checks.{none-refused, past-check, at-check, elsewhere, never-answered, value-beside, and-then, absent, present}
 use Rattle.interpret.specs.Interpretation.{interpretationChecks, interpretation}
 use Rattle.interpret.specs.Promises.{Open, Unready, Causes}
-use Rattle.interpret.proofs.FirstChecks.{past-thirteen, twelve, thirteen}
+use Rattle.interpret.proofs.FirstChecks.{past-thirteen, two, twelve, thirteen}
 
 module _ (t : Bytes) (buffer : List ℕ) (i : ℕ) where
   -- ---- what each check says
@@ -27,22 +27,19 @@ module _ (t : Bytes) (buffer : List ℕ) (i : ℕ) where
   abbrev unready : ℕ → Bool
   unready = refersUninterpreted (viewOf t) (rowAt t i)
 
-  unready-is : (j : ℕ) → j < i → unready j ≡ true → Unready t i j
-  unready-is j h y =
-      record {
-        lower = h;
-        refers = and-left (rowAt t i .refersTo j) (not (eqb (markAt t j) 1)) y;
-        unmarked = eqb-false (markAt t j) 1 (not-true _ (and-right (rowAt t i .refersTo j) (not (eqb (markAt t j) 1)) y));
-      }
-
-  is-unready : (j : ℕ) → Unready t i j → unready j ≡ true
-  is-unready j u = rw (u .refers, ne-eqb (markAt t j) 1 (u .unmarked))
+  unready-means : (j : ℕ) → ((j < i) × (unready j ≡ true)) ↔ Unready t i j
+  unready-means j = (
+    λ p.
+        record {
+          lower = p .0;
+          refers = and-left (rowAt t i .refersTo j) (not (eqb (markAt t j) 1)) (p .1);
+          unmarked = eqb-false (markAt t j) 1 (not-true _ (and-right (rowAt t i .refersTo j) (not (eqb (markAt t j) 1)) (p .1)));
+        },
+    λ u. (u .lower, rw (u .refers, ne-eqb (markAt t j) 1 (u .unmarked))),
+  )
 
   some-unready : (anyBelow unready i ≡ true) ↔ ((j : ℕ) × Unready t i j)
-  some-unready = (
-    λ e. let w = any-true-at unready i e in (w .0, unready-is (w .0) (w .1) (w .2)),
-    λ w. any-true unready i (w .0) (w .1 .lower) (is-unready (w .0) (w .1)),
-  )
+  some-unready = any-such unready i (Unready t i) unready-means
 
   is-marked : (eqb (markAt t i) 1 ≡ true) ↔ (markAt t i ≡ 1)
   is-marked = (eqb-true (markAt t i) 1, eq-eqb (markAt t i) 1)
@@ -67,26 +64,22 @@ module _ (t : Bytes) (buffer : List ℕ) (i : ℕ) where
   fifteen = and-then (past-fourteen 15 (λ e. omega arith) (λ e. omega arith) (λ e. omega arith) (λ e. omega arith))
       (Iff·trans (at-check _ _ _ (never-answered 15 _ _ refl)) (present _ _ some-unready))
 
-  -- the value of 15
-  value-is : Open t buffer i → anyBelow unready i ≡ true → interpretation t buffer i .value ≡ firstBelow unready i
-  unfolding interpretation answerTo
-  value-is o y =
-      rw (o .isHeld .isWhole .formed, eq-eqb _ _ (o .isHeld .isWhole .size), lt-ltb _ _ (o .isHeld .below), ne-eqb (markAt t i) 1 (o .unmarked), y)
+  -- what the table of refusals names beside n
+  abbrev named : ℕ → ℕ
+  named n = cond (eqb n 15) (firstBelow unready i) 0
 
-  lowest : interpretation t buffer i .refusal ≡ 15
-      → Unready t i (interpretation t buffer i .value) × ((j : ℕ) → j < interpretation t buffer i .value → Unready t i j → ⊥)
-  lowest e =
-      let p = fifteen .0 e in
-      let y : anyBelow unready i ≡ true = some-unready .1 (p .1) in
-      let v = value-is (p .0) y in (
-        rw v (unready-is (firstBelow unready i) (any-first unready i y) (first-passes unready i (any-first unready i y))),
-        λ j h u. true-not-false (is-unready j u) (first-before unready i j (omega (arith, v))),
-      )
+  abbrev number : ℕ
+  number = interpretation t buffer i .refusal
+
+  value-named : interpretation t buffer i .value ≡ named number
+  unfolding interpretation
+  value-named = value-beside number (named number) _ 0 (λ _. ap named, (λ _. ap named, (λ _. ap named, (λ _. ap named, (λ _. ap named, ap named))))) refl
 
   pub causes : Causes t buffer i
   unfolding interpretation elsewhere
   causes =
       record {
+        two = two t buffer i rest refl;
         twelve = twelve t buffer i rest refl;
         thirteen = thirteen t buffer i rest refl;
         fourteen = and-then (past-thirteen t buffer i rest 14 (λ e. omega arith) (λ e. omega arith) (λ e. omega arith))
@@ -94,5 +87,6 @@ module _ (t : Bytes) (buffer : List ℕ) (i : ℕ) where
         fifteen = fifteen;
         none = and-then (past-fourteen 0 (λ e. omega arith) (λ e. omega arith) (λ e. omega arith) (λ e. omega arith))
             (Iff·trans (past-check _ _ _ 0 (λ _ q. omega arith)) (Iff·trans (λ p. p .0, λ y. (y, none-refused 0)) (absent _ _ some-unready)));
-        lowest = lowest;
+        lowest = λ e. subst (First (Unready t i)) (sym (value-named ∙ ap named e)) (first-such unready i (Unready t i) unready-means (some-unready .1 (fifteen .0 e .1)));
+        noValue = λ n. value-named ∙ rw (ne-eqb number 15 n);
       }

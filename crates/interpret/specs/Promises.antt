@@ -1,10 +1,11 @@
 -- What interpretation promises beyond its three equations; proofs/Promises.antt shows it.
 use mathlib.Core.Path.{_≡_}
-use mathlib.Core.Bool.{true}
+use mathlib.Core.Bool.{true, false}
 use mathlib.Core.Logic.{_↔_, _≢_}
 use mathlib.Core.List.{List}
 use Prim.Native.Nat.{ℕ, _≤_, _<_}
 use lib.ListN.{length}
+use Rattle.base.specs.Search.{First}
 use Rattle.base.specs.Bytes.{Bytes}
 use Rattle.table.specs.Layout.{countOf, markAt, rowAt}
 use Rattle.table.specs.Form.{inForm}
@@ -33,14 +34,16 @@ pub record Unready (t : Bytes) (i j : ℕ) : Type 0 where
 
 -- each refusal comes under its cause and under no other
 pub record Causes (t : Bytes) (buffer : List ℕ) (i : ℕ) : Type 0 where
+  pub two : (interpretation t buffer i .refusal ≡ 2) ↔ (inForm t ≡ false)
   pub twelve : (interpretation t buffer i .refusal ≡ 12) ↔ ((inForm t ≡ true) × (length buffer ≢ bufferSize))
   pub thirteen : (interpretation t buffer i .refusal ≡ 13) ↔ (Whole t buffer × (countOf t ≤ i))
   pub fourteen : (interpretation t buffer i .refusal ≡ 14) ↔ (Held t buffer i × (markAt t i ≡ 1))
   pub fifteen : (interpretation t buffer i .refusal ≡ 15) ↔ (Open t buffer i × ((j : ℕ) × Unready t i j))
   pub none : (interpretation t buffer i .refusal ≡ 0) ↔ (Open t buffer i × (((j : ℕ) × Unready t i j) → ⊥))
   -- "lowest such place"
-  pub lowest : interpretation t buffer i .refusal ≡ 15
-      → Unready t i (interpretation t buffer i .value) × ((j : ℕ) → j < interpretation t buffer i .value → Unready t i j → ⊥)
+  pub lowest : interpretation t buffer i .refusal ≡ 15 → First (Unready t i) (interpretation t buffer i .value)
+  -- beside any other number the value is 0
+  pub noValue : interpretation t buffer i .refusal ≢ 15 → interpretation t buffer i .value ≡ 0
 
 pub record Promises : Type 0 where
   pub causes : (t : Bytes) (buffer : List ℕ) (i : ℕ) → Causes t buffer i

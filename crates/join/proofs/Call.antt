@@ -17,9 +17,9 @@ use Rattle.table.specs.Checks.{answerTo}
 use Rattle.table.proofs.Checks.{numbered, all-hold}
 use Rattle.interpret.specs.Buffer.{bufferSize}
 use Rattle.join.specs.Join.{neitherRetired, sameSetup, joinedCount, joinAnswer, joinedTable, joinedRecords, joined, copied}
-use Rattle.join.specs.Promises.{OneSetup}
-use Rattle.join.specs.Steps.{sidesChecks, blocksChecks, blocksAnswer, blocksTable, blocksRecords, BothFormed, Passed}
-use Rattle.join.proofs.Passes.{setup-same, whole-of, unretired-of}
+use Rattle.join.specs.Promises.{BothFormed, OneSetup}
+use Rattle.join.specs.Steps.{sidesChecks, blocksChecks, blocksAnswer, blocksTable, blocksRecords, Passed}
+use Rattle.join.proofs.Passes.{setup-same, formed-both, whole-of, unretired-of}
 
 module _ (left right : Bytes) (leftRecords rightRecords third : List ℕ) where
   abbrev sides : Answer
@@ -72,7 +72,7 @@ module _ (left right : Bytes) (leftRecords rightRecords third : List ℕ) where
   one-setup e =
       let h = all-hold (sidesChecks left right (length leftRecords) (length rightRecords) (length third)) 0 refl e in
       record {
-        unretired = unretired-of left right leftRecords rightRecords third (whole-of left right leftRecords rightRecords third (h .0) (h .1 .0)) (h .1 .1 .0);
+        unretired = unretired-of left right leftRecords rightRecords third (whole-of left right leftRecords rightRecords third (formed-both left right (h .0)) (h .1 .0)) (h .1 .1 .0);
         setup = setup-same (setupOf left) (setupOf right) .0 (h .1 .1 .1 .0);
       }
 

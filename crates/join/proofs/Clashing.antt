@@ -21,7 +21,8 @@ use Rattle.table.specs.Rules.{hasDigest}
 use Rattle.table.specs.Form.{inForm}
 use Rattle.table.proofs.Formed.{formed-of, formed-row}
 use Rattle.join.specs.Join.{refersBy, refersWithin, sameBlock, clashes, clashAt, placeIn}
-use Rattle.join.specs.Steps.{BothFormed, Held, withinBy}
+use Rattle.join.specs.Promises.{BothFormed}
+use Rattle.join.specs.Steps.{Held, withinBy}
 use Rattle.join.proofs.Referred.{place-has, place-is, place-found, by-place, within}
 
 -- ---- the references of place i of t, as places of u, are among those of place j there

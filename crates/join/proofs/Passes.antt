@@ -17,8 +17,8 @@ use Rattle.table.specs.Form.{inForm}
 use Rattle.table.specs.Checks.{answerTo}
 use Rattle.table.proofs.Checks.{numbered, all-hold}
 use Rattle.interpret.specs.Buffer.{bufferSize}
-use Rattle.join.specs.Steps.{BothFormed, Passed}
-use Rattle.join.specs.Promises.{Whole, Unretired}
+use Rattle.join.specs.Steps.{Passed}
+use Rattle.join.specs.Promises.{BothFormed, Whole, Unretired}
 use Rattle.join.specs.Join.{neitherRetired, sameSetup, joinedCount, joinChecks, joinAnswer, joined, copied, joinedTable, joinedRecords}
 
 -- two setups that pass the test are equal, and equal ones pass it
@@ -31,14 +31,17 @@ setup-same s z = (
 )
 
 -- checks 2 and 12
-pub whole-of : (left right : Bytes) (leftRecords rightRecords third : List ℕ) → (inForm left && inForm right) ≡ true
+pub formed-both : (left right : Bytes) → (inForm left && inForm right) ≡ true → BothFormed left right
+formed-both left right f = record { leftFormed = and-left (inForm left) (inForm right) f; rightFormed = and-right (inForm left) (inForm right) f }
+
+pub whole-of : (left right : Bytes) (leftRecords rightRecords third : List ℕ) → BothFormed left right
     → (eqb (length leftRecords) bufferSize && (eqb (length rightRecords) bufferSize && eqb (length third) bufferSize)) ≡ true
     → Whole left right leftRecords rightRecords third
 whole-of left right leftRecords rightRecords third f z =
     let r = and-right (eqb (length leftRecords) bufferSize) (eqb (length rightRecords) bufferSize && eqb (length third) bufferSize) z in
     record {
-      leftFormed = and-left (inForm left) (inForm right) f;
-      rightFormed = and-right (inForm left) (inForm right) f;
+      leftFormed = f .leftFormed;
+      rightFormed = f .rightFormed;
       leftSize = eqb-true _ _ (and-left (eqb (length leftRecords) bufferSize) (eqb (length rightRecords) bufferSize && eqb (length third) bufferSize) z);
       rightSize = eqb-true _ _ (and-left (eqb (length rightRecords) bufferSize) (eqb (length third) bufferSize) r);
       size = eqb-true _ _ (and-right (eqb (length rightRecords) bufferSize) (eqb (length third) bufferSize) r);
@@ -59,9 +62,9 @@ module _ (left right : Bytes) (leftRecords rightRecords third : List ℕ) (e : j
   unfolding joinAnswer numbered
   passes =
       let h = all-hold (joinChecks left right (length leftRecords) (length rightRecords) (length third)) (joinedCount (viewOf left) (viewOf right)) refl e in
-      let u = unretired-of left right leftRecords rightRecords third (whole-of left right leftRecords rightRecords third (h .0) (h .1 .0)) (h .1 .1 .0) in
+      let formed = formed-both left right (h .0) in
+      let u = unretired-of left right leftRecords rightRecords third (whole-of left right leftRecords rightRecords third formed (h .1 .0)) (h .1 .1 .0) in
       let w = u .isWhole in
-      let formed : BothFormed left right = record { leftFormed = w .leftFormed; rightFormed = w .rightFormed } in
       record {
         sides = record { formed = formed; leftSize = w .leftSize; rightSize = w .rightSize };
         size = w .size;

@@ -14,7 +14,8 @@ use Rattle.table.specs.Form.{inForm}
 use Rattle.table.specs.Checks.{answerTo, refused, success}
 use Rattle.interpret.specs.Buffer.{bufferSize}
 use Rattle.join.specs.Join.{neitherRetired, sameSetup, clashAt, joinedCount}
-use Rattle.join.specs.Steps.{sidesChecks, blocksAnswer, BothFormed}
+use Rattle.join.specs.Promises.{BothFormed}
+use Rattle.join.specs.Steps.{sidesChecks, blocksAnswer}
 
 -- ---- the two sides as a whole
 

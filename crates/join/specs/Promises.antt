@@ -6,6 +6,7 @@ use mathlib.Core.Logic.{_≢_, _⊎_, _↔_}
 use mathlib.Core.List.{List}
 use Prim.Native.Nat.{ℕ, _+_, _≤_, _<_}
 use lib.ListN.{length}
+use Rattle.base.specs.Search.{First}
 use Rattle.base.specs.Count.{countBelow}
 use Rattle.base.specs.Bytes.{Bytes}
 use Rattle.block.specs.Limits.{slotCount}
@@ -18,7 +19,12 @@ use Rattle.join.specs.Join.{refersBy, sameBlock, isExtra, joinedCount, j
 
 -- ---- refusals
 
--- checks 2 and 12 pass
+-- check 2 passes
+pub record BothFormed (left right : Bytes) : Type 0 where
+  pub leftFormed : inForm left ≡ true
+  pub rightFormed : inForm right ≡ true
+
+-- and 12
 pub record Whole (left right : Bytes) (leftRecords rightRecords third : List ℕ) : Type 0 where
   pub leftFormed : inForm left ≡ true
   pub rightFormed : inForm right ≡ true
@@ -52,6 +58,11 @@ pub record Apart (left right : Bytes) (leftRecords rightRecords third : List ℕ
 
 -- each refusal comes under its cause and under no other
 pub record Causes (left right : Bytes) (leftRecords rightRecords third : List ℕ) (answer : Answer) : Type 0 where
+  -- 2: either table not in form
+  pub two : (answer .refusal ≡ 2) ↔ ((inForm left ≡ false) ⊎ (inForm right ≡ false))
+  -- 12: one of the three record buffers of another length
+  pub twelve : (answer .refusal ≡ 12)
+      ↔ (BothFormed left right × ((length leftRecords ≢ bufferSize) ⊎ ((length rightRecords ≢ bufferSize) ⊎ (length third ≢ bufferSize))))
   -- 31: either table has retired something
   pub thirtyOne : (answer .refusal ≡ 31) ↔ (Whole left right leftRecords rightRecords third × ((retiredOf left ≢ 0) ⊎ (retiredOf right ≢ 0)))
   pub twentyThree : (answer .refusal ≡ 23) ↔ (Unretired left right leftRecords rightRecords third × (setupOf left ≢ setupOf right))
@@ -59,7 +70,9 @@ pub record Causes (left right : Bytes) (leftRecords rightRecords third : List �
   pub twentyFive : (answer .refusal ≡ 25) ↔ (Apart left right leftRecords rightRecords third × (maxPlaces < joinedCount (viewOf left) (viewOf right)))
   pub none : (answer .refusal ≡ 0) ↔ (Apart left right leftRecords rightRecords third × (joinedCount (viewOf left) (viewOf right) ≤ maxPlaces))
   -- "with the lowest left place"
-  pub lowest : answer .refusal ≡ 24 → Clash left right (answer .value) × ((i : ℕ) → i < answer .value → Clash left right i → ⊥)
+  pub lowest : answer .refusal ≡ 24 → First (Clash left right) (answer .value)
+  -- beside any other refusal the value is 0
+  pub noValue : answer .refusal ≢ 0 → answer .refusal ≢ 24 → answer .value ≡ 0
 
 -- ---- the result, told without the order in which it is made
 

@@ -12,11 +12,10 @@ use Rattle.base.specs.Word.{wordSize, wordBytes}
 use Rattle.block.specs.declared.Answer.{Answer}
 use Rattle.table.specs.View.{maxPlaces}
 use Rattle.table.specs.Layout.{referencesOffset, requestsOffset, setupOf, retiredOf, countOf, digestAt, viewOf}
-use Rattle.table.specs.Form.{inForm}
 use Rattle.table.specs.Checks.{Check, answerTo}
 use Rattle.interpret.specs.Buffer.{bufferSize, partStart}
 use Rattle.join.specs.Join.{clashAt, isExtra, joinedCount, joinChecks, joinBelow, joinedTable, placeIn, handedBack, joinedRecords}
-use Rattle.join.specs.Promises.{placeBehind}
+use Rattle.join.specs.Promises.{BothFormed, placeBehind}
 
 -- ---- the checks in two parts: 2, 12, 31 and 23; then 24 and 25, which read the tables alone
 
@@ -39,12 +38,7 @@ blocksRecords left right leftRecords rightRecords third =
 
 -- ---- what the checks have shown
 
--- check 2
-pub record BothFormed (left right : Bytes) : Type 0 where
-  pub leftFormed : inForm left ≡ true
-  pub rightFormed : inForm right ≡ true
-
--- and 12
+-- checks 2 and 12
 pub record Sides (left right : Bytes) (leftRecords rightRecords : List ℕ) : Type 0 where
   pub formed : BothFormed left right
   pub leftSize : length leftRecords ≡ bufferSize

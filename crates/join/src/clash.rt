@@ -11,7 +11,8 @@ ghost use Rattle.table.specs.View.{maxPlaces};
 ghost use Rattle.table.specs.Layout.{countOf, requestAt, viewOf};
 ghost use Rattle.table.specs.Steps.{Place};
 ghost use Rattle.join.specs.Join.{sameBlock, clashAt};
-ghost use Rattle.join.specs.Steps.{BothFormed, Held, Pair, withinBy};
+ghost use Rattle.join.specs.Promises.{BothFormed};
+ghost use Rattle.join.specs.Steps.{Held, Pair, withinBy};
 
 // Whether a place, which may be none, is in the mask.
 fn is_in(mask: u64, place: usize) -> bool

@@ -14,8 +14,8 @@ ghost use lib.ListN.{length};
 ghost use Rattle.table.specs.Layout.{tableSize, setupOf};
 ghost use Rattle.table.specs.Checks.{answerTo};
 ghost use Rattle.join.specs.Join.{neitherRetired, sameSetup, joinAnswer, joinedTable, joinedRecords, joined, copied};
-ghost use Rattle.join.specs.Promises.{OneSetup};
-ghost use Rattle.join.specs.Steps.{sidesChecks, blocksAnswer, blocksTable, blocksRecords, BothFormed, Passed, Held, Numbered};
+ghost use Rattle.join.specs.Promises.{BothFormed, OneSetup};
+ghost use Rattle.join.specs.Steps.{sidesChecks, blocksAnswer, blocksTable, blocksRecords, Passed, Held, Numbered};
 
 // Whether neither of two tables has retired anything.
 fn neither_retired(left: &[u8], right: &[u8]) -> bool

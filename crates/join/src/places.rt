@@ -6,7 +6,8 @@ ghost use lib.ListN.{length};
 ghost use Rattle.table.specs.View.{maxPlaces};
 ghost use Rattle.table.specs.Layout.{viewOf};
 ghost use Rattle.join.specs.Join.{joinedCount};
-ghost use Rattle.join.specs.Steps.{BothFormed, Held, Numbered};
+ghost use Rattle.join.specs.Promises.{BothFormed};
+ghost use Rattle.join.specs.Steps.{Held, Numbered};
 
 // For each place of `other` the place of its block in the table, or the table's count.
 pub fn place_all(table: &[u8], other: &[u8], places: &mut [u8])

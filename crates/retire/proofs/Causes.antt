@@ -15,7 +15,7 @@ use Rattle.base.proofs.Search.{any-true, any-true-at, any-false}
 use Rattle.table.specs.Layout.{countOf, siteAt, sequenceAt, markAt, rowAt, viewOf}
 use Rattle.table.specs.Form.{inForm}
 use Rattle.table.specs.Checks.{Check}
-use Rattle.table.proofs.Checks.{none-refused, past-check, at-check, elsewhere, never-answered, and-then}
+use Rattle.table.proofs.Checks.{none-refused, past-check, at-check, elsewhere, never-answered, value-beside, and-then}
 use Rattle.interpret.specs.Promises.{Whole}
 use Rattle.interpret.proofs.FirstChecks.{past-thirteen, two, twelve, thirteen}
 use Rattle.retire.specs.Retiring.{waitsForFirst, followsFirst, firstInterpreted, referrersInterpreted, siteGoesOn, retirable, retiringChecks, retiring}
@@ -67,6 +67,7 @@ module _ (t : Bytes) (buffer : List ℕ) where
             (λ e r. true-not-false (retirable-is t .1 r) e, λ n. not-true-false _ (λ y. n (retirable-is t .0 y))));
         none = and-then (past-thirteen t buffer 0 rest 0 (λ e. omega arith) (λ e. omega arith) (λ e. omega arith))
             (Iff·trans (past-check _ _ _ 0 (λ _ q. omega arith)) (λ p. retirable-is t .0 (p .0), λ r. (retirable-is t .1 r, none-refused 0)));
+        noValue = value-beside (retiring t buffer .refusal) 0 _ 0 (λ _ _. refl, (λ _ _. refl, (λ _ _. refl, (λ _ _. refl, λ _. refl)))) refl;
       }
 
   pub goes-on : Whole t buffer → ((i : ℕ) → i < countOf t → markAt t i ≡ 1) → (i : ℕ) → i < countOf t → siteAt t i ≡ siteAt t 0

@@ -36,6 +36,7 @@ pub record Causes (t : Bytes) (buffer : List ℕ) : Type 0 where
   pub thirteen : (retiring t buffer .refusal ≡ 13) ↔ (Whole t buffer × (countOf t ≡ 0))
   pub twentyNine : (retiring t buffer .refusal ≡ 29) ↔ (Held t buffer 0 × (Retirable t → ⊥))
   pub none : (retiring t buffer .refusal ≡ 0) ↔ (Held t buffer 0 × Retirable t)
+  pub noValue : retiring t buffer .value ≡ 0
 
 -- ---- what is left
 

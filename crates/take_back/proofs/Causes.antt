@@ -1,18 +1,18 @@
 -- Each refusal of a taking back comes under its cause and under no other, and there is none where the last place is not interpreted. Assumes
 -- nothing.
 use mathlib.Core.Path.{_≡_, refl}
-use mathlib.Core.Bool.{true, false}
+use mathlib.Core.Bool.{true}
 use mathlib.Core.Logic.{_↔_, _≢_, Iff·trans}
 use Prim.Native.Nat.{ℕ, _-_}
 use native.Mathlib.Omega.{arith}
-use lib.Dec.{eqb, ltb}
+use lib.Dec.{eqb}
 use lib.ListN.{drop}
 use borrow.Author.Tests.{eqb-true, eq-eqb, lt-ltb, le-ltb, ltb-true, ltb-false}
 use Rattle.base.specs.Bytes.{Bytes}
 use Rattle.table.specs.Layout.{countOf, markAt, viewOf}
 use Rattle.table.specs.Form.{inForm}
 use Rattle.table.specs.Checks.{answerTo}
-use Rattle.table.proofs.Checks.{none-refused, past-check, at-check, elsewhere, never-answered, and-then, absent, present}
+use Rattle.table.proofs.Checks.{none-refused, past-check, at-check, elsewhere, never-answered, value-beside, and-then, absent, present}
 use Rattle.take_back.specs.TakingBack.{takingBackChecks, takingBack}
 use Rattle.take_back.specs.Promises.{SomeHeld, Causes}
 
@@ -45,4 +45,5 @@ module _ (t : Bytes) where
         none = and-then (past-thirty-two 0 (λ q. omega arith) (λ q. omega arith))
             (Iff·trans (past-check _ _ _ 0 (λ _ q. omega arith))
             (λ p. absent _ _ interpreted-is .0 (p .0), λ n. (absent _ _ interpreted-is .1 n, none-refused 0)));
+        noValue = value-beside (takingBack t .refusal) 0 _ 0 (λ _ _. refl, (λ _ _. refl, (λ _ _. refl, λ _. refl))) refl;
       }

@@ -26,6 +26,7 @@ pub record Causes (t : Bytes) : Type 0 where
   pub thirtyTwo : (takingBack t .refusal ≡ 32) ↔ ((inForm t ≡ true) × (countOf t ≡ 0))
   pub thirtyThree : (takingBack t .refusal ≡ 33) ↔ (SomeHeld t × (markAt t (countOf t - 1) ≡ 1))
   pub none : (takingBack t .refusal ≡ 0) ↔ (SomeHeld t × (markAt t (countOf t - 1) ≢ 1))
+  pub noValue : takingBack t .value ≡ 0
 
 -- ---- what is undone
 

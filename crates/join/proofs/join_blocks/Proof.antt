@@ -1,6 +1,6 @@
 -- `join_blocks` meets its contract: each block is looked up, and the checks of the blocks decide. Assumes nothing.
 use borrow.Author.Needs.{needs}
-use Rattle.join.specs.Steps.{BothFormed}
+use Rattle.join.specs.Promises.{BothFormed}
 use Rattle.join.proofs.Call.{passed, as-was, as-joined}
 use Rattle.join.proofs.join_blocks.Statement.{statement}
 use Rattle.join.proofs.join_blocks.Tie as tie

@@ -8,7 +8,7 @@ use Rattle.table.specs.Layout.{tableSize}
 use Rattle.table.specs.Form.{inForm}
 use Rattle.table.proofs.Formed.{formed-of}
 use Rattle.join.specs.Join.{neitherRetired}
-use Rattle.join.specs.Steps.{BothFormed}
+use Rattle.join.specs.Promises.{BothFormed}
 use Rattle.join.proofs.Ways.{way2, way2-right, way12-left, way12-right, way12, way31, way23, way-on}
 use Rattle.join.proofs.sides_answer.Statement.{statement}
 use Rattle.join.proofs.sides_answer.Tie as tie

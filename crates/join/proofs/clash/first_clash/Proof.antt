@@ -8,7 +8,8 @@ use Rattle.base.proofs.Search.{first-none, first-past, first-hit}
 use Rattle.table.specs.Layout.{countOf, viewOf}
 use Rattle.table.proofs.Formed.{formed-of}
 use Rattle.join.specs.Join.{clashAt}
-use Rattle.join.specs.Steps.{BothFormed, Held}
+use Rattle.join.specs.Promises.{BothFormed}
+use Rattle.join.specs.Steps.{Held}
 use Rattle.join.proofs.clash.first_clash.Statement.{statement}
 use Rattle.join.proofs.clash.first_clash.Tie as tie
 
