@@ -1,5 +1,8 @@
 -- The laws of what specs/ defines, a file for each idea.
 pub mod Decimal
+pub mod Legible
+pub mod Split
+pub mod Texts
 pub mod Behind
 pub mod Handed
 pub mod Arrived
@@ -23,3 +26,4 @@ pub mod Steady
 pub mod Stays
 pub mod Shown
 pub mod Agreed
+pub mod Tied

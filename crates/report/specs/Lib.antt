@@ -6,4 +6,5 @@ pub mod Framing
 pub mod Gathering
 pub mod Promises
 pub mod Agreed
+pub mod Lines
 pub mod Steps
