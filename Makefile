@@ -102,7 +102,7 @@ uninstall:
 	DESTDIR='$(DESTDIR)' tools/install.sh uninstall '$(PREFIX)'
 
 # What the host tests run.
-test-programs: host $(HOST)/digests $(HOST)/calls $(HOST)/core_calls $(HOST)/record_calls $(HOST)/watch_calls $(HOST)/shelf_calls $(HOST)/join_calls $(HOST)/retire_calls $(HOST)/take_back_calls $(HOST)/two_campaigns $(HOST)/two_controllers $(HOST)/long_campaign $(HOST)/wrong_campaign harness
+test-programs: host $(HOST)/digests $(HOST)/calls $(HOST)/core_calls $(HOST)/record_calls $(HOST)/process_calls $(HOST)/watch_calls $(HOST)/shelf_calls $(HOST)/join_calls $(HOST)/retire_calls $(HOST)/take_back_calls $(HOST)/one_site $(HOST)/two_campaigns $(HOST)/two_controllers $(HOST)/long_campaign $(HOST)/wrong_campaign harness
 
 # Cargo itself sees whether the harness's sources or the library changed.
 harness: prerequisites $(LIBRARY)
@@ -112,9 +112,10 @@ harness: prerequisites $(LIBRARY)
 clean:
 	rm -rf target
 
-# Names each command that is missing, and a toolchain other than the pinned one.
+# Names each command that is missing of those that the goals need, and a toolchain other than the pinned one. All that is
+# built waits for it. By itself it looks for every command.
 prerequisites:
-	@tools/prerequisites.sh
+	@tools/prerequisites.sh $(filter-out prerequisites,$(or $(MAKECMDGOALS),$(.DEFAULT_GOAL)))
 	@tools/toolchain.sh
 
 $(LIBRARY): $(LIBRARY_SOURCES) rattle.version | prerequisites
@@ -136,10 +137,10 @@ $(HOST)/dome: host/dome.c host/giangotum.h $(LIBRARY) | $(HOST)
 $(HOST)/digests $(HOST)/calls: $(HOST)/%: host/tests/%.c host/tests/checks.h host/giangotum.h $(LIBRARY) | $(HOST)
 	$(CC) $(CFLAGS) -Ihost -o $@ $< $(LIBRARY)
 
-$(HOST)/core_calls $(HOST)/record_calls $(HOST)/watch_calls $(HOST)/shelf_calls $(HOST)/join_calls $(HOST)/retire_calls $(HOST)/take_back_calls: $(HOST)/%: host/tests/%.c $(wildcard host/tests/*.h) $(HEADERS) $(LIBRARY) | $(HOST)
+$(HOST)/core_calls $(HOST)/record_calls $(HOST)/process_calls $(HOST)/watch_calls $(HOST)/shelf_calls $(HOST)/join_calls $(HOST)/retire_calls $(HOST)/take_back_calls: $(HOST)/%: host/tests/%.c $(wildcard host/tests/*.h) $(HEADERS) $(LIBRARY) | $(HOST)
 	$(CC) $(CFLAGS) -Ihost -o $@ $< $(LIBRARY)
 
-$(HOST)/two_campaigns $(HOST)/two_controllers $(HOST)/long_campaign $(HOST)/wrong_campaign: $(HOST)/%: examples/%.c $(HEADERS) $(LIBRARY) | $(HOST)
+$(HOST)/one_site $(HOST)/two_campaigns $(HOST)/two_controllers $(HOST)/long_campaign $(HOST)/wrong_campaign: $(HOST)/%: examples/%.c $(HEADERS) $(LIBRARY) | $(HOST)
 	$(CC) $(CFLAGS) $(ONLY_REACHED) -Ihost -o $@ $< $(LIBRARY)
 
 # Cargo leaves a file that needn't change, and its time would then be taken for old.

@@ -175,9 +175,9 @@ static bool streams_are_well(void)
     bool read = !ferror(stdin);
 
     if (!read)
-        fputs("dome: cannot read standard input\n", stderr);
+        fputs("giangotum-dome: cannot read standard input\n", stderr);
     if (!written)
-        fputs("dome: cannot write standard output\n", stderr);
+        fputs("giangotum-dome: cannot write standard output\n", stderr);
     return read && written;
 }
 

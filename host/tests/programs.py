@@ -5,11 +5,11 @@ from pathlib import Path
 
 ROOT = Path(__file__).resolve().parents[2]
 BUILT = ROOT / "target" / "host"
-(DOME, DIGESTS, CALLS, CORE_CALLS, RECORD_CALLS, WATCH_CALLS, SHELF_CALLS, JOIN_CALLS, RETIRE_CALLS, TAKE_BACK_CALLS, TWO_CAMPAIGNS,
- TWO_CONTROLLERS, LONG_CAMPAIGN, WRONG_CAMPAIGN) = (
-    str(BUILT / name) for name in ("dome", "digests", "calls", "core_calls", "record_calls", "watch_calls", "shelf_calls",
-                                   "join_calls", "retire_calls", "take_back_calls", "two_campaigns", "two_controllers",
-                                   "long_campaign", "wrong_campaign"))
+(DOME, DIGESTS, CALLS, CORE_CALLS, RECORD_CALLS, PROCESS_CALLS, WATCH_CALLS, SHELF_CALLS, JOIN_CALLS, RETIRE_CALLS,
+ TAKE_BACK_CALLS, ONE_SITE, TWO_CAMPAIGNS, TWO_CONTROLLERS, LONG_CAMPAIGN, WRONG_CAMPAIGN) = (
+    str(BUILT / name) for name in ("dome", "digests", "calls", "core_calls", "record_calls", "process_calls", "watch_calls",
+                                   "shelf_calls", "join_calls", "retire_calls", "take_back_calls", "one_site", "two_campaigns",
+                                   "two_controllers", "long_campaign", "wrong_campaign"))
 LISTING = str(ROOT / "target" / "bin" / "listing")
 HARNESS = str(ROOT / "target" / "harness" / "release" / "harness")
 VALGRIND_ERROR = 99

@@ -6,40 +6,10 @@
 #include <stdlib.h>
 #include <string.h>
 
-/* Entries of a record. */
-enum { DELIVERED = 3, MADE = 36 };
+/* The entry of a record that has what is delivered. */
+enum { DELIVERED = 3 };
 
-/* ---- Record buffers */
-
-static uint16_t *record_of(buffer *b, size_t place, size_t slot)
-{
-    return b->numbers + GT_PART_NUMBERS * place + GT_RECORD_NUMBERS * slot;
-}
-
-static bool made(buffer *b, size_t place, size_t slot, uint16_t send, uint16_t echo, uint16_t ready, uint16_t delivery)
-{
-    return memcmp(record_of(b, place, slot) + MADE, (uint16_t[]){send, echo, ready, delivery}, 8) == 0;
-}
-
-/* ---- The two calls, on exact copies. What a call left is put back. */
-
-static gt_answer interpret_of_length(table *t, size_t table_length, size_t place, buffer *b, size_t count)
-{
-    uint8_t *lent_table = exact_copy(t->bytes, table_length);
-    uint16_t *lent_records = exact_copy(b->numbers, 2 * count);
-    gt_answer answer = gt_interpret(lent_table, table_length, place, lent_records, count);
-
-    memcpy(t->bytes, lent_table, table_length);
-    memcpy(b->numbers, lent_records, 2 * count);
-    free(lent_table);
-    free(lent_records);
-    return answer;
-}
-
-static gt_answer interpret(table *t, size_t place, buffer *b)
-{
-    return interpret_of_length(t, GT_TABLE_BYTES, place, b, GT_RECORDS_NUMBERS);
-}
+/* ---- Refusals, with nothing changed */
 
 static bool refused_of_length(table t, size_t table_length, size_t place, size_t count, uint8_t refusal, size_t value)
 {

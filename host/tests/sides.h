@@ -27,8 +27,7 @@ static inline bool same_side(const side *x, const side *y)
 /* A block is admitted at this place and interpreted. */
 static inline bool hold(side *s, block b, size_t place)
 {
-    return is(admit(&s->table, b), 0, place)
-        && is(gt_interpret(s->table.bytes, GT_TABLE_BYTES, place, s->records.numbers, GT_RECORDS_NUMBERS), 0, 0);
+    return is(admit(&s->table, b), 0, place) && is(interpret(&s->table, place, &s->records), 0, 0);
 }
 
 /* ---- Retirings, on exact copies. What a call left is put back. */

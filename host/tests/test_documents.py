@@ -4,6 +4,7 @@ import re
 
 import lines
 import pictures
+import trace_page
 from programs import ROOT, expect, expect_same_lines
 from test_examples import EXPECTED, LISTINGS
 
@@ -26,6 +27,49 @@ def test_the_examples_are_shown_as_they_are_stored():
     for command, shown in [("target/bin/listing < examples/four_sites.campaign", LISTINGS["four_sites"]),
                            ("target/host/dome < examples/arrivals.bin", EXPECTED)]:
         expect(f"```\n$ {command}\n{shown}```\n" in page, command)
+
+
+def test_the_example_in_c_is_quoted_word_for_word():
+    page = (ROOT / "README.md").read_text(encoding="utf-8")
+    source = (ROOT / "examples" / "one_site.c").read_text(encoding="ascii")
+    section = re.search(r"^`examples/one_site\.c` is a whole program.*?^A controller that follows", page, re.MULTILINE | re.DOTALL)
+    quoted = re.findall(r"```c\n(.*?)```", section[0], re.DOTALL)
+    expect(len(quoted) == 3, f"{len(quoted)} quotations")
+    for text in quoted:
+        expect(f"\n{text}" in source, text)
+
+
+def numbers_of(page, title):
+    """The numbers in the first column of the table with this title."""
+    section = (ROOT / page).read_text(encoding="utf-8").split(title)[1].split("\n\n")[0]
+    return [int(number) for number in re.findall(r"^\| (\d+) \|", section, re.MULTILINE)]
+
+
+def test_every_refusal_has_a_cause_and_an_advice():
+    numbers = [*range(1, 18), 19, 20, 21, 23, 24, 25, *range(29, 34)]
+    expect(numbers_of("README.md", "| number | cause | what to do |") == numbers, "README.md")
+    expect(numbers_of("docs/FORMATS.md", "| number | cause | value |") == numbers, "docs/FORMATS.md")
+
+
+def test_every_name_of_the_trace_exists():
+    page = trace_page.TRACE.read_text(encoding="utf-8")
+    unknown = trace_page.unknown(page)
+    expect(not unknown, "\n".join(unknown))
+
+
+def test_a_wrong_name_in_the_trace_is_found():
+    page = trace_page.TRACE.read_text(encoding="utf-8")
+    for right, wrong in [("`five_sites`", "`six_sites`"), ("`fiveSites`", "`sixSites`"), ("`core_calls.c`", "`care_calls.c`"),
+                         ("`setup/specs/Setup.antt`", "`setup/specs/Setups.antt`"), ("`ownersBelow`", "`ownersAbove`"),
+                         ("`setup::lawful`", "`setup::lawless`"), ("`StarredCases`", "`Starred`"), ("`rest`", "`remainder`")]:
+        expect(right in page, right)
+        unknown = trace_page.unknown(page.replace(right, wrong))
+        expect(any(wrong.strip("`") in line for line in unknown), f"{wrong}: {unknown}")
+
+
+def test_every_edit_stands_in_the_trace():
+    missing = trace_page.stored_edits() - trace_page.named_edits(trace_page.TRACE.read_text(encoding="utf-8"))
+    expect(not missing, f"{sorted(missing)}")
 
 
 def test_the_lines_to_believe_are_counted():

@@ -81,11 +81,11 @@ def test_a_line_is_there_before_the_next_arrival():
 
 def test_output_that_is_full():
     with open("/dev/full", "wb") as full:
-        expect_failure(run([DOME], SHORTEST, stdout=full), "dome: cannot write standard output")
+        expect_failure(run([DOME], SHORTEST, stdout=full), "giangotum-dome: cannot write standard output")
 
 
 def test_output_that_is_closed():
-    expect_failure(run(["sh", "-c", '"$0" >&-', DOME], SHORTEST), "dome: cannot write standard output")
+    expect_failure(run(["sh", "-c", '"$0" >&-', DOME], SHORTEST), "giangotum-dome: cannot write standard output")
 
 
 def test_output_whose_reader_went_away():
@@ -96,14 +96,14 @@ def test_output_whose_reader_went_away():
     with process.stderr as stderr:
         said = stderr.read()
     status = process.wait(LONGEST_RUN)
-    expect_failure(subprocess.CompletedProcess([DOME], status, b"", said), "dome: cannot write standard output")
+    expect_failure(subprocess.CompletedProcess([DOME], status, b"", said), "giangotum-dome: cannot write standard output")
 
 
 def test_input_that_is_closed():
-    expect_failure(run(["sh", "-c", '"$0" <&-', DOME]), "dome: cannot read standard input")
+    expect_failure(run(["sh", "-c", '"$0" <&-', DOME]), "giangotum-dome: cannot read standard input")
 
 
 def test_input_that_is_a_directory():
     ended = run(["sh", "-c", '"$0" <.', DOME])
-    expect_failure(ended, "dome: cannot read standard input")
+    expect_failure(ended, "giangotum-dome: cannot read standard input")
     expect(ended.stdout == b"", "a line for no arrival")

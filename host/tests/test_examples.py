@@ -1,14 +1,18 @@
 """The stored examples: their bytes, their lines, and the program between them. `make test-programs` compiles those in C."""
 
+import tempfile
+from pathlib import Path
+
 import make_arrivals
 import make_campaigns
-from programs import (LONG_CAMPAIGN, ROOT, TWO_CAMPAIGNS, TWO_CONTROLLERS, WRONG_CAMPAIGN, dome, expect, expect_same_lines, listing,
-                      output_of)
+from programs import (LONG_CAMPAIGN, ONE_SITE, ROOT, TWO_CAMPAIGNS, TWO_CONTROLLERS, WRONG_CAMPAIGN, dome, expect, expect_same_lines,
+                      listing, output_of, run)
 from reference import text_of
 
 EXAMPLES = ROOT / "examples"
 ARRIVALS = (EXAMPLES / "arrivals.bin").read_bytes()
 EXPECTED = (EXAMPLES / "arrivals.expected").read_text(encoding="ascii")
+ONE_SITE_LINES = (EXAMPLES / "one_site.expected").read_text(encoding="ascii")
 TWO_CAMPAIGNS_LINES = (EXAMPLES / "two_campaigns.expected").read_text(encoding="ascii")
 TWO_CONTROLLERS_LINES = (EXAMPLES / "two_controllers.expected").read_text(encoding="ascii")
 LONG_CAMPAIGN_LINES = (EXAMPLES / "long_campaign.expected").read_text(encoding="ascii")
@@ -24,6 +28,38 @@ def test_dome_writes_the_stored_lines():
 
 def test_the_reference_writes_the_stored_lines():
     expect_same_lines(text_of(ARRIVALS), EXPECTED)
+
+
+def one_site(stream, under=()):
+    """What the example of one site writes, and the arrival that it leaves in its file; `under` stands before its name."""
+    with tempfile.TemporaryDirectory() as folder:
+        file = Path(folder) / "next.arrival"
+        return output_of([*under, ONE_SITE, str(file)], stream), file.read_bytes()
+
+
+def test_one_site_writes_the_stored_lines():
+    expect_same_lines(one_site(CAMPAIGNS["four_sites"])[0], ONE_SITE_LINES)
+
+
+def test_the_block_of_one_site_is_taken_by_the_others():
+    # The listing has a line more only where the last arrival is refused: at first it isn't, and the second time it is held.
+    _, arrived = one_site(CAMPAIGNS["four_sites"])
+    expect_same_lines(listing(CAMPAIGNS["four_sites"] + arrived), LISTINGS["four_sites"])
+    expect_same_lines(listing(CAMPAIGNS["four_sites"] + 2 * arrived), LISTINGS["four_sites"] + "19 - - - - - 8\n")
+
+
+def test_one_site_says_what_it_cannot_do():
+    inputs = {b"": "the input has no setup, or can't be read", CAMPAIGNS["unlawful"]: "the setup is refused with 1",
+              CAMPAIGNS["chain"]: "building is refused with 4",  # it has one site
+              CAMPAIGNS["four_sites"][:-1]: "the input ends within an arrival, or can't be read",
+              CAMPAIGNS["four_sites"] + b"\0": "the input ends within an arrival, or can't be read"}
+    with tempfile.TemporaryDirectory() as folder:
+        ends = [(run([ONE_SITE, f"{folder}/next"], stream), said) for stream, said in inputs.items()]
+        ends.append((run([ONE_SITE]), "name the file that our next block is written to"))
+        ends.append((run([ONE_SITE, folder], CAMPAIGNS["four_sites"]), "the file for our block can't be written"))
+        for ended, said in ends:
+            expect(ended.returncode == 1 and ended.stderr.decode() == f"one_site: {said}\n", f"{ended}")
+        expect(not list(Path(folder).iterdir()), "a file is written although the input is refused")
 
 
 def test_two_campaigns_writes_the_stored_lines():

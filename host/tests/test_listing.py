@@ -3,6 +3,7 @@
 import fcntl
 import os
 import re
+import resource
 import select
 import signal
 import subprocess
@@ -139,7 +140,8 @@ def test_an_over_long_arrival_byte_by_byte():
 def expect_failed_write(ended):
     """Nothing but the one message is said, be it once or for each piece."""
     said = ended.stderr.splitlines()
-    expect(ended.returncode == 0 and set(said) == {b"listing: writing failed"}, f"exit status {ended.returncode}, said: {said}")
+    expect(ended.returncode == 0 and set(said) == {b"giangotum-listing: writing failed"},
+           f"exit status {ended.returncode}, said: {said}")
 
 
 def test_output_that_is_full():
@@ -176,6 +178,27 @@ def test_output_whose_reader_went_away_and_no_signal():
         expect_failed_write(ended)
 
 
+def test_the_status_that_a_shell_sees_where_the_reader_went_away():
+    reading, writing = os.pipe()
+    os.close(reading)
+    with open(writing, "wb") as output:
+        ended = run(["bash", "-c", '"$0"; echo $? >&2', LISTING], chain(), stdout=output)
+    expect_ended(ended, 0, b"141\n")
+
+
+def test_output_that_gets_full():
+    # A file that may have no more than 4,096 bytes, as on a disk that has no more left: the listing is cut within a line.
+    limit = 4096
+    whole = listing(LONG_STREAM).encode("ascii")
+    with tempfile.TemporaryFile() as file:
+        ended = run([LISTING], LONG_STREAM, stdout=file, restore_signals=False,  # with SIGXFSZ ignored, as Python does
+                    preexec_fn=lambda: resource.setrlimit(resource.RLIMIT_FSIZE, (limit, limit)))
+        file.seek(0)
+        wrote = file.read()
+    expect_failed_write(ended)
+    expect(wrote == whole[:limit] and not wrote.endswith(b"\n"), f"{len(wrote)} bytes of {len(whole)}")
+
+
 def test_input_without_an_end_and_an_output_that_fails():
     command = r'''{ printf '\1\0\0\0\0\0\0\0\0'; cat /dev/zero; } | "$0" >/dev/full'''
     expect_failed_write(run(["sh", "-c", command, LISTING]))
@@ -183,12 +206,12 @@ def test_input_without_an_end_and_an_output_that_fails():
 
 def test_input_that_is_closed():
     ended = run(["sh", "-c", '"$0" <&-', LISTING])
-    expect_ended(ended, 0, b"listing: reading failed\n")
+    expect_ended(ended, 0, b"giangotum-listing: reading failed\n")
 
 
 def test_input_that_is_a_directory():
     ended = run(["sh", "-c", '"$0" <.', LISTING])
-    expect_ended(ended, 0, b"listing: reading failed\n")
+    expect_ended(ended, 0, b"giangotum-listing: reading failed\n")
 
 
 def test_input_that_fails_in_the_middle():
@@ -199,7 +222,7 @@ def test_input_that_fails_in_the_middle():
     ended = run([LISTING], stdin=reading)
     os.close(reading)
     os.close(writing)
-    expect_ended(ended, 0, b"listing: reading failed\n")
+    expect_ended(ended, 0, b"giangotum-listing: reading failed\n")
     expect(ended.stdout.decode("ascii") == text_of([refused(0)]), ended.stdout)
 
 

@@ -4,11 +4,12 @@ import random
 
 import bad_inputs
 import generate
-from programs import (CALLS, CORE_CALLS, DOME, JOIN_CALLS, LONG_CAMPAIGN, RECORD_CALLS, RETIRE_CALLS, SHELF_CALLS, TAKE_BACK_CALLS,
-                      TWO_CAMPAIGNS, TWO_CONTROLLERS, VALGRIND, WATCH_CALLS, digests, dome, expect, expect_same_lines, output_of, run)
+from programs import (CALLS, CORE_CALLS, DOME, JOIN_CALLS, LONG_CAMPAIGN, PROCESS_CALLS, RECORD_CALLS, RETIRE_CALLS,
+                      SHELF_CALLS, TAKE_BACK_CALLS, TWO_CAMPAIGNS, TWO_CONTROLLERS, VALGRIND, WATCH_CALLS, digests, dome,
+                      expect, expect_same_lines, output_of, run)
 from reference import text_of
-from test_examples import (ARRIVALS, LONG_CAMPAIGN_LINES, TWO_CAMPAIGNS_LINES, TWO_CONTROLLERS_LINES, WRONG_CAMPAIGN_LINES,
-                           WRONG_CAMPAIGN_COMMAND)
+from test_examples import (ARRIVALS, CAMPAIGNS, LONG_CAMPAIGN_LINES, ONE_SITE_LINES, TWO_CAMPAIGNS_LINES, TWO_CONTROLLERS_LINES,
+                           WRONG_CAMPAIGN_LINES, WRONG_CAMPAIGN_COMMAND, one_site)
 
 
 def expect_clean(stream):
@@ -43,6 +44,10 @@ def test_record_calls():
     output_of([*VALGRIND, RECORD_CALLS])
 
 
+def test_process_calls():
+    output_of([*VALGRIND, PROCESS_CALLS])
+
+
 def test_watch_calls():
     output_of([*VALGRIND, WATCH_CALLS])
 
@@ -61,6 +66,10 @@ def test_retire_calls():
 
 def test_take_back_calls():
     output_of([*VALGRIND, TAKE_BACK_CALLS])
+
+
+def test_one_site():
+    expect_same_lines(one_site(CAMPAIGNS["four_sites"], under=VALGRIND)[0], ONE_SITE_LINES)
 
 
 def test_two_campaigns():
