@@ -53,6 +53,9 @@ typedef struct {
 #define DELIVERS(v) {0, 0, 0, v}
 #define READIES_AND_DELIVERS(v) {0, 0, v, v}
 
+/* Slot k is owned by site k, and slot k + 4 too. */
+#define SHARED_OUT {0, 1, 2, 3, 0, 1, 2, 3}
+
 /* An array of steps, as pointer and count. */
 #define OF(steps) steps, sizeof steps / sizeof steps[0]
 
@@ -303,6 +306,34 @@ static const step parent_of_site[] = {
 static const step without_parent[] = {
     [0] = {0, 0, {0, 42}, TO_NOTHING, SENDS(42)},
     [1] = {0, 0, {0, 43}, TO(0), {.send = 43, .echo = 42}},
+    [2] = {1, 0, NO_REQUEST, TO(1), ECHOES(43)},
+};
+
+static const step both_heard[] = {
+    [0] = {0, 0, {0, 42}, TO_NOTHING, SENDS(42)},
+    [1] = {0, 1, NO_REQUEST, TO(0), ECHOES(42)},
+    [2] = {1, 0, NO_REQUEST, TO(0), ECHOES(42)},
+    [3] = {2, 0, NO_REQUEST, TO(0), ECHOES(42)},
+    [4] = {3, 0, NO_REQUEST, TO(0, 1, 2, 3), {.echo = 42, .ready = 42}},
+    [5] = {0, 2, NO_REQUEST, TO(1, 2, 3), READIES(42)},
+    [6] = {1, 1, NO_REQUEST, TO(2, 3, 4), READIES(42)},
+    [7] = {2, 1, NO_REQUEST, TO(3, 5, 4), READIES(42)},
+};
+
+static const step sent_before[] = {
+    [0] = {0, 0, {0, 42}, TO_NOTHING, SENDS(42)},
+    [1] = {0, 1, NO_REQUEST, TO(0), ECHOES(42)},
+    [2] = {1, 0, NO_REQUEST, TO(0), ECHOES(42)},
+    [3] = {2, 0, NO_REQUEST, TO(0), ECHOES(42)},
+    [4] = {0, 2, NO_REQUEST, TO(1, 2, 3), READIES(42)},
+    [5] = {1, 1, NO_REQUEST, TO(1, 2, 3), READIES(42)},
+    [6] = {0, 3, NO_REQUEST, TO(4), NOTHING},
+    [7] = {3, 0, NO_REQUEST, TO(6, 5), NOTHING},
+};
+
+static const step owner_of_slot[] = {
+    [0] = {1, 0, {1, 43}, TO_NOTHING, SENDS(43)},
+    [1] = {2, 0, NO_REQUEST, TO(0), ECHOES(43)},
 };
 
 static void check_process(void)
@@ -332,8 +363,11 @@ static void check_process(void)
           goes(of_sites(4, OF(echo_after_echoes))));
     check("a block of another site, one number less and listed first: no parent",
           goes(of_sites(4, OF(parent_of_site))));
-    check("a block of sequence number 0 on one of its own site: no parent, so SEND and ECHO",
+    check("a block of sequence number 0 on one of its own site: no parent, so SEND and ECHO, and both are heard",
           goes(of_sites(4, OF(without_parent))));
+    check("ECHO and READY of one block: both are heard", goes(of_sites(4, OF(both_heard))));
+    check("READY of a block before the one referred to: not heard", goes(of_sites(4, OF(sent_before))));
+    check("slot 1, SEND of its owner, site 1: ECHO", goes((campaign){4, SHARED_OUT, 1, OF(owner_of_slot)}));
 }
 
 /* ---- RecordCases. No place of a number is taken from the headers: those here are the rows' own. */
@@ -368,7 +402,7 @@ static const step in_slot_five[] = {
 static void check_records(void)
 {
     campaign chained = of_sites(1, OF(chain_of_four));
-    campaign shared_out = {4, {0, 1, 2, 3, 0, 1, 2, 3}, 5, OF(in_slot_five)};
+    campaign shared_out = {4, SHARED_OUT, 5, OF(in_slot_five)};
 
     check("a record is 40 numbers", GT_RECORD_NUMBERS == 40);
     check("a place has 320 numbers", GT_PART_NUMBERS == 320);

@@ -3,7 +3,7 @@ use mathlib.Core.Path.{_≡_}
 use lib.ListN.{length}
 use Rattle.base.specs.Bytes.{Bytes}
 use Rattle.sha256.specs.Sha256.{sha256}
-use Rattle.sha256.proofs.Laws.{sha256-length}
+use Rattle.sha256.proofs.Promises.{sha256-length}
 use Rattle.block.specs.Limits.{referenceSize}
 use Rattle.admission.specs.Promises.{Promises}
 use Rattle.admission.proofs.Causes.{causes}

@@ -15,7 +15,7 @@ use Rattle.setup.specs.Setup.{Setup, lawful, faults}
 use Rattle.setup.proofs.Thresholds.{sites-lawful}
 use Rattle.broadcast.specs.Record.{recordSize, flatten}
 use Rattle.sha256.specs.Sha256.{sha256}
-use Rattle.sha256.proofs.Laws.{sha256-length}
+use Rattle.sha256.proofs.Promises.{sha256-length}
 use Rattle.table.specs.Layout.{rowStart}
 use Rattle.table.specs.Fresh.{emptyTable, freshTable}
 use Rattle.table.specs.Promises.{Empty}

@@ -16,7 +16,7 @@ use Rattle.block.specs.Limits.{referenceSize}
 use Rattle.block.specs.Layout.{siteOf, sequenceOf, referencesOf}
 use Rattle.setup.specs.Setup.{Setup, lawful}
 use Rattle.sha256.specs.Sha256.{sha256}
-use Rattle.sha256.proofs.Laws.{sha256-length}
+use Rattle.sha256.proofs.Promises.{sha256-length}
 use Rattle.table.specs.View.{maxPlaces}
 use Rattle.table.specs.Layout.{siteAt, viewOf}
 use Rattle.watch.specs.Forks.{everywhere, ofSite, forks}

@@ -8,7 +8,7 @@ use Rattle.base.specs.Bytes.{Bytes}
 use Rattle.block.specs.Limits.{slotCount, referenceSize}
 use Rattle.setup.specs.Setup.{Setup, lawful}
 use Rattle.sha256.specs.Sha256.{sha256}
-use Rattle.sha256.proofs.Laws.{sha256-length}
+use Rattle.sha256.proofs.Promises.{sha256-length}
 use Rattle.interpret.specs.Buffer.{partOf}
 use Rattle.agreement.specs.History.{meaning}
 use Rattle.agreement.specs.Ancestry.{historyOf}

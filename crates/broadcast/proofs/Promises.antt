@@ -3,16 +3,16 @@ use mathlib.Core.Path.{_≡_, refl, ap, _∙_}
 use mathlib.Core.Logic.{_↔_, _⊎_, _≢_, inl, inr}
 use mathlib.Core.Bool.{Bool, true, false, not, _&&_}
 use mathlib.Core.List.{List}
-use Prim.Native.Nat.{ℕ, _≤_}
+use Prim.Native.Nat.{ℕ}
 use lib.Dec.{eqb, leb, ltb}
 use lib.ListN.{getD, set}
 use borrow.Author.Tests.{eq-eqb, ne-eqb, eqb-true, eqb-false, lt-ltb, ltb-true, le-leb, leb-true, not-true}
-use Rattle.base.proofs.Tests.{by-test, and-left, and-right, and-false, same-tests}
+use Rattle.base.proofs.Tests.{and-left, and-right, and-false, same-tests}
 use Rattle.setup.specs.Setup.{maxSites, echoQuorum, readyAmplification, readyQuorum}
 use Rattle.broadcast.specs.declared.Kind.{Kind}
 use Rattle.broadcast.specs.declared.Kind.the-variants.{Send, Echo, Ready}
 use Rattle.broadcast.specs.declared.SlotRecord.{SlotRecord}
-use Rattle.broadcast.specs.Record.{withSend, withEcho, inBoth, withReady, withDelivered, noteEcho, noteReady}
+use Rattle.broadcast.specs.Record.{withReady, withDelivered, inBoth, noteReady}
 use Rattle.broadcast.specs.Process.{support, onlyIf, readyOnEchoes, readyOnReadies, deliverOnReadies, takeSend, takeEcho, takeReady, take, receive, received, request}
 use Rattle.broadcast.specs.Promises.{Supported, Regular, ReadyByEchoes, ReadyByReadies, DeliveryByReadies, OneMessage, OneRequest, Promises}
 use Rattle.broadcast.proofs.Steps.{onlyIf-keeps}

@@ -13,7 +13,7 @@ use Rattle.base.specs.List.{countIn, thoseIn}
 use Rattle.base.proofs.Tests.{by-test, true-not-false}
 use Rattle.base.proofs.Those.{count-in-append, those-append}
 use Rattle.sha256.specs.Sha256.{sha256}
-use Rattle.sha256.proofs.Laws.{sha256-length}
+use Rattle.sha256.proofs.Promises.{sha256-length}
 use Rattle.block.specs.Limits.{referenceSize}
 use Rattle.table.specs.Form as table
 use Rattle.admission.specs.Admission.{admission, admitted}

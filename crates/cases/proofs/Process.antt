@@ -2,13 +2,14 @@
 use mathlib.Core.Path.{refl}
 use native.Mathlib.Omega.{arith}
 use Rattle.cases.specs.Blocks.{sites}
-use Rattle.cases.specs.Process.{silent, asksLater, branching, branchingOn, readyOfTwo, echoesOfOthers, threeReadiesTwoEchoes, readyOfOne, otherOfOne, otherOfTwo, afterThird, otherReadyingThree, afterReadyingThree, aside, ProcessCases, MessageCases}
+use Rattle.cases.specs.Traps.{sharedOut}
+use Rattle.cases.specs.Process.{silent, asksLater, hearsLater, branching, branchingOn, readyOfTwo, echoesOfOthers, threeReadiesTwoEchoes, readyOfOne, otherOfOne, otherOfTwo, afterThird, otherReadyingThree, afterReadyingThree, onFirst, onAll, afterReadying, inOwnSlot, aside, ProcessCases, MessageCases}
 use Rattle.cases.proofs.Opened.{openedLedger}
 use Rattle.cases.proofs.Told.{campaign}
 
 pub process : ProcessCases
-unfolding openedLedger silent asksLater branching branchingOn readyOfTwo echoesOfOthers threeReadiesTwoEchoes readyOfOne otherOfOne otherOfTwo afterThird
-    otherReadyingThree afterReadyingThree aside
+unfolding openedLedger silent asksLater hearsLater branching branchingOn readyOfTwo echoesOfOthers threeReadiesTwoEchoes readyOfOne otherOfOne otherOfTwo afterThird
+    otherReadyingThree afterReadyingThree onFirst onAll afterReadying inOwnSlot aside
 process =
     record {
       laterRequest = campaign (sites 4) 0 _ refl (omega arith) refl refl refl;
@@ -28,6 +29,9 @@ process =
       echoAfterEchoes = campaign (sites 4) 0 _ refl (omega arith) refl refl refl;
       parentOfSite = campaign (sites 4) 0 _ refl (omega arith) refl refl refl;
       withoutParent = campaign (sites 4) 0 _ refl (omega arith) refl refl refl;
+      bothHeard = campaign (sites 4) 0 _ refl (omega arith) refl refl refl;
+      sentBefore = campaign (sites 4) 0 _ refl (omega arith) refl refl refl;
+      ownerOfSlot = campaign sharedOut 1 _ refl (omega arith) refl refl refl;
     }
 
 pub messages : MessageCases

@@ -15,7 +15,7 @@ use Rattle.cases.specs.Run.{Campaign, _making_, sends, echoes, readies, 
 use Rattle.cases.specs.Blocks.{sites, first, fork, third, threeSites, echoing, readying}
 use Rattle.cases.specs.Starred.{chained, twoReadies}
 use Rattle.cases.specs.Thresholds.{oneToFive, threeReadies}
-use Rattle.cases.specs.Traps.{mark, otherEchoing, otherReadying, idle, readyingThree}
+use Rattle.cases.specs.Traps.{mark, otherEchoing, otherReadying, idle, readyingThree, sharedOut}
 
 -- ---- the blocks
 
@@ -25,6 +25,10 @@ silent = block 0 0 [] []
 
 unfoldable pub asksLater : Bytes
 asksLater = block 0 1 (toy silent ∷ []) (request 0 42 ∷ [])
+
+-- and site 2 hears it
+unfoldable pub hearsLater : Bytes
+hearsLater = block 2 0 (toy asksLater ∷ []) []
 
 -- site 0 begins once more, with a reference to its fork, and goes on from there
 unfoldable pub branching : Bytes
@@ -66,6 +70,22 @@ otherReadyingThree = block 3 0 (map (λ p. toy (otherEchoing p)) threeSites) []
 -- n 4: site 3 hears ECHO 42 of three sites, the owner's among them, and a block later SEND
 unfoldable pub afterReadyingThree : Bytes
 afterReadyingThree = block 3 1 (toy readyingThree ∷ toy first ∷ []) []
+
+-- site 0 begins once more, on its first block, with another request
+unfoldable pub onFirst : Bytes
+onFirst = block 0 0 (toy first ∷ []) (request 0 43 ∷ [])
+
+-- n 4: site 3 hears SEND and ECHO 42 of three sites in one block
+unfoldable pub onAll : Bytes
+onAll = block 3 0 (toy first ∷ map (λ p. toy (echoing p)) threeSites) []
+
+-- site 0 goes on after the block that sent its READY
+unfoldable pub afterReadying : Bytes
+afterReadying = block 0 3 (toy (readying threeSites 0) ∷ []) []
+
+-- site 1 requests 43 in slot 1
+unfoldable pub inOwnSlot : Bytes
+inOwnSlot = block 1 0 [] (request 1 43 ∷ [])
 
 -- n 1: a second first block of the site
 unfoldable pub aside : Bytes
@@ -234,16 +254,43 @@ pub record ProcessCases : Type 0 where
       ∷ [])
   -- "entries 0 to 35 of the parent's record": a block of another site with the sequence number one less, though listed first, is no parent
   pub parentOfSite : Campaign (sites 4) 0
-      (first making sends 42
-      ∷ echoing 2 making echoes 42
+      (silent making none
+      ∷ asksLater making sends 42
+      ∷ hearsLater making echoes 42
       ∷ idle making none
-      ∷ block 1 1 (toy (echoing 2) ∷ toy idle ∷ toy first ∷ []) [] making echoes 42
+      ∷ block 1 1 (toy hearsLater ∷ toy idle ∷ toy asksLater ∷ []) [] making echoes 42
       ∷ [])
-  -- "all 0 without a parent": a block of sequence 0 that refers to a block of its own site has no parent, and sends its own SEND
+  -- "all 0 without a parent": a block of sequence 0 that refers to a block of its own site has no parent, and sends its own SEND. Where a block
+  -- made a SEND and an ECHO, both are heard
   pub withoutParent : Campaign (sites 4) 0
       (first making sends 42
-      ∷ block 0 0 (toy first ∷ []) (request 0 43 ∷ []) making withEcho 42 (sends 43)
+      ∷ onFirst making withEcho 42 (sends 43)
+      ∷ block 1 0 (toy onFirst ∷ []) [] making echoes 43
       ∷ [])
+  -- and so are an ECHO and a READY of one block: the ECHO is the third that site 1 hears, the READY the second that site 2 hears
+  pub bothHeard : Campaign (sites 4) 0
+      (first making sends 42
+      ∷ echoing 0 making echoes 42
+      ∷ echoing 1 making echoes 42
+      ∷ echoing 2 making echoes 42
+      ∷ onAll making withReady 42 (echoes 42)
+      ∷ readying threeSites 0 making readies 42
+      ∷ block 1 1 (toy (echoing 1) ∷ toy (echoing 2) ∷ toy onAll ∷ []) [] making readies 42
+      ∷ block 2 1 (toy (echoing 2) ∷ toy (readying threeSites 0) ∷ toy onAll ∷ []) [] making readies 42
+      ∷ [])
+  -- "the messages made in the blocks directly referred to": what was sent before such a block was made is not among them
+  pub sentBefore : Campaign (sites 4) 0
+      (first making sends 42
+      ∷ echoing 0 making echoes 42
+      ∷ echoing 1 making echoes 42
+      ∷ echoing 2 making echoes 42
+      ∷ readying threeSites 0 making readies 42
+      ∷ readying threeSites 1 making readies 42
+      ∷ afterReadying making none
+      ∷ block 3 0 (toy afterReadying ∷ toy (readying threeSites 1) ∷ []) [] making none
+      ∷ [])
+  -- each slot has its own owner, for whom a SEND counts: site 1 in slot 1
+  pub ownerOfSlot : Campaign sharedOut 1 (inOwnSlot making sends 43 ∷ block 2 0 (toy inOwnSlot ∷ []) [] making echoes 43 ∷ [])
 
 -- ---- one message by itself
 

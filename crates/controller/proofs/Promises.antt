@@ -8,7 +8,7 @@ use lib.ListN.{length}
 use Rattle.base.specs.Bytes.{Bytes}
 use Rattle.base.specs.List.{countIn, thoseIn}
 use Rattle.sha256.specs.Sha256.{sha256}
-use Rattle.sha256.proofs.Laws.{sha256-length}
+use Rattle.sha256.proofs.Promises.{sha256-length}
 use Rattle.block.specs.Limits.{referenceSize}
 use Rattle.setup.specs.Setup.{Setup, lawful}
 use Rattle.agreement.specs.Run.{started}

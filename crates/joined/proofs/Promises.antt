@@ -11,7 +11,7 @@ use borrow.Author.Tests.{ltb-true, ltb-false}
 use Rattle.base.specs.Bytes.{Bytes}
 use Rattle.base.proofs.Tests.{by-test}
 use Rattle.sha256.specs.Sha256.{sha256}
-use Rattle.sha256.proofs.Laws.{sha256-length}
+use Rattle.sha256.proofs.Promises.{sha256-length}
 use Rattle.block.specs.Limits.{referenceSize}
 use Rattle.setup.specs.Setup.{Setup, lawful}
 use Rattle.table.specs.Layout.{setupOf, retiredOf, countOf}

@@ -11,7 +11,7 @@ use Rattle.base.specs.Bytes.{Bytes}
 use Rattle.block.specs.Limits.{slotCount}
 use Rattle.setup.specs.Setup.{Setup, lawful}
 use Rattle.sha256.specs.Sha256.{sha256}
-use Rattle.sha256.proofs.Laws.{sha256-length}
+use Rattle.sha256.proofs.Promises.{sha256-length}
 use Rattle.interpret.specs.Buffer.{bufferSize}
 use Rattle.agreement.specs.Ledger.{empty, ledgerAfter}
 use Rattle.agreement.specs.Run.{started, siteAfter}

@@ -10,7 +10,7 @@ use Rattle.base.specs.Bytes.{Bytes}
 use Rattle.block.specs.Limits.{slotCount}
 use Rattle.setup.specs.Setup.{Setup}
 use Rattle.sha256.specs.Sha256.{sha256}
-use Rattle.sha256.proofs.Laws.{sha256-length}
+use Rattle.sha256.proofs.Promises.{sha256-length}
 use Rattle.broadcast.specs.declared.SlotRecord.{SlotRecord}
 use Rattle.broadcast.proofs.Steps.Entry.{deliveryEntry}
 use Rattle.table.specs.Layout.{countOf, markAt}

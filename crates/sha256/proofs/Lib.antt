@@ -1,5 +1,4 @@
--- Laws for other crates, and what the proof of `digest` is made of.
+-- What the definition is held against, and what the proof of `digest` is made of.
 mod Hashing
-pub mod Laws
 mod Padded
-mod Worked
+pub mod Promises

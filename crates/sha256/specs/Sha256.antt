@@ -63,8 +63,8 @@ K =
     0x748f82ee ∷ 0x78a5636f ∷ 0x84c87814 ∷ 0x8cc70208 ∷ 0x90befffa ∷ 0xa4506ceb ∷ 0xbef9a3f7 ∷ 0xc67178f2 ∷ []
 
 -- 5.1.1 Padding the message: the message, a one bit, the fewest zero bits that leave 64 bits of a block, and in these the message's length
--- in bits. The byte 0x80 is the one bit and seven zero bits, and `zeros` counts the zero bytes after it (`zeros-fill` and `zeros-least` of
--- proofs/Laws.antt show that they are the fewest).
+-- in bits. The byte 0x80 is the one bit and seven zero bits, and `zeros` counts the zero bytes after it (`zerosFill` and `zerosLeast` of
+-- specs/Promises.antt say that they are the fewest).
 -- The length is the bit count modulo 2 ^ 64: the bit count itself for every message that the standard admits, and so defined for those of
 -- 2 ^ 61 bytes and more too.
 unfoldable pub zeros : ℕ → ℕ

@@ -1,9 +1,11 @@
 // One message by itself, on a record of numbers of which most were never sent or heard: interpretation makes no message of number 0 or of a site
 // that there is not, and no SEND of a site that is not the owner. A line has the record's 40 numbers after the message.
+use crate::campaigns::wide;
 use crate::line::Line;
 use broadcast::Kind;
 use broadcast::Sent;
 use broadcast::SlotRecord;
+use setup::MAX_SITES;
 
 // SEND 1 was sent. Sites 0 and 9 were heard with 42, though n 4 has no site 9, and four numbers stand for what was made.
 fn before() -> SlotRecord {
@@ -27,28 +29,32 @@ fn before() -> SlotRecord {
 
 fn sent_numbers(line: Line, sent: Sent) -> Line {
     line.byte(b' ')
-        .number(sent.send as usize)
+        .number(wide(sent.send))
         .byte(b' ')
-        .number(sent.echo as usize)
+        .number(wide(sent.echo))
         .byte(b' ')
-        .number(sent.ready as usize)
+        .number(wide(sent.ready))
         .byte(b' ')
-        .number(sent.delivered as usize)
+        .number(wide(sent.delivered))
 }
 
 fn heard_numbers(line: Line, heard: &[u16]) -> Line {
     let mut numbers = line;
     for i in 0..heard.len() {
-        numbers = numbers.byte(b' ').number(heard[i] as usize);
+        numbers = numbers.byte(b' ').number(wide(heard[i]));
     }
     numbers
+}
+
+fn heard_of_each(line: Line, heard: [u16; MAX_SITES]) -> Line {
+    heard_numbers(line, &heard)
 }
 
 fn show_record(name: &[u8], r: SlotRecord) {
     let echoes = r.echoes;
     let readies = r.readies;
     let sent = sent_numbers(Line::new().text(name).byte(b':'), r.sent);
-    let heard = heard_numbers(heard_numbers(sent, &echoes), &readies);
+    let heard = heard_of_each(heard_of_each(sent, echoes), readies);
     sent_numbers(heard, r.made).show();
 }
 

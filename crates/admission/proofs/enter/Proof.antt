@@ -9,7 +9,7 @@ use borrow.Author.Tests.{eq-eqb, ne-eqb, ltb-true}
 use Rattle.base.specs.Mask.{inMask}
 use Rattle.base.specs.Bytes.{Bytes}
 use Rattle.sha256.specs.Sha256.{sha256}
-use Rattle.sha256.proofs.Laws.{sha256-length}
+use Rattle.sha256.proofs.Promises.{sha256-length}
 use Rattle.block.specs.Limits.{headerSize, referenceSize, maxReferences}
 use Rattle.block.specs.Layout.{referenceCount, referenceList, requestsIn, countedRequest}
 use Rattle.block.specs.Reading.{fieldsOf}
