@@ -41,7 +41,7 @@ pub record Readable (t b : Bytes) (verdict : ℕ) : Type 0 where
 abbrev pub HeldAt : Bytes → Bytes → ℕ → Type 0
 HeldAt t d place = (place < countOf t) × (digestAt t place ≡ d)
 
--- some place does
+-- some place holds the digest
 abbrev pub DigestHeld : Bytes → Bytes → Type 0
 DigestHeld t d = (place : ℕ) × HeldAt t d place
 
@@ -49,7 +49,7 @@ DigestHeld t d = (place : ℕ) × HeldAt t d place
 abbrev pub MissingAt : Bytes → Bytes → ℕ → Type 0
 MissingAt t b i = (i < referenceCount b) × (DigestHeld t (referenceAt (referenceList b) i) → ⊥)
 
--- some reference of it is not
+-- some reference of the block is held at no place
 abbrev pub ReferenceMissing : Bytes → Bytes → Type 0
 ReferenceMissing t b = (i : ℕ) × MissingAt t b i
 

@@ -1,6 +1,6 @@
 // A block's bytes: reading, the entries of its two lists, and writing; and answers in a lent buffer. Promises: reading is document 01's,
-// every block that the reader accepts is the one encoding of its content, and writing gives that encoding (specs/Codec.antt). Assumes
-// nothing of the bytes: any are read or refused.
+// each refusal comes under its cause and under no other (specs/Promises.antt), every block that the reader accepts is the one encoding of
+// its content, and writing gives that encoding (specs/Codec.antt). Assumes nothing of the bytes: any are read or refused.
 pub mod answers;
 pub mod references;
 pub mod requests;

@@ -1,12 +1,12 @@
 -- Each refusal of the watch comes under its cause and under no other, and what is answered beside a refusal and without one. Assumes nothing.
 use mathlib.Core.Path.{_≡_, refl, sym, ap, _∙_}
 use mathlib.Core.Bool.{true, false}
-use mathlib.Core.Logic.{_↔_, Iff·trans}
+use mathlib.Core.Logic.{_↔_, _≢_, Iff·trans}
 use Prim.Native.Nat.{ℕ, _≤_, _<_}
 use native.Mathlib.Omega.{arith}
 use lib.Count.{ones}
 use lib.Dec.{eqb}
-use borrow.Author.Tests.{eqb-true, ltb-true, lt-ltb, ltb-false, le-ltb}
+use borrow.Author.Tests.{eqb-true, ne-eqb, ltb-true, lt-ltb, ltb-false, le-ltb}
 use Rattle.base.specs.Bytes.{Bytes}
 use Rattle.base.proofs.Tests.{by-test, not-true-false}
 use Rattle.table.specs.Layout.{setupOf, countOf, viewOf}
@@ -33,6 +33,17 @@ module _ (t : Bytes) where
     λ e. not-true-false (inForm t) (λ y. absurd (omega (arith, e, ap (λ (r : ForkedSites). r .refusal) (forks-reported y)))),
     λ n. ap (λ (r : ForkedSites). r .refusal) (forks-refused n),
   )
+
+  pub forks-none : (forks t .refusal ≡ 0) ↔ (inForm t ≡ true)
+  forks-none = (
+    λ e. by-test (inForm t) (λ y. y) (λ n. absurd (omega (arith, e, ap (λ (r : ForkedSites). r .refusal) (forks-refused n)))),
+    λ y. ap (λ (r : ForkedSites). r .refusal) (forks-reported y),
+  )
+
+  pub no-sites : forks t .refusal ≢ 0 → (forks t .sites ≡ 0) × (forks t .count ≡ 0)
+  no-sites n =
+      let e = forks-refused (not-true-false (inForm t) (λ y. n (forks-none .1 y))) in
+      (ap (λ (r : ForkedSites). r .sites) e, ap (λ (r : ForkedSites). r .count) e)
 
   -- ---- ancestors
 
@@ -70,3 +81,8 @@ module _ (t : Bytes) where
 
     pub ancestors-none : (ancestors t i .refusal ≡ 0) ↔ ((inForm t ≡ true) × (i < countOf t))
     ancestors-none = Iff·trans (same-number 0) answer-none
+
+    pub no-places : ancestors t i .refusal ≢ 0 → (ancestors t i .places ≡ 0) × (ancestors t i .count ≡ 0)
+    no-places n =
+        let e = ancestors-refused (ne-eqb (ancestorAnswer t i .refusal) 0 (λ z. n (same-number 0 .1 z))) in
+        (ap (λ (r : AncestorPlaces). r .places) e, ap (λ (r : AncestorPlaces). r .count) e)

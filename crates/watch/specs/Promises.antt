@@ -1,7 +1,7 @@
 -- What the watch promises beyond its two equations; proofs/Promises.antt shows it.
 use mathlib.Core.Path.{_≡_}
 use mathlib.Core.Bool.{Bool, true, false}
-use mathlib.Core.Logic.{_↔_}
+use mathlib.Core.Logic.{_↔_, _≢_}
 use Prim.Native.Nat.{ℕ, _≤_, _<_}
 use Rattle.base.specs.Count.{countBelow}
 use Rattle.base.specs.Mask.{inMask}
@@ -26,9 +26,13 @@ pub record Shares (v : View) (seen : ℕ → Bool) (p : ℕ) : Type 0 where
 pub record Promises : Type 0 where
   -- each refusal comes under its cause and under no other
   pub two : (t : Bytes) → (forks t .refusal ≡ 2) ↔ (inForm t ≡ false)
+  pub forksNone : (t : Bytes) → (forks t .refusal ≡ 0) ↔ (inForm t ≡ true)
   pub ancestorsTwo : (t : Bytes) (i : ℕ) → (ancestors t i .refusal ≡ 2) ↔ (inForm t ≡ false)
   pub thirteen : (t : Bytes) (i : ℕ) → (ancestors t i .refusal ≡ 13) ↔ ((inForm t ≡ true) × (countOf t ≤ i))
   pub none : (t : Bytes) (i : ℕ) → (ancestors t i .refusal ≡ 0) ↔ ((inForm t ≡ true) × (i < countOf t))
+  -- beside a refusal mask and count are 0
+  pub noSites : (t : Bytes) → forks t .refusal ≢ 0 → (forks t .sites ≡ 0) × (forks t .count ≡ 0)
+  pub noPlaces : (t : Bytes) (i : ℕ) → ancestors t i .refusal ≢ 0 → (ancestors t i .places ≡ 0) × (ancestors t i .count ≡ 0)
   -- the mask's bits are exactly the sites that forked
   pub forked : (t : Bytes) → inForm t ≡ true → (p : ℕ) → (inMask (forks t .sites) p ≡ true) ↔ Shares (viewOf t) everywhere p
   -- the count is how many they are, and the last field whether that is at most f
