@@ -26,4 +26,4 @@ pub mod Steady
 pub mod Stays
 pub mod Shown
 pub mod Agreed
-pub mod Tied
+pub mod TextKept

@@ -13,7 +13,7 @@ use Rattle.base.proofs.Tests.{true-not-false}
 use Rattle.report.specs.declared.Field.{Field}
 use Rattle.report.specs.declared.Field.the-variants.{Number}
 use Rattle.report.specs.Text.{ascii, space, lineFeed, fieldText, ending, line, names}
-use Rattle.report.specs.Lines.{linesAfter, linesOf}
+use Rattle.report.specs.Lines.{linesAfter, linesIn}
 use Rattle.report.proofs.Legible.{Plain, field-plain}
 
 -- whether the text's only line feed is its last byte
@@ -41,7 +41,7 @@ abbrev pub AllLines : List Bytes → Type 0
 AllLines [] = Unit {0}
 AllLines (x ∷ xs) = (isLine x ≡ true) × AllLines xs
 
-pub split-all : (xs : List Bytes) → AllLines xs → linesOf (joined xs) ≡ xs
+pub split-all : (xs : List Bytes) → AllLines xs → linesIn (joined xs) ≡ xs
 unfolding joined linesAfter
 split-all [] l = refl
 split-all (x ∷ xs) l = split-line x (l .0) [] (joined xs) ∙ ap (λ (ys : List Bytes). x ∷ ys) (split-all xs (l .1))

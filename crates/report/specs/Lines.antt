@@ -1,5 +1,5 @@
--- What stands in the text of a listing: `Shows` of specs/Agreed.antt is a line of it, and no other line shows a delivery; proofs/Tied.antt shows
--- it.
+-- What stands in the text of a listing: what `Shows` of specs/Agreed.antt says is shown is a line of it, and no other line shows a delivery.
+-- proofs/TextKept.antt shows it.
 use mathlib.Core.Path.{_≡_}
 use mathlib.Core.Bool.{true, cond}
 use mathlib.Core.Logic.{_↔_, _≢_, _⊎_}
@@ -27,8 +27,8 @@ linesAfter before [] = []
 linesAfter before (c ∷ rest) =
     cond (eqb c lineFeed) ((before ++ (c ∷ [])) ∷ linesAfter [] rest) (linesAfter (before ++ (c ∷ [])) rest)
 
-abbrev pub linesOf : Bytes → List Bytes
-linesOf text = linesAfter [] text
+abbrev pub linesIn : Bytes → List Bytes
+linesIn text = linesAfter [] text
 
 -- the text of a delivery's line is that of no other delivery's, of no refusal's, and not the names
 pub record Legible (d : Delivery) : Type 0 where
@@ -46,20 +46,20 @@ module _ (buffer : List ℕ) (input : Bytes) where
     pub delivery : Delivery
     pub inSlot : delivery .slot ≡ slot
     pub isNumber : delivery .number ≡ v
-    pub stands : List·Memᴰ (deliveryLine delivery) (linesOf text)
+    pub stands : List·Memᴰ (deliveryLine delivery) (linesIn text)
 
-  pub record Tied : Type 0 where
+  pub record TextKeeps : Type 0 where
     -- the text is its lines, with nothing behind the last
-    pub whole : joined (linesOf text) ≡ text
+    pub whole : joined (linesIn text) ≡ text
     -- each is the line of names, a delivery's or a refusal's
-    pub kinds : (line : Bytes) → List·Memᴰ line (linesOf text)
+    pub kinds : (line : Bytes) → List·Memᴰ line (linesIn text)
         → (line ≡ names) ⊎ (((d : Delivery) × (line ≡ deliveryLine d)) ⊎ ((what : Field) × (refusal : ℕ) × (line ≡ refusalLine what refusal)))
     -- and of a delivery's the text says which one
     pub legible : (d : Delivery) → Legible d
     -- of a lawful setup a delivery's line stands there for each number that is shown, and no other delivery's does
     pub shown : lawful (setupIn input) ≡ true → (slot v : ℕ) → slot < slotCount
         → Shows (started (setupIn input) buffer) (arrivalsIn (drop setupSize input)) slot v ↔ LineShows slot v
-    pub slots : (d : Delivery) → List·Memᴰ (deliveryLine d) (linesOf text) → d .slot < slotCount
+    pub slots : (d : Delivery) → List·Memᴰ (deliveryLine d) (linesIn text) → d .slot < slotCount
 
 -- two inputs of one lawful setup, each listed with a record buffer of any content
 module _ (buffer₁ buffer₂ : List ℕ) (input₁ input₂ : Bytes) where
@@ -73,5 +73,5 @@ module _ (buffer₁ buffer₂ : List ℕ) (input₁ input₂ : Bytes) where
   pub record OneNumber : Type 0 where
     -- where at most f sites forked, the deliveries' lines of the two texts have one number for a slot
     pub oneNumber : lawful setup ≡ true → setupIn input₂ ≡ setup → NoCollision sha256 admitted → countBelow (forked admitted) (setup .sites) ≤ faults (setup .sites)
-        → (d e : Delivery) → List·Memᴰ (deliveryLine d) (linesOf (text buffer₁ input₁)) → List·Memᴰ (deliveryLine e) (linesOf (text buffer₂ input₂))
+        → (d e : Delivery) → List·Memᴰ (deliveryLine d) (linesIn (text buffer₁ input₁)) → List·Memᴰ (deliveryLine e) (linesIn (text buffer₂ input₂))
         → d .slot ≡ e .slot → d .number ≡ e .number

@@ -18,7 +18,7 @@ use Rattle.report.specs.Text.{names, refusalLine, setupLine, deliveryLin
 use Rattle.report.specs.Arrivals.{Arrival, setupSize, setupIn, arrivalsIn}
 use Rattle.report.specs.Listing.{listing}
 use Rattle.report.specs.Agreed.{Shows}
-use Rattle.report.specs.Lines.{linesOf, text, LineShows, Tied, OneNumber}
+use Rattle.report.specs.Lines.{linesIn, text, LineShows, TextKeeps, OneNumber}
 use Rattle.report.proofs.Legible.{legible}
 use Rattle.report.proofs.Split.{AllLines, split-all, names-line}
 use Rattle.report.proofs.Texts.{Delivers, Refuses, refusal-is-line, textsFrom, texts-joined, texts-lines, texts-kinds, shown-line, line-shown}
@@ -49,8 +49,8 @@ module _ (buffer : List ℕ) (input : Bytes) where
   unfolding further
   further-lines = by-test (lawful setup) (λ y. rw y (texts-lines 0 site all)) (λ n. rw n (refusal-is-line Empty 1, tt))
 
-  lines-are : linesOf (text buffer input) ≡ names ∷ further
-  lines-are = ap linesOf text-joined ∙ split-all (names ∷ further) (names-line, further-lines)
+  lines-are : linesIn (text buffer input) ≡ names ∷ further
+  lines-are = ap linesIn text-joined ∙ split-all (names ∷ further) (names-line, further-lines)
 
   further-kinds : (line : Bytes) → List·Memᴰ line further → Delivers line ⊎ Refuses line
   unfolding further
@@ -59,7 +59,7 @@ module _ (buffer : List ℕ) (input : Bytes) where
       (λ y. rw y (texts-kinds 0 site all line))
       (λ n. rw n (λ m. elim (List·Memᴰ·cases-cons m) [ inl q ↦ inr (record { what = Empty; refusal = 1; text = q }) | inr z ↦ absurd (List·Memᴰ·not-nil z) ]))
 
-  kinds : (line : Bytes) → List·Memᴰ line (linesOf (text buffer input))
+  kinds : (line : Bytes) → List·Memᴰ line (linesIn (text buffer input))
       → (line ≡ names) ⊎ (((d : Delivery) × (line ≡ deliveryLine d)) ⊎ ((what : Field) × (refusal : ℕ) × (line ≡ refusalLine what refusal)))
   kinds line m = elim (List·Memᴰ·cases-cons (subst (List·Memᴰ line) lines-are m)) [
     | inl q ↦ inl q
@@ -67,10 +67,10 @@ module _ (buffer : List ℕ) (input : Bytes) where
   ]
 
   -- a delivery's line stands behind that of the names
-  behind-names : (d : Delivery) → List·Memᴰ (deliveryLine d) (linesOf (text buffer input)) → List·Memᴰ (deliveryLine d) further
+  behind-names : (d : Delivery) → List·Memᴰ (deliveryLine d) (linesIn (text buffer input)) → List·Memᴰ (deliveryLine d) further
   behind-names d m = elim (List·Memᴰ·cases-cons (subst (List·Memᴰ (deliveryLine d)) lines-are m)) [ inl q ↦ absurd (legible d .notNames q) | inr n ↦ n ]
 
-  low-slot : (d : Delivery) → List·Memᴰ (deliveryLine d) (linesOf (text buffer input)) → d .slot < slotCount
+  low-slot : (d : Delivery) → List·Memᴰ (deliveryLine d) (linesIn (text buffer input)) → d .slot < slotCount
   low-slot d m = elim (further-kinds (deliveryLine d) (behind-names d m)) [
     | inl w ↦ subst (λ (e : Delivery). e .slot < slotCount) (sym (legible d .delivery (w .made) (w .text))) (w .low)
     | inr w ↦ absurd (legible d .notRefusal (w .what) (w .refusal) (w .text))
@@ -81,7 +81,7 @@ module _ (buffer : List ℕ) (input : Bytes) where
     unfolding further
     further-lawful = rw law
 
-    line-shows : (d : Delivery) → List·Memᴰ (deliveryLine d) (linesOf (text buffer input)) → Shows site all (d .slot) (d .number)
+    line-shows : (d : Delivery) → List·Memᴰ (deliveryLine d) (linesIn (text buffer input)) → Shows site all (d .slot) (d .number)
     line-shows d m = line-shown 0 site all d (subst (List·Memᴰ (deliveryLine d)) further-lawful (behind-names d m))
 
     shows-line : (slot v : ℕ) → slot < slotCount → Shows site all slot v → LineShows buffer input slot v
@@ -94,8 +94,8 @@ module _ (buffer : List ℕ) (input : Bytes) where
           stands = subst (List·Memᴰ (deliveryLine (w .0))) (sym lines-are) (List·Memᴰ·tail (subst (List·Memᴰ (deliveryLine (w .0))) (sym further-lawful) (w .1 .1 .1)));
         }
 
-  pub tied : Tied buffer input
-  tied =
+  pub text-keeps : TextKeeps buffer input
+  text-keeps =
       record {
         whole = ap joined lines-are ∙ sym text-joined;
         kinds = kinds;
