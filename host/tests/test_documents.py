@@ -13,11 +13,12 @@ def test_the_theorems_are_quoted_word_for_word():
     page = (ROOT / "docs" / "AGREEMENT.md").read_text(encoding="utf-8")
     crates = ROOT / "crates"
     stated = [crates / "agreement" / "specs" / "Promises.antt", crates / "agreement" / "specs" / "Watched.antt",
-              crates / "report" / "specs" / "Agreed.antt", *sorted((crates / "arrival" / "specs").glob("*.antt")),
+              crates / "report" / "specs" / "Agreed.antt", crates / "report" / "specs" / "Lines.antt",
+              *sorted((crates / "arrival" / "specs").glob("*.antt")),
               crates / "controller" / "specs" / "Promises.antt", crates / "joined" / "specs" / "Promises.antt"]
     sources = [path.read_text(encoding="utf-8") for path in stated]
     quoted = re.findall(r"```antt\n(.*?)```", page, re.DOTALL)
-    expect(len(quoted) == 20, f"{len(quoted)} quotations")
+    expect(len(quoted) == 22, f"{len(quoted)} quotations")
     for text in quoted:
         expect(any(text in source for source in sources), text)
 

@@ -59,6 +59,7 @@ values =
     record {
       ownSite = site-answers (sites 4) refl _ _ refl;
       besideParent = site-answers (sites 4) refl _ _ refl;
+      ownLater = site-answers (sites 4) refl _ _ refl;
       oneFork = site-answers (sites 4) refl _ _ refl;
       otherSite = site-answers (sites 4) refl _ _ refl;
       highByte = site-answers (sites 4) refl _ _ refl;

@@ -1,6 +1,6 @@
 -- What sites build from small tables, and the order of the checks, by computing. Assumes nothing.
 use mathlib.Core.Path.{refl}
-use Rattle.cases.specs.Building.{BuildingOrderCases, BuildingCases}
+use Rattle.cases.specs.Building.{returnedRow, returned, BuildingOrderCases, BuildingCases}
 use Rattle.cases.proofs.Opened.{openedWatch}
 
 pub order : BuildingOrderCases
@@ -17,7 +17,7 @@ order =
     }
 
 pub building : BuildingCases
-unfolding openedWatch
+unfolding openedWatch returnedRow returned
 building =
     record {
       lastSequence = refl;
@@ -32,6 +32,8 @@ building =
       firstBlock = refl;
       nextOne = refl;
       greatestFirst = refl;
+      greatestNotLast = refl;
+      greatestNotLastBuilt = refl;
       sixteen = refl;
       fifteenOthers = refl;
     }

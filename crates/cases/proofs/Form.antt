@@ -20,6 +20,7 @@ form =
       sameDigest = refl;
       siteFour = refl;
       itself = refl;
+      higherHeld = refl;
       beyond = refl;
       markTwo = refl;
       referenceMarked = refl;

@@ -2,6 +2,7 @@
 pub mod Toy
 pub mod Told
 pub mod Opened
+pub mod TableBytes
 pub mod Form
 pub mod Full
 pub mod Admission
@@ -11,6 +12,7 @@ pub mod Building
 pub mod Starred
 pub mod Thresholds
 pub mod Traps
+pub mod Messages
 pub mod Process
 pub mod Records
 pub mod Premises
@@ -23,3 +25,4 @@ pub mod Joins
 pub mod Retiring
 pub mod TakingBack
 pub mod Encoding
+pub mod Listing

@@ -19,7 +19,7 @@ use Rattle.agreement.proofs.Theorem.{promised}
 use Rattle.cases.specs.Toy.{toy}
 use Rattle.cases.specs.Run.{callsOf, answersOf}
 use Rattle.cases.specs.Blocks.{sites}
-use Rattle.cases.specs.Premises.{firstTurns, secondTurns, firstBuffer, secondBuffer, firstLedger, secondLedger, Met, PremiseCases}
+use Rattle.cases.specs.Premises.{firstTurns, secondTurns, firstBuffer, secondBuffer, firstLedger, secondLedger, Met, ForkedCases, PremiseCases}
 use Rattle.cases.proofs.Toy.{toyDigest}
 use Rattle.cases.proofs.Told.{told, ledgerFrom, whole, answers-told, ledger-told}
 use Rattle.cases.proofs.Opened.{openedLedger}
@@ -81,6 +81,10 @@ met-by-both =
 
 theorem : Promised toy (sites 4) firstBuffer secondBuffer (callsOf firstTurns) (callsOf secondTurns)
 theorem = promised toy (toyDigest .size) (sites 4) lawful-setup firstBuffer secondBuffer (callsOf firstTurns) (callsOf secondTurns)
+
+pub forkedCases : ForkedCases
+unfolding openedLedger someIn forked
+forkedCases = record { otherHighByte = refl; bothBytes = refl }
 
 pub premises : PremiseCases
 premises =

@@ -1,9 +1,9 @@
--- The rows of one slot's process hold, and those of single messages. Assumes nothing.
+-- The rows of one slot's process hold. Assumes nothing.
 use mathlib.Core.Path.{refl}
 use native.Mathlib.Omega.{arith}
 use Rattle.cases.specs.Blocks.{sites}
 use Rattle.cases.specs.Traps.{sharedOut}
-use Rattle.cases.specs.Process.{silent, asksLater, hearsLater, branching, branchingOn, readyOfTwo, echoesOfOthers, threeReadiesTwoEchoes, readyOfOne, otherOfOne, otherOfTwo, afterThird, otherReadyingThree, afterReadyingThree, onFirst, onAll, afterReadying, inOwnSlot, aside, ProcessCases, MessageCases}
+use Rattle.cases.specs.Process.{silent, asksLater, hearsLater, branching, branchingOn, readyOfTwo, echoesOfOthers, threeReadiesTwoEchoes, readyOfOne, otherOfOne, otherOfTwo, afterThird, otherReadyingThree, afterReadyingThree, onFirst, onAll, afterReadying, inOwnSlot, aside, ProcessCases}
 use Rattle.cases.proofs.Opened.{openedLedger}
 use Rattle.cases.proofs.Told.{campaign}
 
@@ -32,20 +32,4 @@ process =
       bothHeard = campaign (sites 4) 0 _ refl (omega arith) refl refl refl;
       sentBefore = campaign (sites 4) 0 _ refl (omega arith) refl refl refl;
       ownerOfSlot = campaign sharedOut 1 _ refl (omega arith) refl refl refl;
-    }
-
-pub messages : MessageCases
-unfolding openedLedger
-messages =
-    record {
-      sendOfOther = λ r. refl;
-      noNumber = λ r kind. refl;
-      senderFour = λ r kind. refl;
-      senderLast = λ r kind. refl;
-      seventeenSites = λ r kind. refl;
-      echoOneShort = refl;
-      readyOneShort = refl;
-      deliveryOneShort = refl;
-      readyThoughDelivered = refl;
-      notedThoughDelivered = refl;
     }

@@ -2,7 +2,7 @@
 use mathlib.Core.Path.{_≡_, refl, ap}
 use mathlib.Core.Bool.{Bool, true, false}
 use mathlib.Core.Logic.{inr}
-use mathlib.Core.List.{List, [], _++_}
+use mathlib.Core.List.{List, [], _∷_, _++_, List·Memᴰ·head}
 use Prim.Native.Nat.{ℕ, _<_}
 use native.Mathlib.Omega.{arith}
 use lib.Dec.{eqb}
@@ -22,7 +22,7 @@ use Rattle.agreement.specs.Promises.{forked, NoCollision, RetiredClear, history
 use Rattle.agreement.proofs.Theorem.{promised}
 use Rattle.cases.specs.Toy.{toy}
 use Rattle.cases.specs.Run.{Turn, callsOf, answersOf, ledgerLeft, siteLeft, zeros}
-use Rattle.cases.specs.Blocks.{sites, four}
+use Rattle.cases.specs.Blocks.{sites, fork, four}
 use Rattle.cases.specs.Watch.{naming}
 use Rattle.cases.specs.Arrivals.{tableOf}
 use Rattle.cases.specs.Joins.{rising}
@@ -117,12 +117,18 @@ afterwardsCases =
       newly = ap (λ (l : Ledger). viewIn toy l .row 2 .refersTo 1) (is-left afterwards refl);
     }
 
+-- what was retired
+fork-retired : ledgerLeft (sites 4) forkRetired .retired ≡ fork ∷ []
+unfolding openedTurns
+fork-retired = ap (λ (l : Ledger). l .retired) (is-left forkRetired refl)
+
 pub forkRetiredCases : ForkRetiredCases
 unfolding openedTurns
 forkRetiredCases =
     record {
       taken = session (sites 4) forkRetired refl refl;
       stillForked = ap (λ (l : Ledger). forked (l .blocks) 0) (is-left forkRetired refl);
+      stillInterpreted = inr (rw fork-retired (List·Memᴰ·head refl));
     }
 
 -- ---- the campaign that goes on

@@ -10,6 +10,7 @@ pub thresholds : ThresholdCases
 unfolding openedLedger
 thresholds =
     record {
+      siteCounts = refl;
       faultsOf = refl;
       echoQuorums = refl;
       readyAmplifications = refl;

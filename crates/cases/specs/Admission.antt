@@ -94,6 +94,15 @@ pub record ValueCases : Type 0 where
   -- and one of sequence 2, beside its parent
   pub besideParent :
       answers toy fresh (good first ∷ good second ∷ good (block 0 2 (toy first ∷ toy second ∷ []) []) ∷ []) ≡ placed 0 ∷ placed 1 ∷ placed 2 ∷ []
+  -- and of a higher sequence number, or of the same beside its parent
+  pub ownLater :
+      answers toy fresh
+      (good first
+      ∷ good second
+      ∷ good (block 0 0 (toy second ∷ []) (request 0 44 ∷ []))
+      ∷ good (block 0 1 (toy first ∷ toy second ∷ []) [])
+      ∷ [])
+      ≡ placed 0 ∷ placed 1 ∷ placed 2 ∷ placed 3 ∷ []
   -- a fork that is held and not among the references does not count
   pub oneFork :
       answers toy fresh (good first ∷ good fork ∷ good (block 0 1 (toy fork ∷ []) []) ∷ []) ≡ placed 0 ∷ placed 1 ∷ placed 2 ∷ []

@@ -2,12 +2,14 @@
 use mathlib.Core.Path.{_≡_}
 use mathlib.Core.Bool.{false}
 use mathlib.Core.List.{[], _∷_, _++_}
-use Prim.Native.Nat.{ℕ, _+_}
+use Prim.Native.Nat.{ℕ, zero, suc, _+_}
+use lib.Dec.{eqb}
 use lib.ListN.{replicate}
 use Rattle.base.specs.Bytes.{Bytes}
 use Rattle.base.specs.List.{listBelow}
 use Rattle.block.specs.Limits.{blockSize, maxReferences, maxRequestListSize}
 use Rattle.block.specs.Layout.{referencesOf}
+use Rattle.table.specs.View.{Row}
 use Rattle.table.specs.Layout.{siteOffset, rowStart, viewOf, layout}
 use Rattle.table.specs.Checks.{success, refused}
 use Rattle.watch.specs.Forks.{everywhere}
@@ -15,6 +17,7 @@ use Rattle.build.specs.Building.{nextBlock, building, built}
 use Rattle.cases.specs.Toy.{toy, request, block}
 use Rattle.cases.specs.Blocks.{sites, fresh, unlawful, first, fork, third, fourth, numbered, four, holding}
 use Rattle.cases.specs.Form.{changed, referring}
+use Rattle.cases.specs.Watch.{interpretedRow}
 
 -- the bytes of a request
 abbrev pub asking : ℕ → ℕ → Bytes
@@ -26,11 +29,18 @@ room size = replicate size 9
 
 -- a table that has retired something and holds k blocks of site 0, all interpreted, of this sequence number
 abbrev pub numberedTo : ℕ → ℕ → Bytes
-numberedTo k sequence = layout (sites 4) (record {
-  retired = 1;
-  held = k;
-  row = λ i. record { digest = toy (numbered i); site = 0; sequence = sequence; refersTo = λ j. false; request = λ slot. 0; mark = 1 };
-})
+numberedTo k sequence = layout (sites 4) (record { retired = 1; held = k; row = λ i. interpretedRow i 0 sequence (λ j. false) })
+
+-- such a table: a block of site 1, one of site 2 that refers to it, one of site 3 that refers to this one; and site 3's first block, which was
+-- retired and is admitted again
+unfoldable pub returnedRow : ℕ → Row
+returnedRow zero = interpretedRow 0 1 0 (λ j. false)
+returnedRow (suc zero) = interpretedRow 1 2 0 (λ j. eqb j 0)
+returnedRow (suc (suc zero)) = interpretedRow 2 3 2 (λ j. eqb j 1)
+returnedRow (suc (suc (suc i))) = interpretedRow 3 3 0 (λ j. false)
+
+unfoldable pub returned : Bytes
+returned = layout (sites 4) (record { retired = 1; held = 4; row = returnedRow })
 
 -- "Checks 2, 4, 3, 6, 16, 17", and 30 "straight after 16": a row for each two neighbours. Of the two calls the first has both causes and gets
 -- the earlier number; in the second only the earlier cause is mended, and it gets the later number.
@@ -73,6 +83,10 @@ pub record BuildingCases : Type 0 where
   -- its greatest block first, then what none of its blocks refers to directly: place 1 is referred to by place 2 alone, which now refers to
   -- nothing
   pub greatestFirst : nextBlock everywhere (viewOf (referring four 2 0)) 3 [] ≡ block 3 2 (toy fourth ∷ toy fork ∷ []) []
+  -- "one more than its greatest", "its greatest block first", though it is not the last; then what no block of the site refers to directly, though it
+  -- is an ancestor, and no other block of its own
+  pub greatestNotLast : nextBlock everywhere (viewOf returned) 3 [] ≡ block 3 3 (toy (numbered 2) ∷ toy (numbered 0) ∷ []) []
+  pub greatestNotLastBuilt : building returned 3 [] (room 69) ≡ success 69
   -- "up to 16 in all"
   pub sixteen : referencesOf (nextBlock everywhere (viewOf (holding 18)) 1 []) ≡ listBelow (λ i. toy (numbered i)) maxReferences
   -- of 16 others 15 are left beside its own greatest block

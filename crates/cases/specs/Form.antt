@@ -56,8 +56,9 @@ pub record FormCases : Type 0 where
   pub sameDigest : inForm (splice four (rowStart 3) (digestAt four 0)) ≡ false
   -- "sites below n"
   pub siteFour : inForm (changed four (rowStart 1 + siteOffset) 4) ≡ false
-  -- "references only to lower places": to itself, and to a place from the count on
+  -- "references only to lower places": to itself, to a higher place that is held, and to one from the count on
   pub itself : inForm (referring four 0 1) ≡ false
+  pub higherHeld : inForm (referring four 0 4) ≡ false
   pub beyond : inForm (referring four 0 (2 ^ 63)) ≡ false
   -- interpreted or not
   pub markTwo : inForm (marked four 0 2) ≡ false

@@ -1,8 +1,9 @@
--- Cases of document 01's rules, of those of requests Three, Eight, Eleven and Twelve, and of lists of calls in bytes: how they are written down,
--- how they are run, and what each gives.
+-- Cases of document 01's rules, of those of requests Three, Eight, Eleven and Twelve, and of bytes written out: how they are written down, how
+-- they are run, and what each gives.
 pub mod Toy
 pub mod Run
 pub mod Blocks
+pub mod TableBytes
 pub mod Form
 pub mod Admission
 pub mod Interpretation
@@ -11,6 +12,7 @@ pub mod Building
 pub mod Starred
 pub mod Thresholds
 pub mod Traps
+pub mod Messages
 pub mod Process
 pub mod Records
 pub mod Premises
@@ -22,3 +24,4 @@ pub mod Joins
 pub mod Retiring
 pub mod TakingBack
 pub mod Encoding
+pub mod Listing

@@ -17,7 +17,7 @@ use Rattle.agreement.specs.Ledger.{Ledger}
 use Rattle.agreement.specs.Ledger.Call.{interpret}
 use Rattle.agreement.specs.Run.{started, siteAnswers}
 use Rattle.agreement.specs.Promises.{forked, Interpreted, NoCollision, Delivered, ledgerOf, siteWith}
-use Rattle.cases.specs.Toy.{toy, block}
+use Rattle.cases.specs.Toy.{toy, request, block}
 use Rattle.cases.specs.Run.{good, judged, placed, done, Turn, _giving_, callsOf, answersOf}
 use Rattle.cases.specs.Blocks.{sites, first, fork, third, threeSites, echoing, readying, delivering}
 
@@ -120,6 +120,11 @@ pub record Met (l₁ l₂ : Ledger) : Type 0 where
   pub firstInterpreted : Interpreted l₁ 5
   pub secondInterpreted : Interpreted l₂ 8
   pub sameBlock : l₁ .block 5 ≡ l₂ .block 8
+
+-- "two different blocks of one sequence number": both bytes of it
+pub record ForkedCases : Type 0 where
+  pub otherHighByte : forked (block 0 1 [] [] ∷ block 0 257 [] [] ∷ []) 0 ≡ false
+  pub bothBytes : forked (block 0 257 [] [] ∷ block 0 257 [] (request 0 1 ∷ []) ∷ []) 0 ≡ true
 
 pub record PremiseCases : Type 0 where
   pub firstAnswers : siteAnswers toy (started (sites 4) firstBuffer) (callsOf firstTurns) ≡ answersOf firstTurns

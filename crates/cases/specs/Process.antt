@@ -1,23 +1,25 @@
 -- Document 01, "One slot's process" and "Interpreting a place": rows for sentences that a wrong rule could break while the small skies, the
 -- thresholds and the traps stay as they are. Where nothing else is said site 0 owns the slot. The digest is the toy one.
-use mathlib.Core.Path.{_≡_}
 use mathlib.Core.List.{List, [], _∷_, map}
-use Prim.Native.Nat.{ℕ}
 use Rattle.base.specs.Bytes.{Bytes}
-use Rattle.broadcast.specs.declared.Kind.{Kind}
-use Rattle.broadcast.specs.declared.Kind.the-variants.{Send, Echo, Ready}
-use Rattle.broadcast.specs.declared.Sent.{Sent}
-use Rattle.broadcast.specs.declared.SlotRecord.{SlotRecord}
-use Rattle.broadcast.specs.Record.{none, withEcho, withReady, withDelivered, inBoth, noteEcho, noteReady}
-use Rattle.broadcast.specs.Process.{received}
+use Rattle.broadcast.specs.Record.{none, withEcho, withReady, withDelivered}
 use Rattle.cases.specs.Toy.{toy, request, block}
-use Rattle.cases.specs.Run.{Campaign, _making_, sends, echoes, readies, delivers, readiesAndDelivers}
+use Rattle.cases.specs.Run.{Campaign, Step, _making_, sends, echoes, readies, delivers, readiesAndDelivers}
 use Rattle.cases.specs.Blocks.{sites, first, fork, third, threeSites, echoing, readying}
 use Rattle.cases.specs.Starred.{chained, twoReadies}
 use Rattle.cases.specs.Thresholds.{oneToFive, threeReadies}
 use Rattle.cases.specs.Traps.{mark, otherEchoing, otherReadying, idle, readyingThree, sharedOut}
 
 -- ---- the blocks
+
+-- the first block, ECHO 42 of sites 0 to 2, and what follows
+abbrev pub echoed : List Step → List Step
+echoed rest =
+    first making sends 42
+    ∷ echoing 0 making echoes 42
+    ∷ echoing 1 making echoes 42
+    ∷ echoing 2 making echoes 42
+    ∷ rest
 
 -- site 0 requests nothing in its first block, and 42 in its second
 unfoldable pub silent : Bytes
@@ -103,34 +105,25 @@ pub record ProcessCases : Type 0 where
       ∷ [])
   -- "Supporters, for ECHO and READY each by itself": n 4, ECHO of two sites and READY of a third: no READY, no delivery
   pub echoesAndReady : Campaign (sites 4) 0
-      (first making sends 42
-      ∷ echoing 0 making echoes 42
-      ∷ echoing 1 making echoes 42
-      ∷ echoing 2 making echoes 42
-      ∷ readying threeSites 2 making readies 42
+      (echoed
+      (readying threeSites 2 making readies 42
       ∷ block 3 0 (toy (echoing 0) ∷ toy (echoing 1) ∷ toy (readying threeSites 2) ∷ []) [] making none
-      ∷ [])
+      ∷ []))
   -- the same with READY first and the ECHOs a block later; the third ECHO, of the site that READY came from, brings READY
   pub readyThenEchoes : Campaign (sites 4) 0
-      (first making sends 42
-      ∷ echoing 0 making echoes 42
-      ∷ echoing 1 making echoes 42
-      ∷ echoing 2 making echoes 42
-      ∷ readying threeSites 2 making readies 42
+      (echoed
+      (readying threeSites 2 making readies 42
       ∷ readyOfTwo making none
       ∷ echoesOfOthers making none
       ∷ block 3 2 (toy echoesOfOthers ∷ toy (echoing 2) ∷ []) [] making readies 42
-      ∷ [])
+      ∷ []))
   -- n 4, READY of two sites and ECHO of a third: READY, no delivery
   pub readiesAndEcho : Campaign (sites 4) 0
-      (first making sends 42
-      ∷ echoing 0 making echoes 42
-      ∷ echoing 1 making echoes 42
-      ∷ echoing 2 making echoes 42
-      ∷ readying threeSites 1 making readies 42
+      (echoed
+      (readying threeSites 1 making readies 42
       ∷ readying threeSites 2 making readies 42
       ∷ block 3 0 (toy (echoing 0) ∷ toy (readying threeSites 1) ∷ toy (readying threeSites 2) ∷ []) [] making readies 42
-      ∷ [])
+      ∷ []))
   -- n 7, READY of three sites and ECHO of two others: READY, no delivery; a block later its own READY and ECHO of two more: no delivery
   pub readiesThenEchoes : Campaign (sites 7) 0
       (first making sends 42
@@ -148,11 +141,8 @@ pub record ProcessCases : Type 0 where
   -- "READY v from p, none heard from p": a second READY of site 1, of another number, is not noted; what was noted first stays, and with READY
   -- 42 of site 0 it has its two
   pub otherReady : Campaign (sites 4) 0
-      (first making sends 42
-      ∷ echoing 0 making echoes 42
-      ∷ echoing 1 making echoes 42
-      ∷ echoing 2 making echoes 42
-      ∷ readying threeSites 0 making readies 42
+      (echoed
+      (readying threeSites 0 making readies 42
       ∷ readying threeSites 1 making readies 42
       ∷ fork making sends 43
       ∷ otherEchoing 0 making echoes 43
@@ -164,7 +154,7 @@ pub record ProcessCases : Type 0 where
       ∷ otherOfOne making none
       ∷ otherOfTwo making none
       ∷ block 3 3 (toy otherOfTwo ∷ toy (readying threeSites 0) ∷ []) [] making readies 42
-      ∷ [])
+      ∷ []))
   -- READY and delivery by one message: n 1, where one READY is enough for both
   pub readyAndDelivery : Campaign (sites 1) 0
       (chained 0 making sends 7
@@ -221,37 +211,28 @@ pub record ProcessCases : Type 0 where
       ∷ [])
   -- "SEND v from the owner, ECHO not sent: send ECHO v": whatever else was sent. Its own READY, heard here, is the third
   pub echoAfterReady : Campaign (sites 4) 0
-      (first making sends 42
-      ∷ echoing 0 making echoes 42
-      ∷ echoing 1 making echoes 42
-      ∷ echoing 2 making echoes 42
-      ∷ readying threeSites 0 making readies 42
+      (echoed
+      (readying threeSites 0 making readies 42
       ∷ readying threeSites 1 making readies 42
       ∷ twoReadies making readies 42
       ∷ block 3 1 (toy twoReadies ∷ toy first ∷ []) [] making withDelivered 42 (echoes 42)
-      ∷ [])
+      ∷ []))
   -- and delivered
   pub echoAfterDelivery : Campaign (sites 4) 0
-      (first making sends 42
-      ∷ echoing 0 making echoes 42
-      ∷ echoing 1 making echoes 42
-      ∷ echoing 2 making echoes 42
-      ∷ readying threeSites 0 making readies 42
+      (echoed
+      (readying threeSites 0 making readies 42
       ∷ readying threeSites 1 making readies 42
       ∷ readying threeSites 2 making readies 42
       ∷ threeReadies making readiesAndDelivers 42
       ∷ block 3 1 (toy threeReadies ∷ toy first ∷ []) [] making echoes 42
-      ∷ [])
+      ∷ []))
   -- and heard, the owner's ECHO too. The third ECHO brings READY, and a fourth, a block later, none: "and READY isn't sent"
   pub echoAfterEchoes : Campaign (sites 4) 0
-      (first making sends 42
-      ∷ echoing 0 making echoes 42
-      ∷ echoing 1 making echoes 42
-      ∷ echoing 2 making echoes 42
-      ∷ readyingThree making readies 42
+      (echoed
+      (readyingThree making readies 42
       ∷ afterReadyingThree making echoes 42
       ∷ block 3 2 (toy afterReadyingThree ∷ []) [] making none
-      ∷ [])
+      ∷ []))
   -- "entries 0 to 35 of the parent's record": a block of another site with the sequence number one less, though listed first, is no parent
   pub parentOfSite : Campaign (sites 4) 0
       (silent making none
@@ -269,59 +250,19 @@ pub record ProcessCases : Type 0 where
       ∷ [])
   -- and so are an ECHO and a READY of one block: the ECHO is the third that site 1 hears, the READY the second that site 2 hears
   pub bothHeard : Campaign (sites 4) 0
-      (first making sends 42
-      ∷ echoing 0 making echoes 42
-      ∷ echoing 1 making echoes 42
-      ∷ echoing 2 making echoes 42
-      ∷ onAll making withReady 42 (echoes 42)
+      (echoed
+      (onAll making withReady 42 (echoes 42)
       ∷ readying threeSites 0 making readies 42
       ∷ block 1 1 (toy (echoing 1) ∷ toy (echoing 2) ∷ toy onAll ∷ []) [] making readies 42
       ∷ block 2 1 (toy (echoing 2) ∷ toy (readying threeSites 0) ∷ toy onAll ∷ []) [] making readies 42
-      ∷ [])
+      ∷ []))
   -- "the messages made in the blocks directly referred to": what was sent before such a block was made is not among them
   pub sentBefore : Campaign (sites 4) 0
-      (first making sends 42
-      ∷ echoing 0 making echoes 42
-      ∷ echoing 1 making echoes 42
-      ∷ echoing 2 making echoes 42
-      ∷ readying threeSites 0 making readies 42
+      (echoed
+      (readying threeSites 0 making readies 42
       ∷ readying threeSites 1 making readies 42
       ∷ afterReadying making none
       ∷ block 3 0 (toy afterReadying ∷ toy (readying threeSites 1) ∷ []) [] making none
-      ∷ [])
+      ∷ []))
   -- each slot has its own owner, for whom a SEND counts: site 1 in slot 1
   pub ownerOfSlot : Campaign sharedOut 1 (inOwnSlot making sends 43 ∷ block 2 0 (toy inOwnSlot ∷ []) [] making echoes 43 ∷ [])
-
--- ---- one message by itself
-
--- heard of sites 0 and 1, and 42 of site 9, which n 4 does not have
-abbrev pub heard : ℕ → ℕ → List ℕ
-heard first second = first ∷ second ∷ 0 ∷ 0 ∷ 0 ∷ 0 ∷ 0 ∷ 0 ∷ 0 ∷ 42 ∷ 0 ∷ 0 ∷ 0 ∷ 0 ∷ 0 ∷ 0 ∷ []
-
--- what was sent, the ECHOs and the READYs heard, and nothing made
-abbrev pub having : Sent → List ℕ → List ℕ → SlotRecord
-having sent echoes readies = record { sent = sent; echoes = echoes; readies = readies; made = none }
-
--- n 4, and site 0 owns the slot
-pub record MessageCases : Type 0 where
-  -- "SEND v from the owner": "From others: nothing", on a record of any content
-  pub sendOfOther : (r : SlotRecord) → received r 4 0 Send 1 42 ≡ r
-  -- "A message of number 0 .. changes nothing"
-  pub noNumber : (r : SlotRecord) (kind : Kind) → received r 4 0 kind 0 0 ≡ r
-  -- "or from a sender not below n": the first such, though it be the owner, and the last
-  pub senderFour : (r : SlotRecord) (kind : Kind) → received r 4 4 kind 4 42 ≡ r
-  pub senderLast : (r : SlotRecord) (kind : Kind) → received r 4 0 kind 255 42 ≡ r
-  -- no setup has more than 16 sites, and a record has no entry for a seventeenth
-  pub seventeenSites : (r : SlotRecord) (kind : Kind) → received r 17 16 kind 16 42 ≡ r
-  -- "the sites below n whose heard entry is v": site 9 supports nothing, so that each number is one short
-  pub echoOneShort : received (having none (heard 42 0) (heard 0 0)) 4 0 Echo 1 42 ≡ having none (heard 42 42) (heard 0 0)
-  pub readyOneShort : received (having none (heard 0 0) (heard 0 0)) 4 0 Ready 0 42 ≡ having none (heard 0 0) (heard 42 0)
-  pub deliveryOneShort :
-      received (having (withReady 42 none) (heard 0 0) (heard 42 0)) 4 0 Ready 1 42 ≡ having (withReady 42 none) (heard 0 0) (heard 42 42)
-  -- "and READY isn't sent" is all that READY asks beside its supporters, "and nothing is delivered" all that delivery asks
-  pub readyThoughDelivered :
-      received (having (withDelivered 9 none) (heard 42 42) (heard 0 0)) 4 0 Echo 2 42
-      ≡ inBoth (withReady 42) (noteEcho 2 42 (having (withDelivered 9 none) (heard 42 42) (heard 0 0)))
-  pub notedThoughDelivered :
-      received (having (withDelivered 9 (withReady 8 none)) (heard 42 42) (heard 42 42)) 4 0 Ready 2 42
-      ≡ noteReady 2 42 (having (withDelivered 9 (withReady 8 none)) (heard 42 42) (heard 42 42))

@@ -23,7 +23,7 @@ use Rattle.build.specs.Building.{nextBlock}
 use Rattle.agreement.specs.Ledger.{viewIn}
 use Rattle.agreement.specs.Ledger.Call.{interpret, retire}
 use Rattle.agreement.specs.Run.{siteAnswers}
-use Rattle.agreement.specs.Promises.{forked}
+use Rattle.agreement.specs.Promises.{forked, InterpretedBlock}
 use Rattle.cases.specs.Toy.{toy, request, block}
 use Rattle.cases.specs.Run.{good, placed, done, answers, Turn, _giving_, ledgerLeft, siteLeft, Session, Step, _making_, sends, echoes, readies, delivers, arriving}
 use Rattle.cases.specs.Blocks.{sites, fresh, unlawful, first, fork, second, fourSites, echoing, four}
@@ -198,6 +198,8 @@ forkRetired =
 pub record ForkRetiredCases : Type 0 where
   pub taken : Session (sites 4) forkRetired
   pub stillForked : forked (ledgerLeft (sites 4) forkRetired .blocks) 0 ≡ true
+  -- "the ledger then keeps the block and its mark, without a place": it is an interpreted one
+  pub stillInterpreted : InterpretedBlock (ledgerLeft (sites 4) forkRetired) fork
 
 -- ---- a campaign that goes on: four sites that all build by the rule and interpret everything, in rounds, retire four blocks after each round
 

@@ -1,10 +1,12 @@
 -- Document 01, "One slot's process": READY at exactly 2f + 1 ECHOs or f + 1 READYs and delivery at exactly 2f + 1 READYs, and none of them
 -- at one less, for n 4 (f 1) and n 7 (f 2). One site hears of the others' blocks, one after the other. The digest is the toy one.
 use mathlib.Core.Path.{_≡_}
+use mathlib.Core.Bool.{true, false}
 use mathlib.Core.List.{List, [], _∷_, map}
 use Prim.Native.Nat.{ℕ}
 use Rattle.base.specs.Bytes.{Bytes}
-use Rattle.setup.specs.Setup.{faults, echoQuorum, readyAmplification, readyQuorum}
+use Rattle.base.specs.List.{listBelow}
+use Rattle.setup.specs.Setup.{lawfulSites, faults, echoQuorum, readyAmplification, readyQuorum}
 use Rattle.broadcast.specs.Record.{none}
 use Rattle.cases.specs.Toy.{toy, block}
 use Rattle.cases.specs.Run.{Campaign, _making_, sends, echoes, readies, delivers, readiesAndDelivers}
@@ -48,6 +50,10 @@ unfoldable pub fiveReadies : Bytes
 fiveReadies = block 6 0 (map (λ p. toy (readying oneToFive p)) oneToFive) []
 
 pub record ThresholdCases : Type 0 where
+  -- "n is 1, 4, 7, 10, 13 or 16": 0 to 17
+  pub siteCounts :
+      listBelow lawfulSites 18
+      ≡ false ∷ true ∷ false ∷ false ∷ true ∷ false ∷ false ∷ true ∷ false ∷ false ∷ true ∷ false ∷ false ∷ true ∷ false ∷ false ∷ true ∷ false ∷ []
   -- f, 2f + 1 ECHOs, f + 1 READYs and 2f + 1 READYs for each n
   pub faultsOf : map faults lawfulCounts ≡ 0 ∷ 1 ∷ 2 ∷ 3 ∷ 4 ∷ 5 ∷ []
   pub echoQuorums : map echoQuorum lawfulCounts ≡ 1 ∷ 3 ∷ 5 ∷ 7 ∷ 9 ∷ 11 ∷ []

@@ -1,14 +1,18 @@
 -- The watch: document 01, "Watch for forks", on tables of four places. `four` holds two forks of site 0 at places 0 and 1, a block of site 3
 -- that refers to place 1 at place 2, and the one after it, which refers to places 0 and 2, at place 3.
 use mathlib.Core.Path.{_≡_}
-use mathlib.Core.Bool.{Bool, true, false}
-use Prim.Native.Nat.{ℕ, _+_}
-use Rattle.table.specs.Layout.{siteOffset, sequenceOffset, rowStart}
+use mathlib.Core.Bool.{Bool, true, false, cond}
+use Prim.Native.Nat.{ℕ, suc, _+_}
+use lib.Dec.{eqb}
+use Rattle.base.specs.Bytes.{Bytes}
+use Rattle.table.specs.View.{Row}
+use Rattle.table.specs.Layout.{siteOffset, sequenceOffset, rowStart, layout}
 use Rattle.watch.specs.Forks.{forks}
 use Rattle.watch.specs.Ancestors.{ancestors}
 use Rattle.watch.specs.declared.ForkedSites.{ForkedSites}
 use Rattle.watch.specs.declared.AncestorPlaces.{AncestorPlaces}
-use Rattle.cases.specs.Blocks.{fresh, unlawful, four}
+use Rattle.cases.specs.Toy.{toy}
+use Rattle.cases.specs.Blocks.{sites, fresh, unlawful, numbered, four}
 use Rattle.cases.specs.Form.{changed, referring, marked}
 
 -- a mask of sites, how many they are, and whether that is at most f
@@ -18,6 +22,19 @@ naming mask count few = record { refusal = 0; sites = mask; count = count; «at_
 -- a mask of places, and how many they are
 abbrev pub resting : ℕ → ℕ → AncestorPlaces
 resting mask count = record { refusal = 0; places = mask; count = count }
+
+-- an interpreted block without requests, of this site, sequence number and references, at place i
+abbrev pub interpretedRow : ℕ → ℕ → ℕ → (ℕ → Bool) → Row
+interpretedRow i site sequence refers =
+    record { digest = toy (numbered i); site = site; sequence = sequence; refersTo = refers; request = λ slot. 0; mark = 1 }
+
+-- a table that has retired something and holds two such blocks of site 0, of these sequence numbers
+unfoldable pub twoOf : ℕ → ℕ → Bytes
+twoOf one other = layout (sites 4) (record { retired = 1; held = 2; row = λ i. interpretedRow i 0 (cond (eqb i 0) one other) (λ j. false) })
+
+-- four blocks of site 0, each after the one before
+unfoldable pub fourInRow : Bytes
+fourInRow = layout (sites 4) (record { retired = 0; held = 4; row = λ i. interpretedRow i 0 i (λ j. eqb (suc j) i) })
 
 pub record WatchCases : Type 0 where
   pub nobody : forks fresh ≡ naming 0 0 true
@@ -29,11 +46,17 @@ pub record WatchCases : Type 0 where
   -- one sequence number of two sites, and two of one site
   pub otherSite : forks (changed four (rowStart 1 + siteOffset) 1) ≡ naming 0 0 true
   pub otherSequence : forks (changed (referring four 1 1) (rowStart 1 + sequenceOffset + 1) 1) ≡ naming 0 0 true
+  -- "one sequence number": both bytes of it
+  pub otherHighByte : forks (twoOf 1 257) ≡ naming 0 0 true
+  pub otherLowByte : forks (twoOf 257 258) ≡ naming 0 0 true
+  pub bothBytes : forks (twoOf 257 257) ≡ naming 1 1 true
   pub notInForm : forks unlawful ≡ record { refusal = 2; sites = 0; count = 0; «at_most_f» = false }
   -- no reference; one; one of which leads on
   pub nothing : ancestors four 0 ≡ resting 0 0
   pub direct : ancestors four 2 ≡ resting 2 1
   pub further : ancestors four 3 ≡ resting 7 3
+  -- the first of four in a row is three references away
+  pub threeAway : ancestors fourInRow 3 ≡ resting 7 3
   -- 2, then 13
   pub noForm : ancestors unlawful 0 ≡ record { refusal = 2; places = 0; count = 0 }
   pub notHeld : ancestors four 4 ≡ record { refusal = 13; places = 0; count = 0 }
