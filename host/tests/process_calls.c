@@ -56,6 +56,11 @@ typedef struct {
 /* Slot k is owned by site k, and slot k + 4 too. */
 #define SHARED_OUT {0, 1, 2, 3, 0, 1, 2, 3}
 
+/* The first four steps of many: the first block, and ECHO 42 of sites 0 to 2. */
+#define ECHOED \
+    [0] = {0, 0, {0, 42}, TO_NOTHING, SENDS(42)}, [1] = {0, 1, NO_REQUEST, TO(0), ECHOES(42)}, \
+    [2] = {1, 0, NO_REQUEST, TO(0), ECHOES(42)}, [3] = {2, 0, NO_REQUEST, TO(0), ECHOES(42)}
+
 /* An array of steps, as pointer and count. */
 #define OF(steps) steps, sizeof steps / sizeof steps[0]
 
@@ -146,19 +151,13 @@ static const step request_after_echo[] = {
 };
 
 static const step echoes_and_ready[] = {
-    [0] = {0, 0, {0, 42}, TO_NOTHING, SENDS(42)},
-    [1] = {0, 1, NO_REQUEST, TO(0), ECHOES(42)},
-    [2] = {1, 0, NO_REQUEST, TO(0), ECHOES(42)},
-    [3] = {2, 0, NO_REQUEST, TO(0), ECHOES(42)},
+    ECHOED,
     [4] = {2, 1, NO_REQUEST, TO(1, 2, 3), READIES(42)},
     [5] = {3, 0, NO_REQUEST, TO(1, 2, 4), NOTHING},
 };
 
 static const step ready_then_echoes[] = {
-    [0] = {0, 0, {0, 42}, TO_NOTHING, SENDS(42)},
-    [1] = {0, 1, NO_REQUEST, TO(0), ECHOES(42)},
-    [2] = {1, 0, NO_REQUEST, TO(0), ECHOES(42)},
-    [3] = {2, 0, NO_REQUEST, TO(0), ECHOES(42)},
+    ECHOED,
     [4] = {2, 1, NO_REQUEST, TO(1, 2, 3), READIES(42)},
     [5] = {3, 0, NO_REQUEST, TO(4), NOTHING},
     [6] = {3, 1, NO_REQUEST, TO(5, 1, 2), NOTHING},
@@ -166,10 +165,7 @@ static const step ready_then_echoes[] = {
 };
 
 static const step readies_and_echo[] = {
-    [0] = {0, 0, {0, 42}, TO_NOTHING, SENDS(42)},
-    [1] = {0, 1, NO_REQUEST, TO(0), ECHOES(42)},
-    [2] = {1, 0, NO_REQUEST, TO(0), ECHOES(42)},
-    [3] = {2, 0, NO_REQUEST, TO(0), ECHOES(42)},
+    ECHOED,
     [4] = {1, 1, NO_REQUEST, TO(1, 2, 3), READIES(42)},
     [5] = {2, 1, NO_REQUEST, TO(1, 2, 3), READIES(42)},
     [6] = {3, 0, NO_REQUEST, TO(1, 4, 5), READIES(42)},
@@ -190,10 +186,7 @@ static const step readies_then_echoes[] = {
 };
 
 static const step other_ready[] = {
-    [0] = {0, 0, {0, 42}, TO_NOTHING, SENDS(42)},
-    [1] = {0, 1, NO_REQUEST, TO(0), ECHOES(42)},
-    [2] = {1, 0, NO_REQUEST, TO(0), ECHOES(42)},
-    [3] = {2, 0, NO_REQUEST, TO(0), ECHOES(42)},
+    ECHOED,
     [4] = {0, 2, NO_REQUEST, TO(1, 2, 3), READIES(42)},
     [5] = {1, 1, NO_REQUEST, TO(1, 2, 3), READIES(42)},
     [6] = {0, 0, {0, 43}, TO_NOTHING, SENDS(43)},
@@ -263,10 +256,7 @@ static const step other_delivered[] = {
 };
 
 static const step echo_after_ready[] = {
-    [0] = {0, 0, {0, 42}, TO_NOTHING, SENDS(42)},
-    [1] = {0, 1, NO_REQUEST, TO(0), ECHOES(42)},
-    [2] = {1, 0, NO_REQUEST, TO(0), ECHOES(42)},
-    [3] = {2, 0, NO_REQUEST, TO(0), ECHOES(42)},
+    ECHOED,
     [4] = {0, 2, NO_REQUEST, TO(1, 2, 3), READIES(42)},
     [5] = {1, 1, NO_REQUEST, TO(1, 2, 3), READIES(42)},
     [6] = {3, 0, NO_REQUEST, TO(4, 5), READIES(42)},
@@ -274,10 +264,7 @@ static const step echo_after_ready[] = {
 };
 
 static const step echo_after_delivery[] = {
-    [0] = {0, 0, {0, 42}, TO_NOTHING, SENDS(42)},
-    [1] = {0, 1, NO_REQUEST, TO(0), ECHOES(42)},
-    [2] = {1, 0, NO_REQUEST, TO(0), ECHOES(42)},
-    [3] = {2, 0, NO_REQUEST, TO(0), ECHOES(42)},
+    ECHOED,
     [4] = {0, 2, NO_REQUEST, TO(1, 2, 3), READIES(42)},
     [5] = {1, 1, NO_REQUEST, TO(1, 2, 3), READIES(42)},
     [6] = {2, 1, NO_REQUEST, TO(1, 2, 3), READIES(42)},
@@ -286,10 +273,7 @@ static const step echo_after_delivery[] = {
 };
 
 static const step echo_after_echoes[] = {
-    [0] = {0, 0, {0, 42}, TO_NOTHING, SENDS(42)},
-    [1] = {0, 1, NO_REQUEST, TO(0), ECHOES(42)},
-    [2] = {1, 0, NO_REQUEST, TO(0), ECHOES(42)},
-    [3] = {2, 0, NO_REQUEST, TO(0), ECHOES(42)},
+    ECHOED,
     [4] = {3, 0, NO_REQUEST, TO(1, 2, 3), READIES(42)},
     [5] = {3, 1, NO_REQUEST, TO(4, 0), ECHOES(42)},
     [6] = {3, 2, NO_REQUEST, TO(5), NOTHING},
@@ -310,10 +294,7 @@ static const step without_parent[] = {
 };
 
 static const step both_heard[] = {
-    [0] = {0, 0, {0, 42}, TO_NOTHING, SENDS(42)},
-    [1] = {0, 1, NO_REQUEST, TO(0), ECHOES(42)},
-    [2] = {1, 0, NO_REQUEST, TO(0), ECHOES(42)},
-    [3] = {2, 0, NO_REQUEST, TO(0), ECHOES(42)},
+    ECHOED,
     [4] = {3, 0, NO_REQUEST, TO(0, 1, 2, 3), {.echo = 42, .ready = 42}},
     [5] = {0, 2, NO_REQUEST, TO(1, 2, 3), READIES(42)},
     [6] = {1, 1, NO_REQUEST, TO(2, 3, 4), READIES(42)},
@@ -321,10 +302,7 @@ static const step both_heard[] = {
 };
 
 static const step sent_before[] = {
-    [0] = {0, 0, {0, 42}, TO_NOTHING, SENDS(42)},
-    [1] = {0, 1, NO_REQUEST, TO(0), ECHOES(42)},
-    [2] = {1, 0, NO_REQUEST, TO(0), ECHOES(42)},
-    [3] = {2, 0, NO_REQUEST, TO(0), ECHOES(42)},
+    ECHOED,
     [4] = {0, 2, NO_REQUEST, TO(1, 2, 3), READIES(42)},
     [5] = {1, 1, NO_REQUEST, TO(1, 2, 3), READIES(42)},
     [6] = {0, 3, NO_REQUEST, TO(4), NOTHING},
@@ -380,10 +358,7 @@ static const step chain_of_four[] = {
 };
 
 static const step mixed[] = {
-    [0] = {0, 0, {0, 42}, TO_NOTHING, SENDS(42)},
-    [1] = {0, 1, NO_REQUEST, TO(0), ECHOES(42)},
-    [2] = {1, 0, NO_REQUEST, TO(0), ECHOES(42)},
-    [3] = {2, 0, NO_REQUEST, TO(0), ECHOES(42)},
+    ECHOED,
     [4] = {2, 1, NO_REQUEST, TO(1, 2, 3), READIES(42)},
     [5] = {0, 0, {0, 43}, TO_NOTHING, SENDS(43)},
     [6] = {0, 1, MARKED, TO(5), ECHOES(43)},

@@ -13,6 +13,7 @@ use Rattle.cases.specs.Run.{siteLeft, Step, _making_, sends, echoes, rea
 use Rattle.cases.specs.Blocks.{sites, first, fork, third, threeSites, echoing, readying}
 use Rattle.cases.specs.Starred.{chained}
 use Rattle.cases.specs.Traps.{otherEchoing, otherReadying, sharedOut}
+use Rattle.cases.specs.Process.{echoed}
 
 -- the 40 numbers of a slot among the 320 of a place
 abbrev pub numbersAt : List ℕ → ℕ → ℕ → List ℕ
@@ -46,11 +47,8 @@ hearsAll = block 3 1 (toy third ∷ toy (readying threeSites 2) ∷ toy (otherRe
 
 unfoldable pub mixed : List Step
 mixed =
-    first making sends 42
-    ∷ echoing 0 making echoes 42
-    ∷ echoing 1 making echoes 42
-    ∷ echoing 2 making echoes 42
-    ∷ readying threeSites 2 making readies 42
+    echoed
+    (readying threeSites 2 making readies 42
     ∷ fork making sends 43
     ∷ otherEchoing 0 making echoes 43
     ∷ otherEchoing 1 making echoes 43
@@ -58,7 +56,7 @@ mixed =
     ∷ otherReadying 1 making readies 43
     ∷ third making echoes 43
     ∷ hearsAll making readies 42
-    ∷ []
+    ∷ [])
 
 -- n 4, where site 1 owns slots 1 and 5: it requests 45 in slot 5
 unfoldable pub inSlotFive : List Step
