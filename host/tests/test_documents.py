@@ -12,9 +12,8 @@ from test_examples import EXPECTED, LISTINGS
 def test_the_theorems_are_quoted_word_for_word():
     page = (ROOT / "docs" / "AGREEMENT.md").read_text(encoding="utf-8")
     crates = ROOT / "crates"
-    stated = [crates / "agreement" / "specs" / "Promises.antt", crates / "agreement" / "specs" / "Watched.antt",
-              crates / "report" / "specs" / "Agreed.antt", crates / "report" / "specs" / "Lines.antt",
-              *sorted((crates / "arrival" / "specs").glob("*.antt")),
+    stated = [*sorted((crates / "agreement" / "specs").glob("*.antt")), *sorted((crates / "arrival" / "specs").glob("*.antt")),
+              crates / "run" / "specs" / "Promises.antt", crates / "report" / "specs" / "Lines.antt",
               crates / "controller" / "specs" / "Promises.antt", crates / "joined" / "specs" / "Promises.antt"]
     sources = [path.read_text(encoding="utf-8") for path in stated]
     quoted = re.findall(r"```antt\n(.*?)```", page, re.DOTALL)

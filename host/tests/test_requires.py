@@ -7,7 +7,7 @@ from programs import ROOT, expect
 
 NAMED = ["setup::lawful", "sha256::digest", "block::read_block", "table::fresh", "table::fresh_in", "table::in_form",
          "admission::admit", "broadcast::receive", "interpret::interpret", "watch::forks", "watch::ancestors", "build::build",
-         "agreement::replay", "retire::retire", "take_back::take_back", "shelf::in_form", "campaigns::arrive", "join::join",
+         "run::replay", "retire::retire", "take_back::take_back", "shelf::in_form", "campaigns::arrive", "join::join",
          "report::step", "report::gather"]
 
 

@@ -1,35 +1,40 @@
 -- Each refusal of a block comes under its cause and under no other, with the value that document 01 names, and there is none where every check
 -- holds. Assumes nothing.
 use mathlib.Core.Path.{_≡_, refl, sym, ap, _∙_, subst}
-use mathlib.Core.Bool.{Bool, true, false, cond}
-use mathlib.Core.Logic.{_↔_, _≢_, _⊎_, inl, inr, Iff·trans}
-use Prim.Native.Nat.{ℕ, _≤_, _<_}
+use mathlib.Core.Bool.{Bool, true, false}
+use mathlib.Core.Logic.{_↔_, _⊎_, inl, inr, Iff·rfl, Iff·trans, Iff·and}
+use mathlib.Core.List.{List, [], _∷_, _++_}
+use Prim.Native.Nat.{ℕ, _<_}
 use native.Mathlib.Omega.{arith}
 use lib.Dec.{eqb, ltb}
 use lib.ListN.{drop}
 use borrow.Author.Tests.{eq-eqb, ne-eqb, eqb-true, eqb-false, lt-ltb, le-ltb, ltb-true, ltb-false}
 use Rattle.base.specs.Search.{firstBelow, anyBelow, First}
+use Rattle.base.specs.List.{someIn}
 use Rattle.base.specs.Bytes.{Bytes}
-use Rattle.base.proofs.Tests.{true-not-false, not-true-false}
+use Rattle.base.proofs.Tests.{by-test}
 use Rattle.base.proofs.Search.{any-such, first-such}
 use Rattle.base.proofs.Bytes.{same-equal, equal-same}
+use Rattle.answer.specs.declared.Answer.{Answer}
+use Rattle.answer.specs.Checks.{Check, check, answerTo}
+use Rattle.answer.specs.Promises.{Passed, elsewhere, different, Decided}
+use Rattle.answer.proofs.Checks.{value-of, first-holds, first-fails, same-rest, valuedOnly, no-value, absent, present, missed}
+use Rattle.answer.proofs.Promises.{first-refused, second-refused, asOne, in-line, decided}
+use Rattle.setup.specs.Setup.{Setup}
 use Rattle.block.specs.Layout.{siteOf, referenceCount, referenceList, referenceAt}
 use Rattle.block.specs.Reading.{wellShaped, fieldsOf, reading, answerOf}
 use Rattle.block.specs.Promises.{Shaped}
-use Rattle.block.specs.declared.Answer.{Answer}
 use Rattle.block.specs.declared.Reading.{Reading}
 use Rattle.block.specs.declared.Reading.the-variants.{Block, Misshapen, BadRequest, RepeatedReference}
 use Rattle.block.proofs.Shape.{shaped, well-shaped}
 use Rattle.block.proofs.Accepted.{reading-accepted}
 use Rattle.block.proofs.Causes as reader
-use Rattle.table.specs.View.{maxPlaces}
+use Rattle.table.specs.View.{maxPlaces, View}
 use Rattle.table.specs.Layout.{setupOf, countOf, viewOf}
 use Rattle.table.specs.Rules.{hasDigest, placeOf}
 use Rattle.table.specs.Form.{inForm}
-use Rattle.table.specs.Checks.{answerTo}
 use Rattle.table.proofs.Formed.{formed-of}
-use Rattle.table.proofs.Checks.{none-refused, past-check, at-number, at-check, elsewhere, never-answered, value-beside, and-then, absent, present}
-use Rattle.admission.specs.Admission.{missing, admissionChecks, admission}
+use Rattle.admission.specs.Admission.{missing, heldChecks, admissionChecks, admission}
 use Rattle.admission.specs.Promises.{Whole, OfSite, Vouched, Readable, HeldAt, DigestHeld, MissingAt, ReferenceMissing, New, Linked, Parented, answer, Causes}
 
 -- ---- what each check says
@@ -60,8 +65,8 @@ module _ (t b : Bytes) where
   missing-first m = first-such (missing (viewOf t) b) (referenceCount b) (MissingAt t b) missing-means (reference-missing .1 m)
 
 -- the reader's number is 0 where it accepts
-reader-accepts : (b : Bytes) → (eqb (answerOf (reading b) .refusal) 0 ≡ true) ↔ (reading b ≡ Block (fieldsOf b))
-reader-accepts b = (λ e. go (reading b) refl (eqb-true _ _ e), λ e. rw e)
+reader-accepts : (b : Bytes) → (answerOf (reading b) .refusal ≡ 0) ↔ (reading b ≡ Block (fieldsOf b))
+reader-accepts b = (go (reading b) refl, λ e. rw e)
   where
     go : (r : Reading) → reading b ≡ r → answerOf r .refusal ≡ 0 → reading b ≡ Block (fieldsOf b)
     go (Block f) e z = e ∙ ap Block (reading-accepted b f e .fields)
@@ -73,210 +78,141 @@ reader-accepts b = (λ e. go (reading b) refl (eqb-true _ _ e), λ e. rw e)
 full : (t : Bytes) → inForm t ≡ true → (ltb (countOf t) maxPlaces ≡ false) ↔ (countOf t ≡ maxPlaces)
 full t f = (λ e. omega (arith, ltb-false (countOf t) maxPlaces e, formed-of t f .held .fits), λ e. le-ltb (countOf t) maxPlaces (omega arith))
 
--- ---- the checks in their order
+-- ---- the checks in their order, each by itself
 
--- n is none of the numbers 2 to m
-abbrev NotUpTo : ℕ → ℕ → Type 0
-NotUpTo m n = (k : ℕ) → 2 ≤ k → k ≤ m → k ≢ n
+module _ (digest : Bytes → Bytes) (formed : Bool) (s : Setup) (v : View) (b : Bytes) (verdict value : ℕ) where
+  -- the reader's checks after 3, and those of what is held
+  abbrev ownChecks : List Check
+  ownChecks = drop 1 (reader.checks b)
+
+  abbrev held : List Check
+  held = heldChecks digest v b
+
+  abbrev pub checks : List Check
+  checks = check 2 formed 0 ∷ check 3 (wellShaped b) 0 ∷ check 4 (ltb (siteOf b) (s .sites)) 0 ∷ check 5 (eqb verdict 1) 0 ∷ (ownChecks ++ held)
+
+  pub by-checks : answerTo (admissionChecks digest formed s v b verdict) value ≡ answerTo checks value
+  unfolding different elsewhere
+  by-checks =
+      same-rest _ _ _ _ (by-test (wellShaped b)
+      (λ y.
+      let own : answerOf (reading b) ≡ answerTo ownChecks 0 = reader.by-checks b ∙ first-holds _ _ 0 y in
+      same-rest _ _ _ _ (same-rest _ _ _ _ (same-rest _ _ _ _ (ap (λ (a : Answer). answerTo (asOne a ∷ held) value) own ∙ in-line ownChecks held value refl))))
+      (λ f. first-fails _ _ _ f ∙ sym (first-fails _ _ _ f)))
+
+  pub decided-by : Decided (answerTo (admissionChecks digest formed s v b verdict) value) checks value
+  unfolding different elsewhere
+  decided-by = rw by-checks (decided checks value refl)
 
 module _ (digest : Bytes → Bytes) (t b : Bytes) (verdict : ℕ) where
+  -- the reader's answer
+  abbrev read : Answer
+  read = answerOf (reading b)
+
+  abbrev all : List Check
+  all = checks digest (inForm t) (setupOf t) (viewOf t) b verdict (countOf t)
+
+  told : Decided (answer digest t b verdict) all (countOf t)
+  unfolding admission
+  told = decided-by digest (inForm t) (setupOf t) (viewOf t) b verdict (countOf t)
+
+  -- ---- what the first of them say
+
+  whole : Passed all 2 ↔ Whole t b
+  whole = (λ p. record { formed = p .0 .1; shape = shaped b (p .1) }, λ w. ((tt, w .formed), well-shaped b (w .shape)))
+
+  of-site : Passed all 3 ↔ OfSite t b
+  of-site = (λ p. record { isWhole = whole .0 (p .0); site = ltb-true _ _ (p .1) }, λ o. (whole .1 (o .isWhole), lt-ltb _ _ (o .site)))
+
+  vouched : Passed all 4 ↔ Vouched t b verdict
+  vouched = (λ p. record { ofSite = of-site .0 (p .0); link = eqb-true _ _ (p .1) }, λ v. (of-site .1 (v .ofSite), eq-eqb _ _ (v .link)))
+
+  -- a block that is vouched for has the shape that the reader's checks 6 and 7 want
+  shape-of : Vouched t b verdict → Passed (reader.checks b) 1
+  shape-of v = (tt, well-shaped b (v .ofSite .isWhole .shape))
+
+  readable : Passed all 6 ↔ Readable t b verdict
+  readable = (
+    λ p.
+        let v = vouched .0 (p .0 .0) in
+        let o = v .ofSite in
+        let accepted = reader-accepts b .0 (reader.told b .none .1 ((shape-of v, p .0 .1), p .1)) in
+        record { formed = o .isWhole .formed; site = o .site; link = v .link; accepted = accepted },
+    λ r.
+        let q = reader.told b .none .0 (reader-accepts b .1 (r .accepted)) in
+        let w : Whole t b = record { formed = r .formed; shape = shaped b (q .0 .0 .1) } in
+        ((vouched .1 (record { ofSite = record { isWhole = w; site = r .site }; link = r .link }), q .0 .1), q .1),
+  )
+
+  new : Passed all 7 ↔ New digest t b verdict
+  new =
+      let here = absent _ _ (digest-held t (digest b)) in
+      (λ p. record { readable = readable .0 (p .0); new = here .0 (p .1) }, λ n. (readable .1 (n .readable), here .1 (n .new)))
+
+  linked : Passed all 8 ↔ Linked digest t b verdict
+  linked =
+      let here = absent _ _ (reference-missing t b) in
+      (λ p. record { isNew = new .0 (p .0); found = here .0 (p .1) }, λ l. (new .1 (l .isNew), here .1 (l .found)))
+
+  parented : Passed all 9 ↔ Parented digest t b verdict
+  parented = (λ p. record { linked = linked .0 (p .0); parent = p .1 }, λ q. (linked .1 (q .linked), q .parent))
+
+  -- ---- each number
+
   abbrev number : ℕ
   number = answer digest t b verdict .refusal
 
   abbrev value : ℕ
   value = answer digest t b verdict .value
 
-  -- the reader's answer
-  abbrev read : Answer
-  read = answerOf (reading b)
-
-  -- the number that the checks after the first k answer
-  abbrev from : ℕ → ℕ
-  from k = answerTo (drop k (admissionChecks digest (inForm t) (setupOf t) (viewOf t) b verdict)) (countOf t) .refusal
-
-  -- a number that check 2 does not answer says that it holds, one that check 3 does not answer either that both hold, and so on
-  past-two : (n : ℕ) → NotUpTo 2 n → (number ≡ n) ↔ ((inForm t ≡ true) × (from 1 ≡ n))
-  unfolding admission
-  past-two n out = past-check _ _ _ n (λ _. out 2 (omega arith) (omega arith))
-
-  past-three : (n : ℕ) → NotUpTo 3 n → (number ≡ n) ↔ (Whole t b × (from 2 ≡ n))
-  past-three n out = Iff·trans (and-then (past-two n (λ k l h. out k l (omega arith))) (past-check _ _ _ n (λ _. out 3 (omega arith) (omega arith)))) (
-    λ p. (record { formed = p .0; shape = shaped b (p .1 .0) }, p .1 .1),
-    λ p. (p .0 .formed, (well-shaped b (p .0 .shape), p .1)),
+  six : (number ≡ 6) ↔ (Vouched t b verdict × (read .refusal ≡ 6))
+  six = Iff·trans (told .refused 4 (omega arith)) (
+    λ p. let v = vouched .0 (p .0) in (v, reader.told b .refused 1 (omega arith) .1 (shape-of v, p .1)),
+    λ p. (vouched .1 (p .0), reader.told b .refused 1 (omega arith) .0 (p .1) .1),
   )
 
-  past-four : (n : ℕ) → NotUpTo 4 n → (number ≡ n) ↔ (OfSite t b × (from 3 ≡ n))
-  past-four n out = Iff·trans (and-then (past-three n (λ k l h. out k l (omega arith))) (past-check _ _ _ n (λ _. out 4 (omega arith) (omega arith)))) (
-    λ p. (record { isWhole = p .0; site = ltb-true _ _ (p .1 .0) }, p .1 .1),
-    λ p. (p .0 .isWhole, (lt-ltb _ _ (p .0 .site), p .1)),
+  seven : (number ≡ 7) ↔ (Vouched t b verdict × (read .refusal ≡ 7))
+  seven = Iff·trans (told .refused 5 (omega arith)) (
+    λ p. let v = vouched .0 (p .0 .0) in (v, reader.told b .refused 2 (omega arith) .1 ((shape-of v, p .0 .1), p .1)),
+    λ p. let q = reader.told b .refused 2 (omega arith) .0 (p .1) in ((vouched .1 (p .0), q .0 .1), q .1),
   )
-
-  past-five : (n : ℕ) → NotUpTo 5 n → (number ≡ n) ↔ (Vouched t b verdict × (from 4 ≡ n))
-  past-five n out = Iff·trans (and-then (past-four n (λ k l h. out k l (omega arith))) (past-check _ _ _ n (λ _. out 5 (omega arith) (omega arith)))) (
-    λ p. (record { ofSite = p .0; link = eqb-true _ _ (p .1 .0) }, p .1 .1),
-    λ p. (p .0 .ofSite, (eq-eqb _ _ (p .0 .link), p .1)),
-  )
-
-  past-seven : (n : ℕ) → NotUpTo 7 n → (number ≡ n) ↔ (Readable t b verdict × (from 5 ≡ n))
-  past-seven n out = Iff·trans (and-then (past-five n (λ k l h. out k l (omega arith))) (past-check _ _ _ n other)) (
-    λ p.
-        let o = p .0 .ofSite in
-        (record { formed = o .isWhole .formed; site = o .site; link = p .0 .link; accepted = reader-accepts b .0 (p .1 .0) }, p .1 .1),
-    λ p.
-        let r = p .0 in
-        let shape = reading-accepted b (fieldsOf b) (r .accepted) .accepted .shape in
-        (record { ofSite = record { isWhole = record { formed = r .formed; shape = shape }; site = r .site }; link = r .link }, (reader-accepts b .1 (r .accepted), p .1)),
-  )
-    where
-      other : eqb (read .refusal) 0 ≡ false → read .refusal ≢ n
-      other f q =
-          reader.other-number (reading b) n (λ z. eqb-false (read .refusal) 0 f (q ∙ sym z)) (out 3 (omega arith) (omega arith))
-          (out 6 (omega arith) (omega arith)) (out 7 (omega arith) (omega arith)) q
-
-  past-eight : (n : ℕ) → NotUpTo 8 n → (number ≡ n) ↔ (New digest t b verdict × (from 6 ≡ n))
-  past-eight n out =
-      let here = absent _ _ (digest-held t (digest b)) in
-      Iff·trans (and-then (past-seven n (λ k l h. out k l (omega arith))) (past-check _ _ _ n (λ e. out 8 (omega arith) (omega arith)))) (
-        λ p. (record { readable = p .0; new = here .0 (p .1 .0) }, p .1 .1),
-        λ p. (p .0 .readable, (here .1 (p .0 .new), p .1)),
-      )
-
-  past-nine : (n : ℕ) → NotUpTo 9 n → (number ≡ n) ↔ (Linked digest t b verdict × (from 7 ≡ n))
-  past-nine n out =
-      let here = absent _ _ (reference-missing t b) in
-      Iff·trans (and-then (past-eight n (λ k l h. out k l (omega arith))) (past-check _ _ _ n (λ e. out 9 (omega arith) (omega arith)))) (
-        λ p. (record { isNew = p .0; found = here .0 (p .1 .0) }, p .1 .1),
-        λ p. (p .0 .isNew, (here .1 (p .0 .found), p .1)),
-      )
-
-  past-ten : (n : ℕ) → NotUpTo 10 n → (number ≡ n) ↔ (Parented digest t b verdict × (from 8 ≡ n))
-  past-ten n out =
-      Iff·trans (and-then (past-nine n (λ k l h. out k l (omega arith))) (past-check _ _ _ n (λ e. out 10 (omega arith) (omega arith)))) (
-        λ p. (record { linked = p .0; parent = p .1 .0 }, p .1 .1),
-        λ p. (p .0 .linked, (p .0 .parent, p .1)),
-      )
-
-  -- ---- each number
-
-  -- the reader answers none of the numbers before its own, but 3 where check 3 does
-  not-read : (n : ℕ) → 0 ≢ n → 3 ≢ n → 6 ≢ n → 7 ≢ n → eqb (read .refusal) n ≡ false
-  not-read n z a c d = ne-eqb (read .refusal) n (reader.other-number (reading b) n z a c d)
-
-  later-three : wellShaped b ≡ true → from 2 ≢ 3
-  unfolding elsewhere
-  later-three y = never-answered 3 _ _ (rw (ne-eqb (read .refusal) 3 (λ e. reader.causes b .three .0 e (shaped b y))))
-
-  two : (number ≡ 2) ↔ (inForm t ≡ false)
-  unfolding admission elsewhere
-  two = at-check _ _ _ (never-answered 2 _ _ (rw (not-read 2 (λ e. omega arith) (λ e. omega arith) (λ e. omega arith) (λ e. omega arith))))
-
-  three : (number ≡ 3) ↔ ((inForm t ≡ true) × (Shaped b → ⊥))
-  three = and-then (past-two 3 (λ k l h e. omega arith)) (Iff·trans (at-number _ _ _ 3 later-three) (
-    λ p s. true-not-false (well-shaped b s) (p .0),
-    λ n. (not-true-false (wellShaped b) (λ y. n (shaped b y)), refl),
-  ))
-
-  four : (number ≡ 4) ↔ (Whole t b × (setupOf t .sites ≤ siteOf b))
-  unfolding elsewhere
-  four = and-then (past-three 4 (λ k l h e. omega arith))
-      (Iff·trans (at-check _ _ _ (never-answered 4 _ _ (rw (not-read 4 (λ e. omega arith) (λ e. omega arith) (λ e. omega arith) (λ e. omega arith))))) (ltb-false _ _, le-ltb _ _))
-
-  five : (number ≡ 5) ↔ (OfSite t b × (verdict ≢ 1))
-  unfolding elsewhere
-  five = and-then (past-four 5 (λ k l h e. omega arith))
-      (Iff·trans (at-check _ _ _ (never-answered 5 _ _ (rw (not-read 5 (λ e. omega arith) (λ e. omega arith) (λ e. omega arith) (λ e. omega arith))))) (eqb-false _ _, ne-eqb _ _))
-
-  -- the reader's own
-  own : (n : ℕ) → NotUpTo 5 n → 0 ≢ n → from 5 ≢ n → (number ≡ n) ↔ (Vouched t b verdict × (read .refusal ≡ n))
-  own n out some later =
-      and-then (past-five n out)
-      (Iff·trans (at-number _ _ _ n (λ _. later)) (λ p. p .1, λ e. (ne-eqb (read .refusal) 0 (λ z. some (sym z ∙ e)), e)))
 
   eight : (number ≡ 8) ↔ (Readable t b verdict × DigestHeld t (digest b))
-  unfolding elsewhere
-  eight = and-then (past-seven 8 (λ k l h e. omega arith)) (Iff·trans (at-check _ _ _ (never-answered 8 _ _ refl)) (present _ _ (digest-held t (digest b))))
+  eight = Iff·trans (told .refused 6 (omega arith)) (Iff·and readable (present _ _ (digest-held t (digest b))))
 
   nine : (number ≡ 9) ↔ (New digest t b verdict × ReferenceMissing t b)
-  unfolding elsewhere
-  nine = and-then (past-eight 9 (λ k l h e. omega arith)) (Iff·trans (at-check _ _ _ (never-answered 9 _ _ refl)) (present _ _ (reference-missing t b)))
-
-  -- ---- the value beside each
-
-  -- what the table of refusals names beside n, where the reader has answered a
-  abbrev named : Answer → ℕ → ℕ
-  named a n =
-      cond (eqb n 0) (countOf t)
-      (cond (eqb n 6) (a .value)
-      (cond (eqb n 7) (a .value)
-      (cond (eqb n 8) (placeOf (viewOf t) (countOf t) (digest b))
-      (cond (eqb n 9) (firstBelow (missing (viewOf t) b) (referenceCount b)) 0))))
-
-  reader-named : (r : Reading) → answerOf r .refusal ≢ 0 → answerOf r .value ≡ named (answerOf r) (answerOf r .refusal)
-  reader-named (Block f) n = absurd (n refl)
-  reader-named Misshapen n = refl
-  reader-named (BadRequest i) n = refl
-  reader-named (RepeatedReference i) n = refl
-
-  value-named : value ≡ named read number
-  unfolding admission
-  value-named =
-      value-beside number (named read number) _ (countOf t) (
-        λ _. ap (named read),
-        (
-          λ _. ap (named read),
-          (
-            λ _. ap (named read),
-            (
-              λ _. ap (named read),
-              (
-                λ f e. reader-named (reading b) (eqb-false _ 0 f) ∙ ap (named read) e,
-                (
-                  λ _. ap (named read),
-                  (
-                    λ _. ap (named read),
-                    (
-                      λ _. ap (named read),
-                      (
-                        λ _. ap (named read),
-                        ap (named read),
-                      ),
-                    ),
-                  ),
-                ),
-              ),
-            ),
-          ),
-        ),
-      ) refl
+  nine = Iff·trans (told .refused 7 (omega arith)) (Iff·and new (present _ _ (reference-missing t b)))
 
   pub causes : Causes digest t b verdict
-  unfolding elsewhere
+  unfolding admission valuedOnly someIn
   causes =
       record {
-        two = two;
-        three = three;
-        four = four;
-        five = five;
-        six = own 6 (λ k l h e. omega arith) (λ e. omega arith) (never-answered 6 _ _ refl);
-        seven = own 7 (λ k l h e. omega arith) (λ e. omega arith) (never-answered 7 _ _ refl);
+        two = first-refused told;
+        three = Iff·trans (second-refused told) (Iff·and Iff·rfl (missed _ _ (shaped b, well-shaped b)));
+        four = Iff·trans (told .refused 2 (omega arith)) (Iff·and whole (ltb-false _ _, le-ltb _ _));
+        five = Iff·trans (told .refused 3 (omega arith)) (Iff·and of-site (eqb-false _ _, ne-eqb _ _));
+        six = six;
+        seven = seven;
         index = index;
         eight = eight;
-        heldPlace = λ e. subst (First (HeldAt t (digest b))) (sym (value-named ∙ ap (named read) e)) (held-first t (digest b) (eight .0 e .1));
+        heldPlace = λ e. subst (First (HeldAt t (digest b))) (sym (told .valued 6 (omega arith) e)) (held-first t (digest b) (eight .0 e .1));
         nine = nine;
-        firstMissing = λ e. subst (First (MissingAt t b)) (sym (value-named ∙ ap (named read) e)) (missing-first t b (nine .0 e .1));
-        ten = and-then (past-nine 10 (λ k l h e. omega arith)) (Iff·trans (at-check _ _ _ (never-answered 10 _ _ refl))
-            (λ e y. true-not-false y e, not-true-false _));
-        eleven = Iff·trans (and-then (past-ten 11 (λ k l h e. omega arith)) (at-check _ _ _ (never-answered 11 _ _ refl)))
-            (λ p. (p .0, full t (formed (p .0)) .0 (p .1)), λ p. (p .0, full t (formed (p .0)) .1 (p .1)));
-        none = and-then (past-ten 0 (λ k l h e. omega arith)) (Iff·trans (past-check _ _ _ 0 (λ e q. omega arith))
-            (λ p. ltb-true _ _ (p .0), λ h. (lt-ltb _ _ h, none-refused (countOf t))));
-        place = λ e. value-named ∙ ap (named read) e;
-        noValue = λ z r q p i. value-named ∙ rw (ne-eqb number 0 z, ne-eqb number 6 r, ne-eqb number 7 q, ne-eqb number 8 p, ne-eqb number 9 i);
+        firstMissing = λ e. subst (First (MissingAt t b)) (sym (told .valued 7 (omega arith) e)) (missing-first t b (nine .0 e .1));
+        ten = Iff·trans (told .refused 8 (omega arith)) (Iff·and linked (missed _ _ Iff·rfl));
+        eleven = Iff·trans (told .refused 9 (omega arith))
+            (λ p. let q = parented .0 (p .0) in (q, full t (formed q) .0 (p .1)), λ p. (parented .1 (p .0), full t (formed (p .0)) .1 (p .1)));
+        none = Iff·trans (told .none) (Iff·and parented (ltb-true _ _, lt-ltb _ _));
+        place = told .returned;
+        noValue = λ z r q p i. value-of is-decided ∙ no-value (0 ∷ 6 ∷ 7 ∷ 8 ∷ 9 ∷ []) all (countOf t) refl
+            (rw (← is-decided, ne-eqb number 0 z, ne-eqb number 6 r, ne-eqb number 7 q, ne-eqb number 8 p, ne-eqb number 9 i));
       }
     where
       index : (number ≡ 6) ⊎ (number ≡ 7) → value ≡ read .value
-      index (inl e) = value-named ∙ ap (named read) e
-      index (inr e) = value-named ∙ ap (named read) e
+      index (inl e) = told .valued 4 (omega arith) e ∙ sym (reader.told b .valued 1 (omega arith) (six .0 e .1))
+      index (inr e) = told .valued 5 (omega arith) e ∙ sym (reader.told b .valued 2 (omega arith) (seven .0 e .1))
+
+      is-decided : answer digest t b verdict ≡ answerTo all (countOf t)
+      is-decided = by-checks digest (inForm t) (setupOf t) (viewOf t) b verdict (countOf t)
 
       formed : Parented digest t b verdict → inForm t ≡ true
       formed p = p .linked .isNew .readable .formed

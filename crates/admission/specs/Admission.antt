@@ -6,15 +6,15 @@ use Prim.Native.Nat.{ℕ}
 use lib.Dec.{eqb, ltb}
 use Rattle.base.specs.Search.{firstBelow, anyBelow}
 use Rattle.base.specs.Bytes.{Bytes, sameBytes}
+use Rattle.answer.specs.declared.Answer.{Answer}
+use Rattle.answer.specs.Checks.{Check, check, answerTo}
+use Rattle.setup.specs.Setup.{Setup}
 use Rattle.block.specs.Layout.{siteOf, sequenceOf, referenceCount, referenceList, referenceAt, requestFor}
 use Rattle.block.specs.Reading.{wellShaped, reading, answerOf}
-use Rattle.block.specs.declared.Answer.{Answer}
-use Rattle.setup.specs.Setup.{Setup}
 use Rattle.table.specs.View.{maxPlaces, Row, View}
 use Rattle.table.specs.Layout.{setupOf, countOf, viewOf, withRow}
 use Rattle.table.specs.Rules.{hasDigest, placeOf, parentRule}
 use Rattle.table.specs.Form.{inForm}
-use Rattle.table.specs.Checks.{Check, check, answerTo}
 
 -- the digest is among the block's references
 abbrev pub lists : Bytes → Bytes → Bool

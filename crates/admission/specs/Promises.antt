@@ -5,10 +5,10 @@ use mathlib.Core.Bool.{true, false}
 use Prim.Native.Nat.{ℕ, _≤_, _<_}
 use Rattle.base.specs.Search.{First}
 use Rattle.base.specs.Bytes.{Bytes}
+use Rattle.answer.specs.declared.Answer.{Answer}
 use Rattle.block.specs.Layout.{siteOf, referenceCount, referenceList, referenceAt}
 use Rattle.block.specs.Reading.{fieldsOf, reading, answerOf}
 use Rattle.block.specs.Promises.{Shaped}
-use Rattle.block.specs.declared.Answer.{Answer}
 use Rattle.block.specs.declared.Reading.the-variants.{Block}
 use Rattle.table.specs.View.{maxPlaces}
 use Rattle.table.specs.Layout.{setupOf, countOf, digestAt, viewOf}

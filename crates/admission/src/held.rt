@@ -1,5 +1,5 @@
 // What a block's references and digest are among the blocks that are held.
-use block::Answer;
+use answer::Answer;
 ghost use mathlib.Core.Path.{_≡_};
 ghost use mathlib.Core.Bool.{cond};
 ghost use lib.Dec.{eqb};
@@ -63,37 +63,22 @@ pub fn held_answer(
     let k = table::rows::count_of(table);
     let place = table::index::find(table, index, digest);
     if place < k {
-        return Answer {
-            refusal: 8,
-            value: place,
-        };
+        return answer::refused(8, place);
     }
-    if missing < base::wide(block[3]) {
-        return Answer {
-            refusal: 9,
-            value: missing,
-        };
+    if missing < block::parts::reference_count(block) {
+        return answer::refused(9, missing);
     }
     if !table::rules::parent_rule(
         table,
         k,
         references,
-        block[0],
-        base::number_of(block[1], block[2]),
+        block::parts::site_of(block),
+        block::parts::sequence_of(block),
     ) {
-        return Answer {
-            refusal: 10,
-            value: 0,
-        };
+        return answer::refused(10, 0);
     }
     if table::MAX_PLACES <= k {
-        return Answer {
-            refusal: 11,
-            value: 0,
-        };
+        return answer::refused(11, 0);
     }
-    Answer {
-        refusal: 0,
-        value: k,
-    }
+    answer::success(k)
 }

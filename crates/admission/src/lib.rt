@@ -1,9 +1,8 @@
 // Admission of a block to a site's table. Promises: `admit` answers and leaves what specs/Admission.antt says, for all bytes and numbers;
-// form is kept, and each of 8, 9, 10 and 11 comes under its cause and under no other (specs/Promises.antt). Assumes nothing.
+// form is kept, and each of 2 to 11 comes under its cause and under no other (specs/Promises.antt). Assumes nothing.
 mod held;
-mod row;
 
-use block::Answer;
+use answer::Answer;
 use block::Reading;
 ghost use mathlib.Core.Path.{_≡_};
 ghost use mathlib.Core.Bool.{true};
@@ -20,22 +19,21 @@ fn enter(table: &mut [u8], block: &[u8], fields: block::Fields) -> Answer
     ensures { λ r. ⌜ r ≡ heldAnswer (now (table .entry)) (now (block .entry)) ⌝ }
     ensures { λ _. ⌜ now (table .exit) ≡ entered (now (table .entry)) (now (block .entry)) ⌝ }
 {
-    let middle = block::HEADER_SIZE + block::REFERENCE_SIZE * fields.references;
     let digest = sha256::digest(block);
     let index = table::index::index_of(table);
-    let found = held::look_up(table, &index, &block[block::HEADER_SIZE..middle]);
+    let found = held::look_up(table, &index, block::parts::reference_list(block));
     let references = found.places;
     let answer = held::held_answer(table, &index, block, &digest, references, found.missing);
     if answer.refusal != 0 {
         return answer;
     }
-    row::put_row(
+    table::writing::put_row(
         table,
         &digest,
         fields.site,
         fields.sequence,
         references,
-        &block[middle..],
+        block::parts::request_list(block),
     );
     answer
 }
@@ -46,28 +44,16 @@ pub fn admit(table: &mut [u8], block: &[u8], verdict: u8) -> Answer
     ensures { λ _. ⌜ now (table .exit) ≡ admitted sha256 (now (table .entry)) (now (block .entry)) verdict ⌝ }
 {
     if !table::in_form(table) {
-        return Answer {
-            refusal: 2,
-            value: 0,
-        };
+        return answer::refused(2, 0);
     }
     if !block::well_shaped(block) {
-        return Answer {
-            refusal: 3,
-            value: 0,
-        };
+        return answer::refused(3, 0);
     }
-    if table::rows::sites_of(table) <= block[0] {
-        return Answer {
-            refusal: 4,
-            value: 0,
-        };
+    if table::rows::sites_of(table) <= block::parts::site_of(block) {
+        return answer::refused(4, 0);
     }
     if verdict != 1 {
-        return Answer {
-            refusal: 5,
-            value: 0,
-        };
+        return answer::refused(5, 0);
     }
     let reading = block::read_block(block);
     let Reading::Block(fields) = reading else {

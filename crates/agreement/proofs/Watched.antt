@@ -12,27 +12,28 @@ use lib.ListN.{length}
 use borrow.Author.Tests.{eq-eqb, eqb-true, lt-ltb}
 use Rattle.base.specs.Bytes.{Bytes}
 use Rattle.base.proofs.Tests.{and-right, same-tests}
-use Rattle.block.specs.Limits.{referenceSize}
-use Rattle.block.specs.Layout.{siteOf, sequenceOf, referencesOf}
-use Rattle.setup.specs.Setup.{Setup, lawful}
 use Rattle.sha256.specs.Sha256.{sha256}
 use Rattle.sha256.proofs.Promises.{sha256-length}
+use Rattle.setup.specs.Setup.{Setup, lawful}
+use Rattle.block.specs.Limits.{referenceSize}
+use Rattle.block.specs.Layout.{siteOf, sequenceOf, referencesOf}
 use Rattle.table.specs.View.{maxPlaces}
 use Rattle.table.specs.Layout.{siteAt, viewOf}
 use Rattle.watch.specs.Forks.{everywhere, ofSite, forks}
 use Rattle.watch.specs.Ancestors.{Ancestor, direct, further}
 use Rattle.watch.specs.Promises.{Shares}
 use Rattle.watch.proofs.Promises.{promises}
-use Rattle.agreement.specs.Ancestry.{AncestorIn, refers, through}
-use Rattle.agreement.specs.Ledger.{Call, Ledger}
-use Rattle.agreement.specs.Run.{Site}
-use Rattle.agreement.specs.Promises.{forked, ledgerOf, siteWith}
+use Rattle.history.specs.Ancestry.{AncestorIn, refers, through}
+use Rattle.history.specs.Forks.{forked}
+use Rattle.history.proofs.Forks.{Fork, fork-forked, forked-fork}
+use Rattle.run.specs.Ledger.{Call, Ledger}
+use Rattle.run.specs.Run.{Site}
+use Rattle.run.specs.Promises.{ledgerOf, siteWith}
+use Rattle.run.proofs.Tied.{Tied}
+use Rattle.run.proofs.Runs.{Together}
+use Rattle.run.proofs.Standing.{Standing, standing}
+use Rattle.run.proofs.Promises.{run}
 use Rattle.agreement.specs.Watched.{NamedAncestor, WatchKeeps}
-use Rattle.agreement.proofs.Forks.{Fork, fork-forked, forked-fork}
-use Rattle.agreement.proofs.Tied.{Tied}
-use Rattle.agreement.proofs.Runs.{Together}
-use Rattle.agreement.proofs.Standing.{Standing, standing}
-use Rattle.agreement.proofs.Theorem.{run}
 
 module _ (digest : Bytes → Bytes) (sized : (b : Bytes) → length (digest b) ≡ referenceSize) (s : Setup) (size : ℕ) (l : Ledger) (x : Site)
     (together : Together digest sized s size l x) where

@@ -1,10 +1,4 @@
--- The theorem of two sites. History, Ancestry, Ledger, Run, Promises, Watched and Encoding are what a reader must believe; nothing in Steps need be
--- believed.
-pub mod History
-pub mod Ancestry
-pub mod Ledger
-pub mod Run
+-- The theorem of two sites, what it says of two listings, and the watch told by the ledger. All of it is what a reader must believe.
 pub mod Promises
+pub mod Agreed
 pub mod Watched
-pub mod Encoding
-pub mod Steps

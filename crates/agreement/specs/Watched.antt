@@ -8,10 +8,10 @@ use Rattle.base.specs.Mask.{inMask}
 use Rattle.base.specs.Bytes.{Bytes}
 use Rattle.watch.specs.Forks.{forks}
 use Rattle.watch.specs.Ancestors.{ancestors}
-use Rattle.agreement.specs.Ancestry.{AncestorIn}
-use Rattle.agreement.specs.Ledger.{Ledger}
-use Rattle.agreement.specs.Run.{Site}
-use Rattle.agreement.specs.Promises.{forked}
+use Rattle.history.specs.Ancestry.{AncestorIn}
+use Rattle.history.specs.Forks.{forked}
+use Rattle.run.specs.Ledger.{Ledger}
+use Rattle.run.specs.Run.{Site}
 
 -- a place that the watch names as an ancestor of place i holds this block
 pub record NamedAncestor (l : Ledger) (x : Site) (i : ℕ) (b : Bytes) : Type 0 where

@@ -11,11 +11,11 @@ use borrow.Author.Tests.{eqb-true, eqb-false}
 use Rattle.base.specs.Bytes.{Bytes}
 use Rattle.base.proofs.Tests.{by-test}
 use Rattle.block.specs.Layout.{siteOf, sequenceOf, referencesOf}
-use Rattle.agreement.specs.History.{blockOf}
-use Rattle.agreement.specs.Ancestry.{AncestorIn, refers, through}
-use Rattle.agreement.proofs.Histories.{parent-site, parent-sequence}
-use Rattle.agreement.proofs.Ancestry.{OneHistory, Holds, RefersBack, refers-back, referred-held, child-of, child-parent}
-use Rattle.agreement.proofs.Forks.{Single, single-unforked}
+use Rattle.history.specs.History.{blockOf}
+use Rattle.history.specs.Ancestry.{AncestorIn, refers, through}
+use Rattle.history.proofs.Histories.{parent-site, parent-sequence}
+use Rattle.history.proofs.Ancestry.{OneHistory, Holds, RefersBack, refers-back, referred-held, child-of, child-parent}
+use Rattle.history.proofs.Forks.{Single, single-unforked}
 use Rattle.arrival.specs.Full.{BlockBy, RefersTo, InChain, itself, earlier, Above, ReferredInChain, Full}
 use Rattle.arrival.proofs.Chains.{chain-held, chain-site, chain-sequence, chain-refers}
 

@@ -9,19 +9,20 @@ use lib.ListN.{length}
 use borrow.Author.Tests.{eqb-true, eqb-false}
 use Rattle.base.specs.Bytes.{Bytes}
 use Rattle.base.proofs.Tests.{by-test}
-use Rattle.block.specs.Limits.{referenceSize}
-use Rattle.setup.specs.Setup.{Setup, lawful}
 use Rattle.sha256.specs.Sha256.{sha256}
 use Rattle.sha256.proofs.Promises.{sha256-length}
-use Rattle.agreement.specs.Ledger.{Call, admit, interpret, retire, takeBack, Ledger, empty, taken, ledgerStep, ledgerAfter}
-use Rattle.agreement.specs.Run.{Site, started, siteAnswer, siteStep}
-use Rattle.agreement.specs.Promises.{NoCollision, ledgerOf}
-use Rattle.agreement.proofs.Ancestry.{OneHistory}
-use Rattle.agreement.proofs.Runs.{Together, passed, refused, step-together}
-use Rattle.agreement.proofs.Growth.{after-unretired}
-use Rattle.agreement.proofs.Standing.{one-history-each, unretired-clear, safe-clear}
-use Rattle.agreement.proofs.Worlds.{across}
-use Rattle.agreement.proofs.Theorem.{start, run}
+use Rattle.setup.specs.Setup.{Setup, lawful}
+use Rattle.block.specs.Limits.{referenceSize}
+use Rattle.history.specs.Forks.{NoCollision}
+use Rattle.history.proofs.Ancestry.{OneHistory}
+use Rattle.history.proofs.Worlds.{across}
+use Rattle.run.specs.Ledger.{Call, admit, interpret, retire, takeBack, Ledger, empty, taken, ledgerStep, ledgerAfter}
+use Rattle.run.specs.Run.{Site, started, siteAnswer, siteStep}
+use Rattle.run.specs.Promises.{ledgerOf}
+use Rattle.run.proofs.Runs.{Together, passed, refused, step-together}
+use Rattle.run.proofs.Growth.{after-unretired}
+use Rattle.run.proofs.Standing.{one-history-each, unretired-clear, safe-clear}
+use Rattle.run.proofs.Promises.{start, run}
 use Rattle.arrival.specs.Full.{BlockBy, Full}
 use Rattle.arrival.specs.Building.{OwnIsBuilt, BuildsByRule, BuildersFull}
 use Rattle.arrival.proofs.Builders.{Built, built-behind, built-full, full-elsewhere}

@@ -8,11 +8,11 @@ use native.Mathlib.Nat.{le-refl}
 use native.Mathlib.Omega.{arith}
 use Rattle.base.specs.Bytes.{Bytes}
 use Rattle.block.specs.Layout.{siteOf, sequenceOf}
-use Rattle.agreement.specs.History.{History, blockOf}
-use Rattle.agreement.specs.Ancestry.{AncestorIn, refers, through}
-use Rattle.agreement.proofs.Histories.{parent-site, parent-sequence, Lineage, here, older}
-use Rattle.agreement.proofs.Ancestry.{OneHistory, child-of}
-use Rattle.agreement.proofs.Worlds.{HistoryIn}
+use Rattle.history.specs.History.{History, blockOf}
+use Rattle.history.specs.Ancestry.{AncestorIn, refers, through}
+use Rattle.history.proofs.Histories.{parent-site, parent-sequence, Lineage, here, older}
+use Rattle.history.proofs.Ancestry.{OneHistory, child-of}
+use Rattle.history.proofs.Worlds.{HistoryIn}
 use Rattle.arrival.specs.Full.{RefersTo, InChain, itself, earlier, ReferredInChain}
 
 module _ (digest : Bytes → Bytes) (bs : List Bytes) where

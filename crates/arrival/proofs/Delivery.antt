@@ -11,29 +11,30 @@ use borrow.Author.Tests.{eq-eqb}
 use Rattle.base.specs.Bytes.{Bytes}
 use Rattle.base.specs.Count.{countBelow}
 use Rattle.base.proofs.Count.{count-mono}
-use Rattle.block.specs.Limits.{slotCount}
-use Rattle.block.specs.Layout.{siteOf, sequenceOf, requestFor}
-use Rattle.setup.specs.Setup.{maxSites, Setup, ownerOf, lawful, faults}
+use Rattle.setup.specs.Setup.{maxSites, Setup, ownerOf, lawful, faults, slotCount}
 use Rattle.setup.proofs.Thresholds.{sites-lawful, sites-few, owner-below, echo-quorum-reached, ready-quorum-reached}
+use Rattle.block.specs.Layout.{siteOf, sequenceOf, requestFor}
 use Rattle.broadcast.specs.declared.Kind.{Kind}
 use Rattle.broadcast.specs.declared.Kind.the-variants.{Send, Echo, Ready}
 use Rattle.broadcast.specs.declared.SlotRecord.{SlotRecord}
-use Rattle.broadcast.specs.Record.{madeOffset, recordSize, recordAt}
 use Rattle.broadcast.specs.Process.{madeOf, support}
 use Rattle.broadcast.proofs.Steps.{Entry, entryOf, entryOfKind, made-entry}
 use Rattle.broadcast.proofs.Steps.Entry.{echoEntry, readyEntry, deliveryEntry}
 use Rattle.broadcast.proofs.Support.{support-count}
 use Rattle.broadcast.proofs.Hears.{Heard}
 use Rattle.broadcast.proofs.Settled.Rule.{readyByEchoes, deliveryByReadies}
-use Rattle.interpret.proofs.Parts.{entry-in, record-flatten}
-use Rattle.agreement.specs.History.{History, blockOf, slotRecord, meaning}
-use Rattle.agreement.specs.Ancestry.{historyOf}
-use Rattle.agreement.specs.Promises.{forked, deliveredEntry}
-use Rattle.agreement.proofs.Meanings.{record-sized, record-settled}
-use Rattle.agreement.proofs.Ancestry.{OneHistory}
-use Rattle.agreement.proofs.Agreement.{World}
-use Rattle.agreement.proofs.Worlds.{HistoryIn, history-in, one-world}
-use Rattle.agreement.proofs.Theorem.{delivered-is as delivered-entry}
+use Rattle.records.specs.Layout.{madeOffset, recordSize, recordAt}
+use Rattle.records.proofs.Flattened.{record-flatten}
+use Rattle.records.proofs.Parts.{entry-in}
+use Rattle.history.specs.History.{History, blockOf, slotRecord, meaning}
+use Rattle.history.specs.Ancestry.{historyOf}
+use Rattle.history.specs.Forks.{forked}
+use Rattle.history.proofs.Meanings.{record-sized, record-settled}
+use Rattle.history.proofs.Ancestry.{OneHistory}
+use Rattle.history.proofs.Agreement.{World}
+use Rattle.history.proofs.Worlds.{HistoryIn, history-in, one-world}
+use Rattle.run.specs.Promises.{deliveredEntry}
+use Rattle.run.proofs.Promises.{delivered-is as delivered-entry}
 use Rattle.arrival.specs.Full.{BlockBy, Above, Full}
 use Rattle.arrival.specs.Arrival.{InSet, Premises, DeliveredInChain}
 use Rattle.arrival.proofs.Chains.{chain-site, chain-above}

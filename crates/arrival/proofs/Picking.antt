@@ -12,9 +12,9 @@ use Rattle.base.specs.Bytes.{Bytes}
 use Rattle.base.proofs.Tests.{by-test, and-left, and-right}
 use Rattle.base.proofs.Members.{member-at}
 use Rattle.base.proofs.Search.{any-true-at}
+use Rattle.setup.specs.Setup.{Setup}
 use Rattle.block.specs.Limits.{referenceSize}
 use Rattle.block.specs.Layout.{siteOf, sequenceOf, referencesOf}
-use Rattle.setup.specs.Setup.{Setup}
 use Rattle.table.specs.View.{maxPlaces, View}
 use Rattle.table.specs.Layout.{countOf, digestAt, siteAt, rowAt, viewOf}
 use Rattle.table.proofs.Formed.{formed-of}
@@ -25,11 +25,11 @@ use Rattle.build.proofs.Picked.{picked-held, picked-lower}
 use Rattle.build.proofs.Fits.{one-place}
 use Rattle.build.proofs.Fields.{next-numbered, next-refers}
 use Rattle.build.proofs.Promises.{built-block}
-use Rattle.agreement.specs.Ledger.{Ledger}
-use Rattle.agreement.specs.Run.{Site}
-use Rattle.agreement.proofs.Tied.{Tied}
-use Rattle.agreement.proofs.Runs.{Together}
-use Rattle.agreement.proofs.Standing.{Standing, standing}
+use Rattle.run.specs.Ledger.{Ledger}
+use Rattle.run.specs.Run.{Site}
+use Rattle.run.proofs.Tied.{Tied}
+use Rattle.run.proofs.Runs.{Together}
+use Rattle.run.proofs.Standing.{Standing, standing}
 use Rattle.agreement.proofs.Watched.{of-site, site-of}
 use Rattle.arrival.specs.Full.{BlockBy, RefersTo}
 use Rattle.arrival.specs.Building.{BuiltFrom}

@@ -5,19 +5,19 @@ use mathlib.Core.List.{List, []}
 use Prim.Native.Nat.{ℕ, _<_}
 use lib.ListN.{length, getD}
 use Rattle.base.specs.Bytes.{Bytes}
-use Rattle.block.specs.Limits.{slotCount, referenceSize}
-use Rattle.setup.specs.Setup.{Setup, lawful}
 use Rattle.sha256.specs.Sha256.{sha256}
 use Rattle.sha256.proofs.Promises.{sha256-length}
-use Rattle.interpret.specs.Buffer.{partOf}
-use Rattle.agreement.specs.History.{meaning}
-use Rattle.agreement.specs.Ancestry.{historyOf}
-use Rattle.agreement.specs.Ledger.{Call, Ledger}
-use Rattle.agreement.specs.Run.{Site}
-use Rattle.agreement.specs.Promises.{ledgerOf, siteWith}
-use Rattle.agreement.proofs.Standing.{standing, one-history-each, unretired-clear}
-use Rattle.agreement.proofs.Runs.{Together}
-use Rattle.agreement.proofs.Theorem.{run, site-keeps}
+use Rattle.setup.specs.Setup.{Setup, lawful, slotCount}
+use Rattle.block.specs.Limits.{referenceSize}
+use Rattle.records.specs.Layout.{partOf}
+use Rattle.history.specs.History.{meaning}
+use Rattle.history.specs.Ancestry.{historyOf}
+use Rattle.run.specs.Ledger.{Call, Ledger}
+use Rattle.run.specs.Run.{Site}
+use Rattle.run.specs.Promises.{ledgerOf, siteWith}
+use Rattle.run.proofs.Standing.{standing, one-history-each, unretired-clear}
+use Rattle.run.proofs.Runs.{Together}
+use Rattle.run.proofs.Promises.{run, site-keeps}
 use Rattle.arrival.specs.Full.{InChain}
 use Rattle.arrival.specs.Arrival.{AllInterpreted, Premises, DeliveredInChain, ShownInChain, Arrival}
 use Rattle.arrival.proofs.Chains.{chain-held}

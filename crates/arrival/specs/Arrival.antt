@@ -7,16 +7,14 @@ use Prim.Native.Nat.{ℕ, _+_, _-_, _*_, _≤_, _<_}
 use lib.ListN.{getD}
 use Rattle.base.specs.Bytes.{Bytes}
 use Rattle.base.specs.Count.{countBelow}
-use Rattle.block.specs.Limits.{slotCount}
+use Rattle.setup.specs.Setup.{Setup, ownerOf, faults, slotCount}
 use Rattle.block.specs.Layout.{siteOf, sequenceOf, requestFor}
-use Rattle.setup.specs.Setup.{Setup, ownerOf, faults}
-use Rattle.broadcast.specs.Record.{madeOffset, recordSize}
-use Rattle.interpret.specs.Buffer.{partOf}
-use Rattle.agreement.specs.History.{meaning}
-use Rattle.agreement.specs.Ancestry.{historyOf}
-use Rattle.agreement.specs.Ledger.{Call, Ledger}
-use Rattle.agreement.specs.Run.{Site}
-use Rattle.agreement.specs.Promises.{Interpreted, deliveredEntry, ledgerOf, siteWith}
+use Rattle.records.specs.Layout.{madeOffset, recordSize, partOf}
+use Rattle.history.specs.History.{meaning}
+use Rattle.history.specs.Ancestry.{historyOf}
+use Rattle.run.specs.Ledger.{Call, Ledger}
+use Rattle.run.specs.Run.{Site}
+use Rattle.run.specs.Promises.{Interpreted, deliveredEntry, ledgerOf, siteWith}
 use Rattle.arrival.specs.Full.{BlockBy, InChain, Above, Full}
 
 -- "block A hold the owner's first counted request v of the slot": no block of the owner with a lower sequence number has one

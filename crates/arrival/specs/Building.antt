@@ -6,12 +6,13 @@ use mathlib.Core.List.{List, [], _∷_, _++_, List·Memᴰ}
 use Prim.Native.Nat.{ℕ}
 use lib.ListN.{take}
 use Rattle.base.specs.Bytes.{Bytes}
-use Rattle.block.specs.Layout.{siteOf}
 use Rattle.setup.specs.Setup.{Setup}
+use Rattle.block.specs.Layout.{siteOf}
 use Rattle.build.specs.Building.{building, built}
-use Rattle.agreement.specs.Ledger.{Call, admit, interpret, retire, takeBack, Ledger}
-use Rattle.agreement.specs.Run.{Site, started, siteAnswer, siteStep}
-use Rattle.agreement.specs.Promises.{NoCollision, ledgerOf}
+use Rattle.history.specs.Forks.{NoCollision}
+use Rattle.run.specs.Ledger.{Call, admit, interpret, retire, takeBack, Ledger}
+use Rattle.run.specs.Run.{Site, started, siteAnswer, siteStep}
+use Rattle.run.specs.Promises.{ledgerOf}
 use Rattle.arrival.specs.Full.{BlockBy, Full}
 
 -- block b is what building writes for site p from this table, with some requests, to an output that has room

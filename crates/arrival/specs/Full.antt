@@ -5,9 +5,9 @@ use mathlib.Core.List.{List, List·Memᴰ}
 use Prim.Native.Nat.{ℕ}
 use Rattle.base.specs.Bytes.{Bytes}
 use Rattle.block.specs.Layout.{siteOf, referencesOf}
-use Rattle.agreement.specs.History.{isParentOf}
-use Rattle.agreement.specs.Ancestry.{AncestorIn}
-use Rattle.agreement.specs.Promises.{forked}
+use Rattle.history.specs.History.{isParentOf}
+use Rattle.history.specs.Ancestry.{AncestorIn}
+use Rattle.history.specs.Forks.{forked}
 
 -- a held block that site p built
 pub record BlockBy (blocks : List Bytes) (p : ℕ) (b : Bytes) : Type 0 where

@@ -41,6 +41,10 @@ module _ (f : ℕ → Bool) where
     | inr l ↦ let i = first-hit j k l e y in rw (i, lt-ltb j k l)
   ]
 
+  -- none was found up to the end
+  pub first-end : (i k : ℕ) → i ≡ k → firstBelow f i ≡ i → k ≡ firstBelow f k
+  first-end i k e p = sym (rw e at p)
+
   -- what the first is: it passes, and none before it does
   pub first-passes : (k : ℕ) → firstBelow f k < k → f (firstBelow f k) ≡ true
   unfolding firstBelow

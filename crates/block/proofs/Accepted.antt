@@ -1,12 +1,10 @@
 -- What it means that the reader accepts, as a record. Assumes nothing.
 use mathlib.Core.Path.{_≡_, refl}
 use mathlib.Core.Bool.{Bool, true, false, not, cond}
-use Prim.Native.Nat.{ℕ, _≤_}
+use Prim.Native.Nat.{ℕ}
 use native.Mathlib.Omega.{arith}
-use lib.ListN.{length}
 use Rattle.base.specs.Search.{firstBelow, anyBelow}
 use Rattle.base.specs.Bytes.{Bytes}
-use Rattle.block.specs.Limits.{maxReferences, maxRequests, blockSize}
 use Rattle.block.specs.Layout.{referenceCount, requestCount, referenceList, requestList}
 use Rattle.block.specs.Reading.{wellShaped, badRequestAt, repeatedAt, fieldsOf, reading}
 use Rattle.block.specs.Promises.{Shaped}
@@ -42,16 +40,3 @@ reading-accepted b f =
     go true t true p v q e = let z : _≡_ {A = ℕ} 0 1 = cc in absurd (omega arith)
     go true t false p true q e = let z : _≡_ {A = ℕ} 0 1 = cc in absurd (omega arith)
     go true t false p false q e = record { accepted = record { shape = shaped b t; requests = p; references = q }; fields = cc }
-
--- the count of references, and how long a block of these fields is
-pub record Lengths (b : Bytes) (f : Fields) : Type 0 where
-  pub counted : f .references ≡ referenceCount b
-  pub references : f .references ≤ maxReferences
-  pub requests : f .requests ≤ maxRequests
-  pub exact : length b ≡ blockSize (f .references) (f .requests)
-
-pub lengths : (b : Bytes) (f : Fields) → reading b ≡ Block f → Lengths b f
-lengths b f e =
-    let a = reading-accepted b f e in
-    let s = a .accepted .shape in
-    rw (a .fields) (record { counted = refl; references = s .references; requests = s .requests; exact = s .exact })

@@ -11,7 +11,8 @@ use Rattle.base.specs.Bytes.{Bytes, AllBytes, partAt}
 use Rattle.base.proofs.Tests.{or-left, or-right}
 use Rattle.base.proofs.Bytes.{bytes-take, bytes-drop}
 use Rattle.base.proofs.Number.{number-below}
-use Rattle.block.specs.Limits.{requestSize, maxSlot}
+use Rattle.setup.specs.Setup.{maxSlot}
+use Rattle.block.specs.Limits.{requestSize}
 use Rattle.block.specs.Layout.{requestAt}
 use Rattle.block.specs.Reading.{badRequest, badRequestAt}
 use Rattle.block.specs.Codec.{Admissible}

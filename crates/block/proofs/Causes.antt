@@ -1,31 +1,29 @@
 -- Each refusal of the reader comes under its cause and under no other, with the index of the first such entry. Assumes nothing.
-use mathlib.Core.Path.{_≡_, refl, ap, subst, sym}
-use mathlib.Core.Bool.{Bool, true}
-use mathlib.Core.Logic.{_↔_, _≢_, inl, inr}
+use mathlib.Core.Path.{_≡_, refl, sym, _∙_, subst}
+use mathlib.Core.Bool.{Bool, true, false, cond, not}
+use mathlib.Core.Logic.{_↔_, inl, inr, Iff·trans, Iff·and}
+use mathlib.Core.List.{List, [], _∷_}
 use Prim.Native.Nat.{ℕ, _<_}
 use native.Mathlib.Omega.{arith}
 use lib.Dec.{eqb, ltb}
-use borrow.Author.Tests.{ltb-true, lt-ltb, eqb-true, eq-eqb}
+use borrow.Author.Tests.{ltb-true, lt-ltb, eqb-true, eq-eqb, ne-eqb}
 use Rattle.base.specs.Search.{firstBelow, anyBelow, First}
+use Rattle.base.specs.List.{someIn}
 use Rattle.base.specs.Bytes.{Bytes, sameBytes}
-use Rattle.base.proofs.Tests.{by-test, true-not-false, not-true-false, or-cases, or-true}
+use Rattle.base.proofs.Tests.{or-cases, or-true}
 use Rattle.base.proofs.Search.{any-true, any-true-at, any-such, first-such}
 use Rattle.base.proofs.Bytes.{same-equal, equal-same}
-use Rattle.block.specs.Limits.{maxSlot}
+use Rattle.answer.specs.Checks.{Check, check, success, refused, answerTo}
+use Rattle.answer.specs.Promises.{Passed, elsewhere, different, Decided}
+use Rattle.answer.proofs.Checks.{value-of, valuedOnly, no-value, absent, present, missed}
+use Rattle.answer.proofs.Promises.{first-refused, decided}
+use Rattle.setup.specs.Setup.{maxSlot}
 use Rattle.block.specs.Layout.{referenceCount, requestCount, referenceList, requestList, referenceAt, requestAt}
 use Rattle.block.specs.Reading.{wellShaped, badRequestAt, repeatedAt, reading, answerOf}
 use Rattle.block.specs.Promises.{Shaped, BadIn, BadAt, RepeatedAt, GoodRequests, answer, Causes}
-use Rattle.block.specs.declared.Answer.{Answer}
-use Rattle.block.specs.declared.Reading.{Reading}
+use Rattle.block.specs.declared.Fields.{Fields}
 use Rattle.block.specs.declared.Reading.the-variants.{Block, Misshapen, BadRequest, RepeatedReference}
 use Rattle.block.proofs.Shape.{shaped, well-shaped}
-
--- the reader has no other numbers
-pub other-number : (r : Reading) (n : ℕ) → 0 ≢ n → 3 ≢ n → 6 ≢ n → 7 ≢ n → answerOf r .refusal ≢ n
-other-number (Block f) n a b c d = a
-other-number Misshapen n a b c d = b
-other-number (BadRequest i) n a b c d = c
-other-number (RepeatedReference i) n a b c d = d
 
 -- ---- what the tests of checks 6 and 7 say
 
@@ -57,7 +55,7 @@ module _ (b : Bytes) where
     λ r. (r .below, any-true (isSame i) i (r .earlier) (r .isEarlier) (equal-same _ _ (r .same))),
   )
 
-  -- ---- the ways out of reading
+  -- ---- the checks of reading as a list
 
   abbrev bad : ℕ → Bool
   bad = badRequestAt (requestList b)
@@ -71,83 +69,56 @@ module _ (b : Bytes) where
   some-repeated : (anyBelow repeated (referenceCount b) ≡ true) ↔ ((i : ℕ) × RepeatedAt b i)
   some-repeated = any-such repeated (referenceCount b) (RepeatedAt b) repeated-means
 
-  abbrev three : Answer
-  three = record { refusal = 3; value = 0 }
+  abbrev pub checks : List Check
+  checks =
+      check 3 (wellShaped b) 0
+      ∷ check 6 (not (anyBelow bad (requestCount b))) (firstBelow bad (requestCount b))
+      ∷ check 7 (not (anyBelow repeated (referenceCount b))) (firstBelow repeated (referenceCount b))
+      ∷ []
 
-  abbrev six : Answer
-  six = record { refusal = 6; value = firstBelow bad (requestCount b) }
+  pub by-checks : answer b ≡ answerTo checks 0
+  unfolding reading answerTo
+  by-checks = go (wellShaped b) (anyBelow bad (requestCount b)) (anyBelow repeated (referenceCount b)) _ _ _
+    where
+      go : (x y z : Bool) (i j : ℕ) (f : Fields) → answerOf (cond (not x) Misshapen (cond y (BadRequest i) (cond z (RepeatedReference j) (Block f))))
+          ≡ cond x (cond (not y) (cond (not z) (success 0) (refused 7 j)) (refused 6 i)) (refused 3 0)
+      go false y z i j f = refl
+      go true true z i j f = refl
+      go true false true i j f = refl
+      go true false false i j f = refl
 
-  abbrev seven : Answer
-  seven = record { refusal = 7; value = firstBelow repeated (referenceCount b) }
+  pub told : Decided (answer b) checks 0
+  unfolding different elsewhere
+  told = rw by-checks (decided checks 0 refl)
 
-  abbrev none : Answer
-  none = record { refusal = 0; value = 0 }
+  shape : Passed checks 1 ↔ Shaped b
+  shape = (λ p. shaped b (p .1), λ s. (tt, well-shaped b s))
 
-  is-three : (Shaped b → ⊥) → answer b ≡ three
-  unfolding reading
-  is-three n = rw (not-true-false (wellShaped b) (λ y. n (shaped b y)))
-
-  is-six : Shaped b → ((i : ℕ) × BadAt b i) → answer b ≡ six
-  unfolding reading
-  is-six s w = rw (well-shaped b s, some-bad .1 w)
-
-  is-seven : GoodRequests b → ((i : ℕ) × RepeatedAt b i) → answer b ≡ seven
-  unfolding reading
-  is-seven g w = rw (well-shaped b (g .shape), not-true-false (anyBelow bad (requestCount b)) (λ y. g .noneBad (some-bad .0 y)), some-repeated .1 w)
-
-  is-none : GoodRequests b → (((i : ℕ) × RepeatedAt b i) → ⊥) → answer b ≡ none
-  unfolding reading
-  is-none g n =
-      rw (
-        well-shaped b (g .shape),
-        not-true-false (anyBelow bad (requestCount b)) (λ y. g .noneBad (some-bad .0 y)),
-        not-true-false (anyBelow repeated (referenceCount b)) (λ y. n (some-repeated .0 y)),
-      )
-
-  -- what holds on every way holds of the answer
-  by-way : (P : Answer → Type 0)
-      → ((Shaped b → ⊥) → P three)
-      → (Shaped b → ((i : ℕ) × BadAt b i) → P six)
-      → (GoodRequests b → ((i : ℕ) × RepeatedAt b i) → P seven)
-      → (GoodRequests b → (((i : ℕ) × RepeatedAt b i) → ⊥) → P none)
-      → P (answer b)
-  by-way P w3 w6 w7 w0 =
-      by-test (wellShaped b)
-      (λ y.
-      let s = shaped b y in
-      by-test (anyBelow bad (requestCount b))
-      (λ y. let w = some-bad .0 y in subst P (sym (is-six s w)) (w6 s w))
-      (λ n.
-      let g : GoodRequests b = record { shape = s; noneBad = λ w. true-not-false (some-bad .1 w) n } in
-      by-test (anyBelow repeated (referenceCount b))
-      (λ y. let w = some-repeated .0 y in subst P (sym (is-seven g w)) (w7 g w))
-      (λ n. let m : ((i : ℕ) × RepeatedAt b i) → ⊥ = λ w. true-not-false (some-repeated .1 w) n in subst P (sym (is-none g m)) (w0 g m))))
-      (λ n. let m : Shaped b → ⊥ = λ s. true-not-false (well-shaped b s) n in subst P (sym (is-three m)) (w3 m))
+  good : Passed checks 2 ↔ GoodRequests b
+  good = (
+    λ p. record { shape = shape .0 (p .0); noneBad = absent _ _ some-bad .0 (p .1) },
+    λ g. (shape .1 (g .shape), absent _ _ some-bad .1 (g .noneBad)),
+  )
 
   pub causes : Causes b
+  unfolding valuedOnly someIn
   causes =
       record {
-        three = (
-          by-way (λ a. a .refusal ≡ 3 → Shaped b → ⊥) (λ n e. n) (λ s w e. absurd (omega arith)) (λ g w e. absurd (omega arith)) (λ g n e. absurd (omega arith)),
-          λ n. ap (λ (a : Answer). a .refusal) (is-three n),
-        );
-        six = (
-          by-way (λ a. a .refusal ≡ 6 → Shaped b × ((i : ℕ) × BadAt b i)) (λ n e. absurd (omega arith)) (λ s w e. (s, w)) (λ g w e. absurd (omega arith)) (λ g n e. absurd (omega arith)),
-          λ p. ap (λ (a : Answer). a .refusal) (is-six (p .0) (p .1)),
-        );
-        seven = (
-          by-way (λ a. a .refusal ≡ 7 → GoodRequests b × ((i : ℕ) × RepeatedAt b i)) (λ n e. absurd (omega arith)) (λ s w e. absurd (omega arith)) (λ g w e. (g, w)) (λ g n e. absurd (omega arith)),
-          λ p. ap (λ (a : Answer). a .refusal) (is-seven (p .0) (p .1)),
-        );
-        none = (
-          by-way (λ a. a .refusal ≡ 0 → GoodRequests b × (((i : ℕ) × RepeatedAt b i) → ⊥)) (λ n e. absurd (omega arith)) (λ s w e. absurd (omega arith)) (λ g w e. absurd (omega arith)) (λ g n e. (g, n)),
-          λ p. ap (λ (a : Answer). a .refusal) (is-none (p .0) (p .1)),
-        );
-        firstBad =
-            by-way (λ a. a .refusal ≡ 6 → First (BadAt b) (a .value)) (λ n e. absurd (omega arith))
-            (λ s w e. first-such bad (requestCount b) (BadAt b) (bad-means (requestList b) (requestCount b)) (some-bad .1 w)) (λ g w e. absurd (omega arith)) (λ g n e. absurd (omega arith));
-        firstRepeated =
-            by-way (λ a. a .refusal ≡ 7 → First (RepeatedAt b) (a .value)) (λ n e. absurd (omega arith)) (λ s w e. absurd (omega arith))
-            (λ g w e. first-such repeated (referenceCount b) (RepeatedAt b) repeated-means (some-repeated .1 w)) (λ g n e. absurd (omega arith));
-        noValue = by-way (λ a. (a .refusal ≡ 6 → ⊥) → (a .refusal ≡ 7 → ⊥) → a .value ≡ 0) (λ n k l. refl) (λ s w k l. absurd (k refl)) (λ g w k l. absurd (l refl)) (λ g n k l. refl);
+        three = Iff·trans (first-refused told) (missed _ _ (shaped b, well-shaped b));
+        six = six;
+        seven = seven;
+        none = Iff·trans (told .none) (Iff·and good (absent _ _ some-repeated));
+        firstBad = λ e.
+            subst (First (BadAt b)) (sym (told .valued 1 (omega arith) e))
+            (first-such bad (requestCount b) (BadAt b) (bad-means (requestList b) (requestCount b)) (some-bad .1 (six .0 e .1)));
+        firstRepeated = λ e.
+            subst (First (RepeatedAt b)) (sym (told .valued 2 (omega arith) e))
+            (first-such repeated (referenceCount b) (RepeatedAt b) repeated-means (some-repeated .1 (seven .0 e .1)));
+        noValue = λ k l. value-of by-checks ∙ no-value (6 ∷ 7 ∷ []) checks 0 refl (rw (← by-checks, ne-eqb _ 6 k, ne-eqb _ 7 l));
       }
+    where
+      six : (answer b .refusal ≡ 6) ↔ (Shaped b × ((i : ℕ) × BadAt b i))
+      six = Iff·trans (told .refused 1 (omega arith)) (Iff·and shape (present _ _ some-bad))
+
+      seven : (answer b .refusal ≡ 7) ↔ (GoodRequests b × ((i : ℕ) × RepeatedAt b i))
+      seven = Iff·trans (told .refused 2 (omega arith)) (Iff·and good (present _ _ some-repeated))

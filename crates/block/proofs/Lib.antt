@@ -1,4 +1,4 @@
--- The laws of blocks, and of answers in a buffer. RoundTrip is the promise of specs/Codec.antt, Causes that of specs/Promises.antt.
+-- The laws of blocks. RoundTrip is the promise of specs/Codec.antt, Causes that of specs/Promises.antt.
 pub mod Lists
 pub mod Admissible
 pub mod Shape
@@ -7,4 +7,3 @@ pub mod Accepted
 pub mod Causes
 pub mod RoundTrip
 pub mod Refused
-pub mod Answered

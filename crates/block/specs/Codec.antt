@@ -5,7 +5,8 @@ use mathlib.Core.List.{[]}
 use Prim.Native.Nat.{ℕ, _+_, _*_, _≤_, _<_}
 use lib.ListN.{length, getD, take, drop}
 use Rattle.base.specs.Bytes.{Bytes, AllBytes}
-use Rattle.block.specs.Limits.{headerSize, referenceSize, maxReferences, maxRequests, maxSlot}
+use Rattle.setup.specs.Setup.{maxSlot}
+use Rattle.block.specs.Limits.{headerSize, referenceSize, maxReferences, maxRequests}
 use Rattle.block.specs.Layout.{Content, referenceAt, requestAt, content, contentOf, encode}
 use Rattle.block.specs.Reading.{fieldsOf, reading}
 use Rattle.block.specs.declared.Request.{Request}

@@ -1,5 +1,5 @@
 -- Document 01, "The block": the sizes of a block's fields in bytes, and its limits.
-use Prim.Native.Nat.{ℕ, _+_, _-_, _*_}
+use Prim.Native.Nat.{ℕ, _+_, _*_}
 
 -- site, sequence number and the two counts
 abbrev pub headerSize : ℕ
@@ -18,13 +18,6 @@ maxReferences = 16
 
 abbrev pub maxRequests : ℕ
 maxRequests = 8
-
--- slots are 0 to 7
-abbrev pub slotCount : ℕ
-slotCount = 8
-
-abbrev pub maxSlot : ℕ
-maxSlot = slotCount - 1
 
 -- the length of a block with p references and r requests
 abbrev pub blockSize : ℕ → ℕ → ℕ

@@ -6,10 +6,11 @@ use Prim.Native.Nat.{ℕ, _≤_, _<_}
 use lib.ListN.{length}
 use Rattle.base.specs.Search.{First}
 use Rattle.base.specs.Bytes.{Bytes}
-use Rattle.block.specs.Limits.{headerSize, maxReferences, maxRequests, maxSlot, blockSize}
+use Rattle.answer.specs.declared.Answer.{Answer}
+use Rattle.setup.specs.Setup.{maxSlot}
+use Rattle.block.specs.Limits.{headerSize, maxReferences, maxRequests, blockSize}
 use Rattle.block.specs.Layout.{referenceCount, requestCount, referenceList, requestList, referenceAt, requestAt}
 use Rattle.block.specs.Reading.{reading, answerOf}
-use Rattle.block.specs.declared.Answer.{Answer}
 
 -- bytes that pass check 3: not "under 5 bytes, p over 16, r over 8, or wrong length"
 pub record Shaped (b : Bytes) : Type 0 where

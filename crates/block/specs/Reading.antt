@@ -5,11 +5,12 @@ use lib.Dec.{eqb, leb, ltb}
 use lib.ListN.{length}
 use Rattle.base.specs.Search.{firstBelow, anyBelow}
 use Rattle.base.specs.Bytes.{Bytes, sameBytes}
-use Rattle.block.specs.Limits.{headerSize, maxReferences, maxRequests, maxSlot, blockSize}
+use Rattle.answer.specs.declared.Answer.{Answer}
+use Rattle.setup.specs.Setup.{maxSlot}
+use Rattle.block.specs.Limits.{headerSize, maxReferences, maxRequests, blockSize}
 use Rattle.block.specs.Layout.{siteOf, sequenceOf, referenceCount, requestCount, referenceList, requestList, referenceAt, requestAt}
 use Rattle.block.specs.declared.Request.{Request}
 use Rattle.block.specs.declared.Fields.{Fields}
-use Rattle.block.specs.declared.Answer.{Answer}
 use Rattle.block.specs.declared.Reading.{Reading}
 use Rattle.block.specs.declared.Reading.the-variants.{Block, Misshapen, BadRequest, RepeatedReference}
 

@@ -1,11 +1,12 @@
-// A block's bytes: reading, the entries of its two lists, and writing; and answers in a lent buffer. Promises: reading is document 01's,
+// A block's bytes: reading, the entries of its two lists, and writing. Promises: reading is document 01's,
 // each refusal comes under its cause and under no other (specs/Promises.antt), every block that the reader accepts is the one encoding of
 // its content, and writing gives that encoding (specs/Codec.antt). Assumes nothing of the bytes: any are read or refused.
-pub mod answers;
+pub mod parts;
 pub mod references;
 pub mod requests;
 pub mod writing;
 
+use answer::Answer;
 ghost use mathlib.Core.Path.{_≡_};
 ghost use Rattle.block.specs.Reading.{wellShaped, reading, answerOf};
 ghost use Rattle.block.specs.Promises.{Shaped};
@@ -20,10 +21,6 @@ pub const REQUEST_SIZE: usize = 3;
 pub const MAX_REFERENCES: usize = 16;
 
 pub const MAX_REQUESTS: usize = 8;
-
-pub const SLOTS: usize = 8;
-
-pub const MAX_SLOT: u8 = (SLOTS - 1) as u8;
 
 pub const MAX_REQUEST_LIST_SIZE: usize = REQUEST_SIZE * MAX_REQUESTS;
 
@@ -53,34 +50,15 @@ pub enum Reading {
     RepeatedReference(usize),
 }
 
-// A refusal's number, 0 for none, and the value that goes with it.
-#[repr(C)]
-pub struct Answer {
-    pub refusal: u8,
-    pub value: usize,
-}
-
 // Document 01's number and value of a reading.
 pub fn answer_of(r: Reading) -> Answer
     ensures { λ a. ⌜ a ≡ answerOf r ⌝ }
 {
     match r {
-        Reading::Block(_) => Answer {
-            refusal: 0,
-            value: 0,
-        },
-        Reading::Misshapen => Answer {
-            refusal: 3,
-            value: 0,
-        },
-        Reading::BadRequest(i) => Answer {
-            refusal: 6,
-            value: i,
-        },
-        Reading::RepeatedReference(i) => Answer {
-            refusal: 7,
-            value: i,
-        },
+        Reading::Block(_) => answer::success(0),
+        Reading::Misshapen => answer::refused(3, 0),
+        Reading::BadRequest(i) => answer::refused(6, i),
+        Reading::RepeatedReference(i) => answer::refused(7, i),
     }
 }
 
@@ -107,20 +85,19 @@ fn read_shaped(block: &[u8]) -> Reading
     requires { ⌜ Shaped (now block) ⌝ }
     ensures { λ r. ⌜ r ≡ reading (now (block .entry)) ⌝ }
 {
-    let p = base::wide(block[3]);
-    let r = base::wide(block[4]);
-    let middle = HEADER_SIZE + REFERENCE_SIZE * p;
-    let bad = requests::first_bad(&block[middle..]);
+    let p = parts::reference_count(block);
+    let r = parts::request_count(block);
+    let bad = requests::first_bad(parts::request_list(block));
     if bad < r {
         return Reading::BadRequest(bad);
     }
-    let repeated = references::first_repeated(&block[HEADER_SIZE..middle]);
+    let repeated = references::first_repeated(parts::reference_list(block));
     if repeated < p {
         return Reading::RepeatedReference(repeated);
     }
     Reading::Block(Fields {
-        site: block[0],
-        sequence: base::number_of(block[1], block[2]),
+        site: parts::site_of(block),
+        sequence: parts::sequence_of(block),
         references: p,
         requests: r,
     })

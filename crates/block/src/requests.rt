@@ -1,7 +1,7 @@
 // The request list of a block: the bytes `&block[5 + 32 * p..]`.
-use crate::MAX_SLOT;
 use crate::REQUEST_SIZE;
 use crate::Request;
+use setup::MAX_SLOT;
 ghost use mathlib.Core.Path.{_≡_};
 ghost use Prim.Native.Nat.{_+_, _*_, _≤_};
 ghost use lib.ListN.{length};

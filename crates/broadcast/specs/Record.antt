@@ -1,7 +1,6 @@
--- Document 01, "One slot's process": a record, and its 40 numbers.
-use mathlib.Core.List.{List, [], _∷_, _++_}
-use Prim.Native.Nat.{ℕ, _+_}
-use lib.ListN.{getD, take, drop, set, replicate}
+-- Document 01, "One slot's process": a record.
+use Prim.Native.Nat.{ℕ}
+use lib.ListN.{set, replicate}
 use Rattle.setup.specs.Setup.{maxSites}
 use Rattle.broadcast.specs.declared.Sent.{Sent}
 use Rattle.broadcast.specs.declared.SlotRecord.{SlotRecord}
@@ -40,42 +39,3 @@ noteEcho p v r = record { sent = r .sent; echoes = set (r .echoes) p v; readies 
 
 abbrev pub noteReady : ℕ → ℕ → SlotRecord → SlotRecord
 noteReady p v r = record { sent = r .sent; echoes = r .echoes; readies = set (r .readies) p v; made = r .made }
-
--- ---- its numbers
-
--- SEND, ECHO, READY and delivery
-abbrev pub sentCount : ℕ
-sentCount = 4
-
-abbrev pub echoesOffset : ℕ
-echoesOffset = sentCount
-
-abbrev pub readiesOffset : ℕ
-readiesOffset = echoesOffset + maxSites
-
-abbrev pub madeOffset : ℕ
-madeOffset = readiesOffset + maxSites
-
--- 40 numbers
-abbrev pub recordSize : ℕ
-recordSize = madeOffset + sentCount
-
-abbrev pub sentNumbers : Sent → List ℕ
-sentNumbers s = s .send ∷ s .echo ∷ s .ready ∷ s .delivered ∷ []
-
--- 0 to 3 sent so far, 4 to 19 ECHO heard, 20 to 35 READY heard, 36 to 39 made in this block
-unfoldable pub flatten : SlotRecord → List ℕ
-flatten r = sentNumbers (r .sent) ++ (r .echoes ++ (r .readies ++ sentNumbers (r .made)))
-
-abbrev pub sentAt : List ℕ → ℕ → Sent
-sentAt b at = record { send = getD b at 0; echo = getD b (at + 1) 0; ready = getD b (at + 2) 0; delivered = getD b (at + 3) 0 }
-
--- the record whose numbers stand from an index on
-unfoldable pub recordAt : List ℕ → ℕ → SlotRecord
-recordAt b at =
-    record {
-      sent = sentAt b at;
-      echoes = take maxSites (drop (at + echoesOffset) b);
-      readies = take maxSites (drop (at + readiesOffset) b);
-      made = sentAt b (at + madeOffset);
-    }

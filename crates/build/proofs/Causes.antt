@@ -1,24 +1,28 @@
 -- Each refusal of building comes under its cause and under no other, and there is none where every check holds; and what value comes with it.
 -- Assumes nothing.
-use mathlib.Core.Path.{_≡_, refl, sym, ap, _∙_, subst}
-use mathlib.Core.Bool.{Bool, true, false, cond}
-use mathlib.Core.Logic.{_↔_, _≢_, _⊎_, inl, inr, Iff·trans}
+use mathlib.Core.Path.{_≡_, refl, sym, subst}
+use mathlib.Core.Bool.{Bool, true, false}
+use mathlib.Core.Logic.{_↔_, _≢_, _⊎_, inl, inr, Iff·rfl, Iff·trans, Iff·and}
+use mathlib.Core.List.{List, [], _∷_}
 use Prim.Native.Nat.{ℕ, _/_, _%_, _≤_, _<_}
 use native.Mathlib.Omega.{arith}
 use lib.Dec.{eqb, leb}
-use lib.ListN.{length, drop}
+use lib.ListN.{length}
 use borrow.Author.Tests.{eq-eqb, ne-eqb, eqb-true, eqb-false, lt-ltb, le-ltb, ltb-true, ltb-false, le-leb, lt-leb, leb-true, leb-false}
-use Rattle.base.specs.Search.{firstBelow, anyBelow, First}
+use Rattle.base.specs.Search.{anyBelow, First}
+use Rattle.base.specs.List.{someIn}
 use Rattle.base.specs.Bytes.{Bytes}
 use Rattle.base.proofs.Tests.{and-left, and-right}
 use Rattle.base.proofs.Search.{any-such, first-such}
+use Rattle.answer.specs.Checks.{Check}
+use Rattle.answer.specs.Promises.{Passed, elsewhere, different, Decided}
+use Rattle.answer.proofs.Checks.{valuedOnly, no-value as checks-no-value, absent, present, either-fails}
+use Rattle.answer.proofs.Promises.{first-refused, second-refused, decided}
 use Rattle.block.specs.Limits.{requestSize, maxRequestListSize}
 use Rattle.block.specs.Reading.{badRequestAt}
 use Rattle.block.proofs.Causes.{bad-means}
 use Rattle.table.specs.Layout.{setupOf, viewOf}
 use Rattle.table.specs.Form.{inForm}
-use Rattle.table.specs.Checks.{answerTo}
-use Rattle.table.proofs.Checks.{none-refused, past-check, at-check, elsewhere, never-answered, value-beside, and-then, absent, present, either-fails}
 use Rattle.watch.specs.Promises.{Shares}
 use Rattle.watch.proofs.Shared.{forked-shares}
 use Rattle.build.specs.Building.{maxSequence, nextSequence, wellListed, buildingChecks, buildingFrom}
@@ -57,71 +61,40 @@ module _ (seen : ℕ → Bool) (t : Bytes) (p : ℕ) (requests output : Bytes) w
   abbrev size : ℕ
   size = needed seen t p requests output
 
-  -- the number that the checks after the first k answer
-  abbrev from : ℕ → ℕ
-  from k = answerTo (drop k (buildingChecks seen (inForm t) (setupOf t) (viewOf t) p requests (length output))) size .refusal
+  abbrev checks : List Check
+  checks = buildingChecks seen (inForm t) (setupOf t) (viewOf t) p requests (length output)
 
-  past-two : (n : ℕ) → 2 ≢ n → (number ≡ n) ↔ ((inForm t ≡ true) × (from 1 ≡ n))
-  unfolding buildingFrom
-  past-two n a = past-check _ _ _ n (λ _. a)
+  told : Decided (answer seen t p requests output) checks size
+  unfolding buildingFrom different elsewhere
+  told = decided checks size refl
 
-  past-four : (n : ℕ) → 2 ≢ n → 4 ≢ n → (number ≡ n) ↔ (BySite t p × (from 2 ≡ n))
-  past-four n a b = Iff·trans (and-then (past-two n a) (past-check _ _ _ n (λ _. b))) (
-    λ q. (record { formed = q .0; site = ltb-true _ _ (q .1 .0) }, q .1 .1),
-    λ q. (q .0 .formed, (lt-ltb _ _ (q .0 .site), q .1)),
+  -- ---- what the first of them say
+
+  by-site : Passed checks 2 ↔ BySite t p
+  by-site = (λ q. record { formed = q .0 .1; site = ltb-true _ _ (q .1) }, λ b. ((tt, b .formed), lt-ltb _ _ (b .site)))
+
+  listed : Passed checks 3 ↔ Listed t p requests
+  listed = (
+    λ q. let w = well-listed requests .0 (q .1) in record { bySite = by-site .0 (q .0); fits = w .0; whole = w .1 },
+    λ l. (by-site .1 (l .bySite), well-listed requests .1 (l .fits, l .whole)),
   )
 
-  past-three : (n : ℕ) → 2 ≢ n → 4 ≢ n → 3 ≢ n → (number ≡ n) ↔ (Listed t p requests × (from 3 ≡ n))
-  past-three n a b c = Iff·trans (and-then (past-four n a b) (past-check _ _ _ n (λ _. c))) (
-    λ q. let w = well-listed requests .0 (q .1 .0) in (record { bySite = q .0; fits = w .0; whole = w .1 }, q .1 .1),
-    λ q. (q .0 .bySite, (well-listed requests .1 (q .0 .fits, q .0 .whole), q .1)),
-  )
-
-  -- n is none of the numbers 2 to 6
-  abbrev NotUpToSix : ℕ → Type 0
-  NotUpToSix n = (k : ℕ) → 2 ≤ k → k ≤ 6 → k ≢ n
-
-  past-six : (n : ℕ) → NotUpToSix n → (number ≡ n) ↔ (Asked t p requests × (from 4 ≡ n))
-  past-six n out =
-      let here = absent _ _ (some-bad requests) in
-      Iff·trans
-      (and-then (past-three n (out 2 (omega arith) (omega arith)) (out 4 (omega arith) (omega arith)) (out 3 (omega arith) (omega arith)))
-      (past-check _ _ _ n (λ _. out 6 (omega arith) (omega arith)))) (
+  asked : Passed checks 4 ↔ Asked t p requests
+  asked =
+      let here = absent _ _ (some-bad requests) in (
         λ q.
-            let l = q .0 in
-            (record { formed = l .bySite .formed; site = l .bySite .site; fits = l .fits; whole = l .whole; noneBad = here .0 (q .1 .0) }, q .1 .1),
-        λ q.
-            let a = q .0 in
-            (record { bySite = record { formed = a .formed; site = a .site }; fits = a .fits; whole = a .whole }, (here .1 (a .noneBad), q .1)),
+            let l = listed .0 (q .0) in
+            record { formed = l .bySite .formed; site = l .bySite .site; fits = l .fits; whole = l .whole; noneBad = here .0 (q .1) },
+        λ a. (listed .1 (record { bySite = record { formed = a .formed; site = a .site }; fits = a .fits; whole = a .whole }), here .1 (a .noneBad)),
       )
 
-  pub two : (number ≡ 2) ↔ (inForm t ≡ false)
-  unfolding buildingFrom elsewhere
-  two = at-check _ _ _ (never-answered 2 _ _ refl)
-
-  pub four : (number ≡ 4) ↔ ((inForm t ≡ true) × (setupOf t .sites ≤ p))
-  unfolding elsewhere
-  four = and-then (past-two 4 (λ e. omega arith)) (Iff·trans (at-check _ _ _ (never-answered 4 _ _ refl)) (ltb-false _ _, le-ltb _ _))
-
-  pub three : (number ≡ 3) ↔ (BySite t p × ((maxRequestListSize < length requests) ⊎ (length requests % requestSize ≢ 0)))
-  unfolding elsewhere
-  three = and-then (past-four 3 (λ e. omega arith) (λ e. omega arith)) (Iff·trans (at-check _ _ _ (never-answered 3 _ _ refl)) (ill-listed requests))
-
-  pub six : (number ≡ 6) ↔ (Listed t p requests × ((i : ℕ) × BadRequest requests i))
-  unfolding elsewhere
-  six = and-then (past-three 6 (λ e. omega arith) (λ e. omega arith) (λ e. omega arith)) (Iff·trans (at-check _ _ _ (never-answered 6 _ _ refl)) (present _ _ (some-bad requests)))
-
-  past-sixteen : (n : ℕ) → NotUpToSix n → 16 ≢ n → (number ≡ n) ↔ (Able seen t p requests output × (from 5 ≡ n))
-  past-sixteen n out other =
+  able : Passed checks 5 ↔ Able seen t p requests output
+  able =
       let here = absent _ _ (forked-shares (viewOf t) seen p) in
-      Iff·trans (and-then (past-six n out) (past-check _ _ _ n (λ _. other))) (
-        λ q. (record { asked = q .0; unforked = here .0 (q .1 .0) }, q .1 .1),
-        λ q. (q .0 .asked, (here .1 (q .0 .unforked), q .1)),
-      )
+      (λ q. record { asked = asked .0 (q .0); unforked = here .0 (q .1) }, λ a. (asked .1 (a .asked), here .1 (a .unforked)))
 
-  pub sixteen : (number ≡ 16) ↔ (Asked t p requests × Shares (viewOf t) seen p)
-  unfolding elsewhere
-  sixteen = and-then (past-six 16 (λ k l h e. omega arith)) (Iff·trans (at-check _ _ _ (never-answered 16 _ _ refl)) (present _ _ (forked-shares (viewOf t) seen p)))
+  lasting : Passed checks 6 ↔ Lasting seen t p requests output
+  lasting = (λ q. record { able = able .0 (q .0); within = leb-true _ _ (q .1) }, λ l. (able .1 (l .able), le-leb _ _ (l .within)))
 
   abbrev sequence : ℕ
   sequence = nextSequence seen (viewOf t) p
@@ -138,46 +111,43 @@ module _ (seen : ℕ → Bool) (t : Bytes) (p : ℕ) (requests output : Bytes) w
     λ w. lt-leb sequence maxSequence (omega (arith, w .sequence, next-above seen (viewOf t) p (w .place) (w .below) (w .own))),
   )
 
-  pub thirty : (number ≡ 30) ↔ (Able seen t p requests output × Ended seen t p)
-  unfolding elsewhere
-  thirty = and-then (past-sixteen 30 (λ k l h e. omega arith) (λ e. omega arith)) (Iff·trans (at-check _ _ _ (never-answered 30 _ _ refl)) ended)
+  -- ---- each number
 
-  past-thirty : (n : ℕ) → NotUpToSix n → 16 ≢ n → 30 ≢ n → (number ≡ n) ↔ (Lasting seen t p requests output × (from 6 ≡ n))
-  past-thirty n out other third =
-      Iff·trans (and-then (past-sixteen n out other) (past-check _ _ _ n (λ _. third))) (
-        λ q. (record { able = q .0; within = leb-true _ _ (q .1 .0) }, q .1 .1),
-        λ q. (q .0 .able, (le-leb _ _ (q .0 .within), q .1)),
-      )
+  pub two : (number ≡ 2) ↔ (inForm t ≡ false)
+  two = first-refused told
+
+  pub four : (number ≡ 4) ↔ ((inForm t ≡ true) × (setupOf t .sites ≤ p))
+  four = Iff·trans (second-refused told) (Iff·and Iff·rfl (ltb-false _ _, le-ltb _ _))
+
+  pub three : (number ≡ 3) ↔ (BySite t p × ((maxRequestListSize < length requests) ⊎ (length requests % requestSize ≢ 0)))
+  three = Iff·trans (told .refused 2 (omega arith)) (Iff·and by-site (ill-listed requests))
+
+  pub six : (number ≡ 6) ↔ (Listed t p requests × ((i : ℕ) × BadRequest requests i))
+  six = Iff·trans (told .refused 3 (omega arith)) (Iff·and listed (present _ _ (some-bad requests)))
+
+  pub sixteen : (number ≡ 16) ↔ (Asked t p requests × Shares (viewOf t) seen p)
+  sixteen = Iff·trans (told .refused 4 (omega arith)) (Iff·and asked (present _ _ (forked-shares (viewOf t) seen p)))
+
+  pub thirty : (number ≡ 30) ↔ (Able seen t p requests output × Ended seen t p)
+  thirty = Iff·trans (told .refused 5 (omega arith)) (Iff·and able ended)
 
   pub seventeen : (number ≡ 17) ↔ (Lasting seen t p requests output × (length output < size))
-  unfolding elsewhere
-  seventeen = and-then (past-thirty 17 (λ k l h e. omega arith) (λ e. omega arith) (λ e. omega arith)) (Iff·trans (at-check _ _ _ (never-answered 17 _ _ refl))
-      (λ e. leb-false _ _ e, λ h. lt-leb _ _ h))
+  seventeen = Iff·trans (told .refused 6 (omega arith)) (Iff·and lasting (leb-false _ _, lt-leb _ _))
 
   pub none : (number ≡ 0) ↔ (Lasting seen t p requests output × (size ≤ length output))
-  none = and-then (past-thirty 0 (λ k l h e. omega arith) (λ e. omega arith) (λ e. omega arith)) (Iff·trans (past-check _ _ _ 0 (λ _ e. omega arith))
-      (λ q. leb-true _ _ (q .0), λ h. (le-leb _ _ h, none-refused size)))
+  none = Iff·trans (told .none) (Iff·and lasting (leb-true _ _, le-leb _ _))
 
   -- ---- the value beside each
 
-  -- what the table of refusals names beside n
-  abbrev named : ℕ → ℕ
-  named n = cond (eqb n 0) size (cond (eqb n 17) size (cond (eqb n 6) (firstBelow (badRequestAt requests) (count requests)) 0))
-
-  value-named : answer seen t p requests output .value ≡ named number
-  unfolding buildingFrom
-  value-named =
-      value-beside number (named number) _ size
-      (λ _. ap named, (λ _. ap named, (λ _. ap named, (λ _. ap named, (λ _. ap named, (λ _. ap named, (λ _. ap named, ap named))))))) refl
-
   pub first-bad : number ≡ 6 → First (BadRequest requests) (answer seen t p requests output .value)
   first-bad e =
-      subst (First (BadRequest requests)) (sym (value-named ∙ ap named e))
+      subst (First (BadRequest requests)) (sym (told .valued 3 (omega arith) e))
       (first-such (badRequestAt requests) (count requests) (BadRequest requests) (bad-means requests (count requests)) (some-bad requests .1 (six .0 e .1)))
 
   pub value : (number ≡ 0) ⊎ (number ≡ 17) → answer seen t p requests output .value ≡ size
-  value (inl e) = value-named ∙ ap named e
-  value (inr e) = value-named ∙ ap named e
+  value (inl e) = told .returned e
+  value (inr e) = told .valued 6 (omega arith) e
 
   pub no-value : number ≢ 0 → number ≢ 6 → number ≢ 17 → answer seen t p requests output .value ≡ 0
-  no-value z b s = value-named ∙ rw (ne-eqb number 0 z, ne-eqb number 17 s, ne-eqb number 6 b)
+  unfolding buildingFrom valuedOnly someIn
+  no-value z b s = checks-no-value (0 ∷ 6 ∷ 17 ∷ []) checks size refl (rw (ne-eqb number 0 z, ne-eqb number 6 b, ne-eqb number 17 s))

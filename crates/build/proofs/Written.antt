@@ -8,13 +8,13 @@ use lib.ListN.{length, take, drop}
 use borrow.Author.Tests.{le-leb, lt-leb}
 use Rattle.base.specs.Bytes.{Bytes, splice}
 use Rattle.base.proofs.Splice.{splice-part-in}
+use Rattle.answer.specs.Checks.{success, refused, answerTo}
 use Rattle.block.specs.Limits.{headerSize, referenceSize}
 use Rattle.block.specs.Layout.{requestsIn, content, encode}
 use Rattle.block.specs.Steps.{Writable}
 use Rattle.block.proofs.Encoding.{references-held}
 use Rattle.table.specs.Layout.{viewOf}
 use Rattle.table.specs.Form.{inForm}
-use Rattle.table.specs.Checks.{success, refused, answerTo}
 use Rattle.table.proofs.Formed.{formed-of}
 use Rattle.build.specs.Building.{maxSequence, nextSequence, picked, nextContent, nextBlock}
 use Rattle.build.specs.Steps.{Listed, digestsOf, nextAnswer, nextOutput}

@@ -8,15 +8,15 @@ use lib.ListN.{length, take}
 use Rattle.base.specs.Search.{firstBelow, anyBelow}
 use Rattle.base.specs.List.{passing}
 use Rattle.base.specs.Bytes.{Bytes, splice}
+use Rattle.answer.specs.declared.Answer.{Answer}
+use Rattle.answer.specs.Checks.{Check, check, answerTo}
+use Rattle.setup.specs.Setup.{Setup}
 use Rattle.block.specs.Limits.{requestSize, maxReferences, maxRequestListSize}
 use Rattle.block.specs.Layout.{Content, requestsIn, encode}
 use Rattle.block.specs.Reading.{badRequestAt}
-use Rattle.block.specs.declared.Answer.{Answer}
-use Rattle.setup.specs.Setup.{Setup}
 use Rattle.table.specs.View.{View}
 use Rattle.table.specs.Layout.{setupOf, viewOf}
 use Rattle.table.specs.Form.{inForm}
-use Rattle.table.specs.Checks.{Check, check, answerTo}
 use Rattle.watch.specs.Forks.{everywhere, ofSite, forkedIn}
 
 -- the greatest sequence number that two bytes hold

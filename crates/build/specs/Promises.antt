@@ -6,10 +6,10 @@ use Prim.Native.Nat.{ℕ, _/_, _%_, _≤_, _<_}
 use lib.ListN.{length, take, drop}
 use Rattle.base.specs.Search.{First}
 use Rattle.base.specs.Bytes.{Bytes, AllBytes}
+use Rattle.answer.specs.declared.Answer.{Answer}
 use Rattle.block.specs.Limits.{requestSize, maxRequestListSize}
 use Rattle.block.specs.Promises.{BadIn}
 use Rattle.block.specs.Codec.{Reads}
-use Rattle.block.specs.declared.Answer.{Answer}
 use Rattle.table.specs.View.{maxPlaces}
 use Rattle.table.specs.Layout.{setupOf, countOf, sequenceAt, viewOf}
 use Rattle.table.specs.Form.{inForm}

@@ -8,12 +8,12 @@ use lib.ListN.{length, take, drop}
 use Rattle.base.specs.List.{passing}
 use Rattle.base.specs.Mask.{maskBelow, inMask}
 use Rattle.base.specs.Bytes.{Bytes, joined, splice}
+use Rattle.answer.specs.declared.Answer.{Answer}
+use Rattle.answer.specs.Checks.{answerTo}
 use Rattle.block.specs.Limits.{referenceSize, requestSize, maxReferences, maxRequestListSize}
-use Rattle.block.specs.declared.Answer.{Answer}
 use Rattle.table.specs.View.{maxPlaces}
 use Rattle.table.specs.Layout.{setupOf, countOf, digestAt, viewOf}
 use Rattle.table.specs.Form.{inForm}
-use Rattle.table.specs.Checks.{answerTo}
 use Rattle.table.specs.Steps.{Places}
 use Rattle.watch.specs.Forks.{forkedIn}
 use Rattle.build.specs.Building.{isReferred, isOther, nextBlock, buildingChecks}

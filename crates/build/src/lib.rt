@@ -4,7 +4,7 @@
 mod next;
 mod picking;
 
-use block::Answer;
+use answer::Answer;
 use block::HEADER_SIZE;
 use block::MAX_REFERENCES;
 use block::REFERENCE_SIZE;
@@ -32,35 +32,20 @@ pub fn build_from(table: &[u8], seen: u64, site: u8, requests: &[u8], output: &m
     ensures { λ _. ⌜ now (output .exit) ≡ builtFrom (inMask seen) (now (table .entry)) site (now (requests .entry)) (now (output .entry)) ⌝ }
 {
     if !table::in_form(table) {
-        return Answer {
-            refusal: 2,
-            value: 0,
-        };
+        return answer::refused(2, 0);
     }
     if table::rows::sites_of(table) <= site {
-        return Answer {
-            refusal: 4,
-            value: 0,
-        };
+        return answer::refused(4, 0);
     }
     if !well_listed(requests) {
-        return Answer {
-            refusal: 3,
-            value: 0,
-        };
+        return answer::refused(3, 0);
     }
     let bad = block::requests::first_bad(requests);
     if bad < requests.len() / block::REQUEST_SIZE {
-        return Answer {
-            refusal: 6,
-            value: bad,
-        };
+        return answer::refused(6, bad);
     }
     if watch::sites::forked(table, seen, site) {
-        return Answer {
-            refusal: 16,
-            value: 0,
-        };
+        return answer::refused(16, 0);
     }
     write_next(table, seen, site, requests, output)
 }
@@ -73,20 +58,14 @@ fn write_next(table: &[u8], seen: u64, site: u8, requests: &[u8], output: &mut [
 {
     let next = next::next_sequence(table, seen, site);
     if MAX_SEQUENCE < next {
-        return Answer {
-            refusal: 30,
-            value: 0,
-        };
+        return answer::refused(30, 0);
     }
     let sequence = next as u16;
     let mut list = [0u8; REFERENCE_SIZE * MAX_REFERENCES];
     let count = picking::pick(table, seen, site, sequence, &mut list);
     let needed = HEADER_SIZE + REFERENCE_SIZE * count + requests.len();
     if output.len() < needed {
-        return Answer {
-            refusal: 17,
-            value: needed,
-        };
+        return answer::refused(17, needed);
     }
     block::writing::write_block(
         site,
@@ -95,10 +74,7 @@ fn write_next(table: &[u8], seen: u64, site: u8, requests: &[u8], output: &mut [
         requests,
         output,
     );
-    Answer {
-        refusal: 0,
-        value: needed,
-    }
+    answer::success(needed)
 }
 
 // Writes the site's next block to the front of the output and answers with its length. Refuses in the order of document 01; a refusal

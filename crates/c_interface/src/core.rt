@@ -1,26 +1,26 @@
 // The core, for C programs that keep a campaign: each call is the one that it names.
-use block::Answer;
+use answer::Answer;
 use campaigns::Arrival;
 use watch::AncestorPlaces;
 use watch::ForkedSites;
 ghost use mathlib.Core.Path.{_≡_};
 ghost use lib.ListN.{length};
-ghost use Rattle.block.specs.Answers.{putAnswers};
 ghost use Rattle.sha256.specs.Sha256.{sha256};
+ghost use Rattle.answer.specs.Buffer.{putAnswers};
+ghost use Rattle.shelf.specs.Form as waiting;
 ghost use Rattle.table.specs.Form.{inForm};
 ghost use Rattle.table.specs.Fresh.{freshAnswer, freshIn};
 ghost use Rattle.admission.specs.Admission.{admission, admitted};
+ghost use Rattle.campaigns.specs.Arriving.{listed, arrival};
+ghost use Rattle.take_back.specs.TakingBack.{takingBack, takenBack};
 ghost use Rattle.interpret.specs.Interpretation.{interpretation, marked, recorded};
 ghost use Rattle.retire.specs.Retiring.{retiring, retiredTable, retiredRecords};
-ghost use Rattle.take_back.specs.TakingBack.{takingBack, takenBack};
+ghost use Rattle.join.specs.Join.{joinAnswer, joined, copied};
 ghost use Rattle.watch.specs.Forks.{forks};
 ghost use Rattle.watch.specs.Ancestors.{ancestors};
 ghost use Rattle.build.specs.Building.{building, built};
-ghost use Rattle.shelf.specs.Form as waiting;
-ghost use Rattle.campaigns.specs.Arriving.{listed, arrival};
-ghost use Rattle.join.specs.Join.{joinAnswer, joined, copied};
-ghost use Rattle.agreement.specs.Run.{siteAfter, siteAnswers};
-ghost use Rattle.agreement.specs.Encoding.{callsIn};
+ghost use Rattle.run.specs.Run.{siteAfter, siteAnswers};
+ghost use Rattle.run.specs.Encoding.{callsIn};
 
 // The empty table of a setup, into a lent buffer.
 #[no_mangle]
@@ -115,7 +115,7 @@ pub extern "C" fn gt_replay(
     ensures { λ _. ⌜ now (records .exit) ≡ siteAfter sha256 (record { table = now (table .entry); records = now (records .entry) }) (callsIn (now (calls .entry))) .records ⌝ }
     ensures { λ _. ⌜ now (answers .exit) ≡ putAnswers (now (answers .entry)) 0 (siteAnswers sha256 (record { table = now (table .entry); records = now (records .entry) }) (callsIn (now (calls .entry)))) ⌝ }
 {
-    agreement::replay(table, records, calls, answers)
+    run::replay(table, records, calls, answers)
 }
 
 // Whether a lent buffer is a shelf in form.

@@ -3,7 +3,7 @@
 // core is the one that it names, for all bytes and numbers. Assumes: the C program lends what the headers in host/ ask for.
 pub mod core;
 
-use block::Answer;
+use answer::Answer;
 use block::Fields;
 use block::REFERENCE_SIZE;
 use block::Reading;
@@ -32,16 +32,10 @@ fn put_digest(digest: &[u8], output: &mut [u8]) -> Answer
     ensures { λ _. ⌜ now (output .exit) ≡ putOutput (now (digest .entry)) (now (output .entry)) ⌝ }
 {
     if output.len() < REFERENCE_SIZE {
-        return Answer {
-            refusal: 17,
-            value: REFERENCE_SIZE,
-        };
+        return answer::refused(17, REFERENCE_SIZE);
     }
     base::put(output, 0, digest);
-    Answer {
-        refusal: 0,
-        value: 0,
-    }
+    answer::success(0)
 }
 
 // The message's digest, to the front of the output.
@@ -71,10 +65,7 @@ pub extern "C" fn gt_read_block(bytes: &[u8]) -> BlockReading
         };
     };
     BlockReading {
-        answer: Answer {
-            refusal: 0,
-            value: 0,
-        },
+        answer: answer::success(0),
         fields,
     }
 }
@@ -89,18 +80,11 @@ pub extern "C" fn gt_reference(bytes: &[u8], index: usize, output: &mut [u8]) ->
     let Reading::Block(fields) = reading else {
         return block::answer_of(reading);
     };
-    let p = fields.references;
-    if p <= index {
-        return Answer {
-            refusal: 13,
-            value: 0,
-        };
+    if fields.references <= index {
+        return answer::refused(13, 0);
     }
-    let middle = block::HEADER_SIZE + REFERENCE_SIZE * p;
-    put_digest(
-        block::references::reference(&bytes[block::HEADER_SIZE..middle], index),
-        output,
-    )
+    let list = block::parts::reference_list(bytes);
+    put_digest(block::references::reference(list, index), output)
 }
 
 // A request of a block.
@@ -116,24 +100,17 @@ pub extern "C" fn gt_request(bytes: &[u8], index: usize) -> Requested
             number: 0,
         };
     };
-    let p = fields.references;
     if fields.requests <= index {
         return Requested {
-            answer: Answer {
-                refusal: 13,
-                value: 0,
-            },
+            answer: answer::refused(13, 0),
             slot: 0,
             number: 0,
         };
     }
-    let middle = block::HEADER_SIZE + REFERENCE_SIZE * p;
-    let request = block::requests::request(&bytes[middle..], index);
+    let list = block::parts::request_list(bytes);
+    let request = block::requests::request(list, index);
     Requested {
-        answer: Answer {
-            refusal: 0,
-            value: 0,
-        },
+        answer: answer::success(0),
         slot: request.slot,
         number: request.number,
     }

@@ -9,9 +9,9 @@ use Rattle.base.specs.Bytes.{Bytes, sameBytes}
 use Rattle.base.specs.List.{someIn, thoseIn}
 use Rattle.base.proofs.Tests.{by-test}
 use Rattle.base.proofs.Those.{length-those, count-in-le}
-use Rattle.admission.specs.Admission.{admission}
 use Rattle.shelf.specs.Layout.{Waiting}
 use Rattle.shelf.specs.Rules.{isFor, waits}
+use Rattle.admission.specs.Admission.{admission}
 use Rattle.campaigns.specs.Passes.{Passed, waitsOn, andThen, admits, pass, passes, settled}
 use Rattle.campaigns.specs.Promises.{only}
 use Rattle.campaigns.proofs.Inductions.{pass-by, passes-enough}

@@ -8,14 +8,14 @@ use lib.Dec.{eqb}
 use borrow.Author.Tests.{eqb-true, eqb-false}
 use Rattle.base.specs.Bytes.{Bytes}
 use Rattle.base.proofs.Tests.{by-test, true-not-false}
-use Rattle.block.specs.declared.Answer.{Answer}
+use Rattle.answer.specs.declared.Answer.{Answer}
+use Rattle.shelf.specs.Layout.{waitingIn}
+use Rattle.shelf.specs.Rules.{maxCampaign, hasPlace, waits}
+use Rattle.shelf.specs.Form.{inForm}
 use Rattle.table.specs.Form as table
 use Rattle.admission.specs.Admission.{admission}
 use Rattle.admission.specs.Promises.{Causes as OwnCauses}
 use Rattle.admission.proofs.Causes.{causes as admission-causes}
-use Rattle.shelf.specs.Layout.{waitingIn}
-use Rattle.shelf.specs.Rules.{maxCampaign, hasPlace, waits}
-use Rattle.shelf.specs.Form.{inForm}
 use Rattle.campaigns.specs.Arriving.{Called, outcomesSize}
 use Rattle.campaigns.specs.Promises.{Lent, Tested, WouldGet9, Causes}
 use Rattle.campaigns.proofs.Ways.{admission-elsewhere, all, at21, at17, at2, at20, at19, at9, at0, at-other, by-way}

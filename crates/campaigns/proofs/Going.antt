@@ -10,11 +10,11 @@ use lib.Seq.{length-take-le}
 use Rattle.base.specs.Bytes.{Bytes}
 use Rattle.base.proofs.Tests.{by-test}
 use Rattle.sha256.specs.Sha256.{sha256}
-use Rattle.admission.specs.Admission.{admission, admitted}
 use Rattle.shelf.specs.Layout.{maxWaiting, Waiting, waitingIn, shelfBytes}
 use Rattle.shelf.specs.Rules.{isFor}
 use Rattle.shelf.specs.Steps.{noWaiting, AllFit, Laid, without}
 use Rattle.shelf.proofs.Laid.{fit-without, laid-own, laid-waiting}
+use Rattle.admission.specs.Admission.{admission, admitted}
 use Rattle.campaigns.specs.Passes.{waitsOn, outcomesOf, admits, pass}
 use Rattle.campaigns.specs.Steps.{Passable, Turned, passedBy, takenOut, turned}
 use Rattle.campaigns.specs.declared.Pass.{Pass}

@@ -9,9 +9,9 @@ use borrow.Author.Tests.{eqb-true, ne-eqb}
 use Rattle.base.specs.Bytes.{Bytes}
 use Rattle.base.specs.List.{someIn}
 use Rattle.base.proofs.Tests.{by-test, true-not-false}
-use Rattle.admission.specs.Admission.{admission, admitted}
 use Rattle.shelf.specs.Layout.{Waiting}
 use Rattle.shelf.specs.Rules.{isFor}
+use Rattle.admission.specs.Admission.{admission, admitted}
 use Rattle.campaigns.specs.Passes.{Try, Passed, waitsOn, outcomesOf, triedBefore, leftBefore, andThen, admits, pass, passes, settled}
 
 -- where a block was let in, there is an outcome

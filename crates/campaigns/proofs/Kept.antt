@@ -12,12 +12,12 @@ use Rattle.base.specs.Bytes.{Bytes}
 use Rattle.base.specs.List.{countIn, thoseIn}
 use Rattle.base.proofs.Tests.{by-test}
 use Rattle.base.proofs.Those.{count-in-append}
-use Rattle.admission.specs.Admission.{admission}
 use Rattle.shelf.specs.Layout.{Waiting}
 use Rattle.shelf.specs.Rules.{isFor, holds}
 use Rattle.shelf.specs.Steps.{AllFit}
 use Rattle.shelf.proofs.Formed.{Ruled}
 use Rattle.shelf.proofs.Ruled.{ruled-without}
+use Rattle.admission.specs.Admission.{admission}
 use Rattle.campaigns.specs.Passes.{Passed, waitsOn, outcomesOf, pass, settled}
 use Rattle.campaigns.specs.Promises.{only, timesWaiting, isEnd, timesEnded, TriedFrom}
 use Rattle.campaigns.proofs.Inductions.{pass-by, settled-by}

@@ -9,9 +9,9 @@ use borrow.Author.Tests.{eqb-true, eqb-false, eq-eqb}
 use Rattle.base.specs.Bytes.{Bytes}
 use Rattle.base.specs.List.{someIn}
 use Rattle.base.proofs.Tests.{by-test, true-not-false, or-left, or-right}
+use Rattle.shelf.specs.Layout.{Waiting}
 use Rattle.admission.specs.Admission.{admission}
 use Rattle.admission.proofs.Kept.{refused-table}
-use Rattle.shelf.specs.Layout.{Waiting}
 use Rattle.campaigns.specs.Passes.{Passed, waitsOn, admits, pass, settled}
 use Rattle.campaigns.proofs.Inductions.{pass-by, settled-by}
 

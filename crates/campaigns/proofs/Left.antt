@@ -12,14 +12,14 @@ use borrow.Author.Tests.{eqb-true, ne-eqb}
 use Rattle.base.specs.Bytes.{Bytes}
 use Rattle.base.specs.List.{someIn}
 use Rattle.base.proofs.Tests.{by-test, or-false, or-assoc}
-use Rattle.block.specs.Answers.{putAnswers}
-use Rattle.block.specs.declared.Answer.{Answer}
-use Rattle.block.proofs.Answered.{put-append}
-use Rattle.admission.specs.Admission.{admission, admitted}
-use Rattle.admission.proofs.Kept.{refused-table}
+use Rattle.answer.specs.Buffer.{putAnswers}
+use Rattle.answer.specs.declared.Answer.{Answer}
+use Rattle.answer.proofs.Buffer.{put-append}
 use Rattle.shelf.specs.Layout.{Waiting}
 use Rattle.shelf.specs.Rules.{isFor}
 use Rattle.shelf.specs.Steps.{noWaiting, without}
+use Rattle.admission.specs.Admission.{admission, admitted}
+use Rattle.admission.proofs.Kept.{refused-table}
 use Rattle.campaigns.specs.Passes.{Passed, waitsOn, outcome, outcomesOf, triedBefore, leftBefore, admits, pass, passes, settled}
 use Rattle.campaigns.specs.Steps.{Turned, passedBy, takenOut, turned}
 use Rattle.campaigns.specs.declared.Pass.{Pass}

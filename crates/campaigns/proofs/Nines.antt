@@ -6,16 +6,16 @@ use Prim.Native.Nat.{ℕ, _≤_}
 use lib.ListN.{length}
 use Rattle.base.specs.Bytes.{Bytes}
 use Rattle.base.proofs.Tests.{by-test}
+use Rattle.answer.specs.declared.Answer.{Answer}
 use Rattle.block.specs.Limits.{maxBlockSize}
 use Rattle.block.specs.Reading.{fieldsOf, reading}
-use Rattle.block.specs.declared.Answer.{Answer}
 use Rattle.block.specs.declared.Reading.the-variants.{Block}
 use Rattle.block.proofs.Shape.{at-most}
 use Rattle.block.proofs.Accepted.{reading-accepted}
-use Rattle.admission.specs.Admission.{admission}
-use Rattle.admission.proofs.Causes.{causes}
 use Rattle.shelf.specs.Layout.{Waiting}
 use Rattle.shelf.specs.Rules.{waits}
+use Rattle.admission.specs.Admission.{admission}
+use Rattle.admission.proofs.Causes.{causes}
 use Rattle.campaigns.specs.Arriving.{Arrived, shelved}
 
 abbrev pub withTable : Bytes → Arrived → Arrived

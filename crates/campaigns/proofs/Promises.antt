@@ -15,9 +15,6 @@ use Rattle.base.proofs.Those.{count-in-append, those-append}
 use Rattle.sha256.specs.Sha256.{sha256}
 use Rattle.sha256.proofs.Promises.{sha256-length}
 use Rattle.block.specs.Limits.{referenceSize}
-use Rattle.table.specs.Form as table
-use Rattle.admission.specs.Admission.{admission, admitted}
-use Rattle.admission.proofs.Kept.{kept}
 use Rattle.shelf.specs.Layout.{Waiting, waitingIn, shelfBytes}
 use Rattle.shelf.specs.Rules.{reserved, maxShare, isFor, holds, hasPlace, isSame, waits}
 use Rattle.shelf.specs.Form.{inForm}
@@ -25,6 +22,9 @@ use Rattle.shelf.specs.Steps.{AllFit}
 use Rattle.shelf.proofs.Formed.{Ruled, of-ruled, formed-of, formed-bytes}
 use Rattle.shelf.proofs.Ruled.{fair-of, ruled-with, place-for-two}
 use Rattle.shelf.proofs.Laid.{fit-append, waiting-laid}
+use Rattle.table.specs.Form as table
+use Rattle.admission.specs.Admission.{admission, admitted}
+use Rattle.admission.proofs.Kept.{kept}
 use Rattle.campaigns.specs.Passes.{Try, Passed, outcomesOf}
 use Rattle.campaigns.specs.Arriving.{Called, behind, listed, shelved, arrived}
 use Rattle.campaigns.specs.Promises.{only, timesWaiting, timesEnded, TriedFrom, Tested, WouldGet9, CallKeeps, Promises}

@@ -9,16 +9,18 @@ use lib.Dec.{eqb, leb}
 use borrow.Author.Tests.{eqb-true, eqb-false, eq-eqb, ne-eqb, leb-true, leb-false, le-leb, lt-leb}
 use Rattle.base.specs.Bytes.{Bytes}
 use Rattle.base.proofs.Tests.{by-test}
-use Rattle.block.specs.Reading.{reading, answerOf}
-use Rattle.block.specs.declared.Answer.{Answer}
-use Rattle.block.proofs.Causes.{other-number}
-use Rattle.table.specs.Checks.{refused, answerTo}
-use Rattle.table.proofs.Checks.{elsewhere, never-answered}
-use Rattle.admission.specs.Admission.{admission, admitted}
+use Rattle.answer.specs.declared.Answer.{Answer}
+use Rattle.answer.specs.Checks.{refused, answerTo}
+use Rattle.answer.specs.Promises.{elsewhere}
+use Rattle.answer.proofs.Checks.{number-of, never-answered}
 use Rattle.shelf.specs.Layout.{Waiting, waitingIn, shelfBytes}
 use Rattle.shelf.specs.Rules.{maxCampaign, hasPlace, waits}
 use Rattle.shelf.specs.Form.{inForm}
 use Rattle.shelf.proofs.Formed.{formed-of}
+use Rattle.table.specs.Layout.{setupOf, countOf, viewOf}
+use Rattle.table.specs.Form as table
+use Rattle.admission.specs.Admission.{admission, admitted}
+use Rattle.admission.proofs.Causes.{by-checks}
 use Rattle.campaigns.specs.Passes.{Passed, settled}
 use Rattle.campaigns.specs.Arriving.{Arrived, Called, outcomesSize, behind, shelved, arrived, arrival}
 use Rattle.campaigns.specs.Promises.{called, Tested, WouldGet9}
@@ -34,13 +36,12 @@ pub record Elsewhere (n : ℕ) : Type 0 where
 pub admission-elsewhere : (digest : Bytes → Bytes) (t b : Bytes) (verdict : ℕ) → Elsewhere (admission digest t b verdict .refusal)
 unfolding admission elsewhere
 admission-elsewhere digest t b verdict =
-    let read : (n : ℕ) → 7 < n → eqb (answerOf (reading b) .refusal) n ≡ false =
-    λ n h. ne-eqb _ n (other-number (reading b) n (λ e. omega arith) (λ e. omega arith) (λ e. omega arith) (λ e. omega arith)) in
+    let e = sym (number-of (by-checks digest (table.inForm t) (setupOf t) (viewOf t) b verdict (countOf t))) in
     record {
-      not17 = never-answered 17 _ _ (rw (read 17 (omega arith)));
-      not19 = never-answered 19 _ _ (rw (read 19 (omega arith)));
-      not20 = never-answered 20 _ _ (rw (read 20 (omega arith)));
-      not21 = never-answered 21 _ _ (rw (read 21 (omega arith)));
+      not17 = λ q. never-answered 17 _ _ refl (e ∙ q);
+      not19 = λ q. never-answered 19 _ _ refl (e ∙ q);
+      not20 = λ q. never-answered 20 _ _ refl (e ∙ q);
+      not21 = λ q. never-answered 21 _ _ refl (e ∙ q);
     }
 
 module _ (digest : Bytes → Bytes) (t s : Bytes) (c : ℕ) (b : Bytes) (verdict room : ℕ) where

@@ -4,12 +4,12 @@ use mathlib.Core.List.{List, [], _∷_, _++_}
 use Prim.Native.Nat.{ℕ, _*_}
 use lib.Dec.{eqb, leb}
 use Rattle.base.specs.Bytes.{Bytes}
-use Rattle.block.specs.declared.Answer.{Answer}
-use Rattle.table.specs.Checks.{Check, check, answerTo, refused}
-use Rattle.admission.specs.Admission.{admission, admitted}
+use Rattle.answer.specs.declared.Answer.{Answer}
+use Rattle.answer.specs.Checks.{Check, check, answerTo, refused}
 use Rattle.shelf.specs.Layout.{Waiting, waitingIn, shelfBytes}
 use Rattle.shelf.specs.Rules.{maxCampaign, maxShare, hasPlace, waits}
 use Rattle.shelf.specs.Form.{inForm}
+use Rattle.admission.specs.Admission.{admission, admitted}
 use Rattle.campaigns.specs.Passes.{Try, Passed, outcomesOf, settled}
 
 -- ---- over what waits

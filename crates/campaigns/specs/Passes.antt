@@ -7,11 +7,11 @@ use lib.Dec.{eqb}
 use lib.ListN.{length}
 use Rattle.base.specs.Bytes.{Bytes}
 use Rattle.base.specs.List.{someIn}
-use Rattle.block.specs.declared.Answer.{Answer}
-use Rattle.table.specs.Checks.{refused}
-use Rattle.admission.specs.Admission.{admission, admitted}
+use Rattle.answer.specs.declared.Answer.{Answer}
+use Rattle.answer.specs.Checks.{refused}
 use Rattle.shelf.specs.Layout.{Waiting}
 use Rattle.shelf.specs.Rules.{isFor}
+use Rattle.admission.specs.Admission.{admission, admitted}
 
 -- a waiting block that was tried, and what admission answered
 pub record Try : Type 0 where

@@ -9,11 +9,11 @@ use lib.Dec.{eqb}
 use lib.ListN.{length}
 use Rattle.base.specs.Bytes.{Bytes, sameBytes}
 use Rattle.base.specs.List.{countIn, thoseIn}
-use Rattle.table.specs.Form as table
-use Rattle.admission.specs.Admission.{admission, admitted}
 use Rattle.shelf.specs.Layout.{Waiting, waitingIn, shelfBytes}
 use Rattle.shelf.specs.Rules.{maxCampaign, reserved, maxShare, isFor, holds, hasPlace, isSame, waits}
 use Rattle.shelf.specs.Form.{inForm}
+use Rattle.table.specs.Form as table
+use Rattle.admission.specs.Admission.{admission, admitted}
 use Rattle.campaigns.specs.Passes.{Try, waitsOn}
 use Rattle.campaigns.specs.Arriving.{Called, outcomesSize, behind, listed, arrival}
 

@@ -5,13 +5,13 @@ use Prim.Native.Nat.{ℕ, _+_, _≤_, _<_}
 use lib.Dec.{eqb}
 use lib.ListN.{length, getD}
 use Rattle.base.specs.Bytes.{Bytes}
+use Rattle.answer.specs.Buffer.{putAnswer}
+use Rattle.answer.specs.declared.Answer.{Answer}
 use Rattle.block.specs.Limits.{maxBlockSize}
-use Rattle.block.specs.Answers.{putAnswer}
-use Rattle.block.specs.declared.Answer.{Answer}
-use Rattle.admission.specs.Admission.{admission, admitted}
 use Rattle.shelf.specs.Layout.{maxWaiting, Waiting, waitingIn}
 use Rattle.shelf.specs.Rules.{isFor, hasPlace}
 use Rattle.shelf.specs.Steps.{noWaiting, Laid, without}
+use Rattle.admission.specs.Admission.{admission, admitted}
 use Rattle.campaigns.specs.Passes.{waitsOn, outcome}
 use Rattle.campaigns.specs.Arriving.{Arrived, shelved}
 use Rattle.campaigns.specs.declared.Pass.{Pass}

@@ -2,12 +2,12 @@
 // specs/Arriving.antt says, for all bytes and numbers; specs/Promises.antt. Assumes nothing.
 mod passing;
 
-use block::Answer;
+use answer::Answer;
 use shelf::MAX_SHARE;
 ghost use mathlib.Core.Path.{_≡_};
 ghost use lib.ListN.{length};
-ghost use Rattle.block.specs.Answers.{putAnswers};
 ghost use Rattle.sha256.specs.Sha256.{sha256};
+ghost use Rattle.answer.specs.Buffer.{putAnswers};
 ghost use Rattle.shelf.specs.Layout.{waitingIn, shelfBytes};
 ghost use Rattle.shelf.specs.Steps.{Laid};
 ghost use Rattle.campaigns.specs.Passes.{outcomesOf, settled};
@@ -36,7 +36,7 @@ fn plain(refusal: u8, value: usize) -> Arrival
     ensures { λ r. ⌜ r ≡ record { answer = record { refusal = refusal; value = value }; ended = 0 } ⌝ }
 {
     Arrival {
-        answer: Answer { refusal, value },
+        answer: answer::refused(refusal, value),
         ended: 0,
     }
 }
@@ -48,16 +48,10 @@ fn shelve(shelf: &mut [u8], campaign: u8, block: &[u8], missing: Answer) -> Answ
     ensures { λ _. ⌜ now (shelf .exit) ≡ shelfBytes (shelvedAt missing (now (shelf .entry)) campaign (now (block .entry)) .waiting) ⌝ }
 {
     if shelf::entries::waits_from(shelf, 0, campaign, block) {
-        return Answer {
-            refusal: 20,
-            value: 0,
-        };
+        return answer::refused(20, 0);
     }
     if !shelf::share::has_place(shelf, campaign) {
-        return Answer {
-            refusal: 19,
-            value: 0,
-        };
+        return answer::refused(19, 0);
     }
     shelf::put_on(shelf, campaign, block);
     missing

@@ -1,11 +1,11 @@
 // A pass over what waits.
 use crate::Pass;
-use block::Answer;
+use answer::Answer;
 ghost use mathlib.Core.Path.{_≡_};
 ghost use Prim.Native.Nat.{_+_};
 ghost use lib.ListN.{length};
-ghost use Rattle.block.specs.Answers.{putAnswers};
 ghost use Rattle.sha256.specs.Sha256.{sha256};
+ghost use Rattle.answer.specs.Buffer.{putAnswers};
 ghost use Rattle.shelf.specs.Layout.{waitingIn, shelfBytes};
 ghost use Rattle.campaigns.specs.Passes.{outcome, outcomesOf, admits, pass};
 ghost use Rattle.campaigns.specs.Steps.{Passable, Standing, turned};
@@ -17,10 +17,7 @@ fn outcome_of(answer: Answer) -> Answer
     if answer.refusal == 0 {
         return answer;
     }
-    Answer {
-        refusal: answer.refusal,
-        value: 0,
-    }
+    answer::refused(answer.refusal, 0)
 }
 
 // Tries the block of the entry at which the pass stands, if it is the campaign's. One that is let in or dropped is taken out.
@@ -50,7 +47,7 @@ fn turn(table: &mut [u8], shelf: &mut [u8], campaign: u8, outcomes: &mut [u64], 
         };
     }
     shelf::take_out(shelf, at);
-    block::answers::put_answer(outcomes, ended, outcome_of(answer));
+    answer::put_answer(outcomes, ended, outcome_of(answer));
     if answer.refusal == 0 {
         return Pass {
             at,

@@ -1,7 +1,7 @@
 -- The cases of admission hold. Assumes nothing.
 use mathlib.Core.Path.{_≡_, refl}
 use mathlib.Core.List.{[], _∷_}
-use Rattle.table.specs.Checks.{refused}
+use Rattle.answer.specs.Checks.{refused}
 use Rattle.cases.specs.Toy.{toy}
 use Rattle.cases.specs.Run.{good, tableAfter, answers}
 use Rattle.cases.specs.Blocks.{sites, fresh, unlawful, numbered, holding}

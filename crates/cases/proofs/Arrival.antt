@@ -10,14 +10,14 @@ use Rattle.base.specs.Bytes.{Bytes}
 use Rattle.base.specs.Count.{countBelow}
 use Rattle.base.specs.List.{listBelow, someIn}
 use Rattle.base.proofs.Tests.{and-left, and-right}
-use Rattle.block.specs.Layout.{siteOf}
 use Rattle.setup.specs.Setup.{faults}
-use Rattle.broadcast.specs.Record.{madeOffset, flatten}
-use Rattle.interpret.specs.Buffer.{partOf, numbersOf}
-use Rattle.agreement.specs.History.{meaning}
-use Rattle.agreement.specs.Ancestry.{historyOf}
-use Rattle.agreement.specs.Ledger.{Call, Ledger, empty}
-use Rattle.agreement.specs.Promises.{forked, deliveredEntry}
+use Rattle.block.specs.Layout.{siteOf}
+use Rattle.records.specs.Layout.{madeOffset, flatten, partOf, numbersOf}
+use Rattle.history.specs.History.{meaning}
+use Rattle.history.specs.Ancestry.{historyOf}
+use Rattle.history.specs.Forks.{forked}
+use Rattle.run.specs.Ledger.{Call, Ledger, empty}
+use Rattle.run.specs.Promises.{deliveredEntry}
 use Rattle.agreement.proofs.Theorem.{promised}
 use Rattle.arrival.specs.Full.{Full}
 use Rattle.arrival.specs.Arrival.{AllInterpreted, entryIn, Premises, Arrival}

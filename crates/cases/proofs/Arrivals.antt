@@ -4,8 +4,8 @@ use mathlib.Core.Bool.{Bool, true}
 use mathlib.Core.List.{[], _∷_}
 use Rattle.base.specs.List.{someIn}
 use Rattle.base.specs.Bytes.{Bytes}
-use Rattle.block.specs.Answers.{putAnswer, putAnswers}
-use Rattle.table.specs.Checks.{refused}
+use Rattle.answer.specs.Buffer.{putAnswer, putAnswers}
+use Rattle.answer.specs.Checks.{refused}
 use Rattle.admission.specs.Admission.{admission, admitted}
 use Rattle.campaigns.specs.Passes.{outcomesOf, admits, pass, passes, settled}
 use Rattle.campaigns.specs.Arriving.{shelved, arrived, arrival}

@@ -14,17 +14,18 @@ use Rattle.base.proofs.Bytes.{same-equal}
 use Rattle.block.specs.Limits.{blockSize}
 use Rattle.block.specs.Layout.{siteOf}
 use Rattle.table.specs.Layout.{withMark}
+use Rattle.table.specs.Writing.{movedBytes, moveDown}
 use Rattle.table.specs.Fresh.{freshTable}
 use Rattle.admission.specs.Admission.{admission, admitted}
+use Rattle.take_back.specs.TakingBack.{takenBack}
 use Rattle.interpret.specs.Interpretation.{interpretation, marked}
 use Rattle.interpret.proofs.Promises as interpreting
-use Rattle.retire.specs.Retiring.{movedBytes, moveDown, retiring, retiredTable}
+use Rattle.retire.specs.Retiring.{retiring, retiredTable}
 use Rattle.retire.proofs.Promises as retired
-use Rattle.take_back.specs.TakingBack.{takenBack}
 use Rattle.build.specs.Building.{building, built}
-use Rattle.agreement.specs.Ledger.{Call, admit, interpret, retire, takeBack, Ledger}
-use Rattle.agreement.specs.Run.{Site, started, siteAnswer, siteStep}
-use Rattle.agreement.specs.Promises.{forked, NoCollision}
+use Rattle.history.specs.Forks.{forked, NoCollision}
+use Rattle.run.specs.Ledger.{Call, admit, interpret, retire, takeBack, Ledger}
+use Rattle.run.specs.Run.{Site, started, siteAnswer, siteStep}
 use Rattle.arrival.specs.Full.{BlockBy, Full}
 use Rattle.arrival.specs.Building.{OwnIsBuilt, BuildsByRule, BuildersFull}
 use Rattle.arrival.proofs.Building.{builders-full}

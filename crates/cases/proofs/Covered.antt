@@ -15,12 +15,12 @@ use Rattle.base.proofs.Tests.{by-test, true-not-false, and-left, and-right, or-
 use Rattle.base.proofs.List.{some-found, some-at}
 use Rattle.base.proofs.Search.{all-true-at}
 use Rattle.base.proofs.Bytes.{same-equal, equal-same}
-use Rattle.block.specs.Layout.{siteOf, sequenceOf, referencesOf, requestFor}
 use Rattle.setup.specs.Setup.{Setup, ownerOf}
-use Rattle.agreement.specs.History.{isParentOf}
-use Rattle.agreement.specs.Ancestry.{refers, through}
-use Rattle.agreement.specs.Promises.{forked}
-use Rattle.agreement.proofs.Histories.{parent-sequence}
+use Rattle.block.specs.Layout.{siteOf, sequenceOf, referencesOf, requestFor}
+use Rattle.history.specs.History.{isParentOf}
+use Rattle.history.specs.Ancestry.{refers, through}
+use Rattle.history.specs.Forks.{forked}
+use Rattle.history.proofs.Histories.{parent-sequence}
 use Rattle.arrival.specs.Full.{BlockBy, RefersTo, Parent, InChain, itself, earlier, Above, ReferredInChain, Full}
 use Rattle.arrival.specs.Arrival.{FirstRequest, InSet, Rounds}
 use Rattle.arrival.proofs.Chains.{above-held}

@@ -1,7 +1,7 @@
 -- What calls a list of bytes is, by computing. Assumes nothing.
 use mathlib.Core.Path.{refl}
 use Rattle.base.specs.Word.{word}
-use Rattle.agreement.specs.Encoding.{firstSize, firstCall, firstCalls, callsIn}
+use Rattle.run.specs.Encoding.{firstSize, firstCall, firstCalls, callsIn}
 use Rattle.cases.specs.Encoding.{EncodingCases}
 
 pub encoding : EncodingCases

@@ -4,13 +4,13 @@ use mathlib.Core.Bool.{true, cond}
 use mathlib.Core.List.{List, [], _∷_, map}
 use lib.Dec.{eqb}
 use Rattle.base.specs.Bytes.{Bytes}
-use Rattle.block.specs.declared.Answer.{Answer}
+use Rattle.answer.specs.declared.Answer.{Answer}
+use Rattle.answer.specs.Checks.{refused, answerTo}
 use Rattle.table.specs.Layout.{setupOf, countOf, viewOf, withRow}
 use Rattle.table.specs.Form.{inForm}
-use Rattle.table.specs.Checks.{refused, answerTo}
 use Rattle.admission.specs.Admission.{rowFor, admissionChecks, admission, admitted}
 use Rattle.admission.proofs.Promises.{promises}
-use Rattle.agreement.specs.Run.{siteAnswer, siteStep, siteAnswers}
+use Rattle.run.specs.Run.{siteAnswer, siteStep, siteAnswers}
 use Rattle.cases.specs.Toy.{toy, block}
 use Rattle.cases.specs.Run.{good, placed, answers}
 use Rattle.cases.specs.Blocks.{numbered, holding}

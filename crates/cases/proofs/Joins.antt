@@ -7,13 +7,12 @@ use lib.Dec.{eqb}
 use lib.ListN.{length, drop}
 use Rattle.base.specs.Bytes.{Bytes, sameBytes}
 use Rattle.base.proofs.Bytes.{same-equal}
-use Rattle.block.specs.declared.Answer.{Answer}
-use Rattle.broadcast.specs.Record.{flatten}
+use Rattle.answer.specs.declared.Answer.{Answer}
+use Rattle.answer.specs.Checks.{success, refused, answerTo}
 use Rattle.table.specs.Layout.{rowStart, siteOffset, viewOf, withMark}
 use Rattle.table.specs.Form.{inForm}
 use Rattle.table.specs.Fresh.{freshTable}
-use Rattle.table.specs.Checks.{success, refused, answerTo}
-use Rattle.interpret.specs.Buffer.{partStart, partOf, numbersOf}
+use Rattle.records.specs.Layout.{flatten, partStart, partOf, numbersOf}
 use Rattle.interpret.specs.Interpretation.{joinIf, directsBelow, recordFor, marked, recorded}
 use Rattle.join.specs.Join.{sameBlock, joinedCount, joinChecks, joinAnswer, joinPlace, joinBelow, joinedTable, handedBack, copiedBelow, joined, copied}
 use Rattle.cases.specs.Run.{zeros}

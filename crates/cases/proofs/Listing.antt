@@ -1,10 +1,9 @@
 -- The listing's bytes and text, by computing. Assumes nothing.
 use mathlib.Core.Path.{refl}
 use mathlib.Core.Bool.{Bool, true}
-use Rattle.broadcast.specs.Record.{flatten, recordAt}
 use Rattle.table.specs.Layout.{withMark}
 use Rattle.table.specs.Fresh.{freshTable}
-use Rattle.interpret.specs.Buffer.{numbersOf}
+use Rattle.records.specs.Layout.{flatten, recordAt, numbersOf}
 use Rattle.interpret.specs.Interpretation.{joinIf, directsBelow, recordFor, marked, recorded}
 use Rattle.report.specs.Text.{ascii, digits, decimal, fieldText, ending, line, names, refusalLine, deliveryLine, deliveryText}
 use Rattle.report.specs.Arrivals.{firstArrival, arrivals, arrivalsIn}

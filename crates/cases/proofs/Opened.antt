@@ -7,27 +7,28 @@ use Rattle.base.specs.Mask.{maskBelow}
 use Rattle.base.specs.List.{listBelow, passing}
 use Rattle.base.specs.Bytes.{sameBytes, allZero, parts, joined, splice}
 use Rattle.base.specs.Word.{word, wordBytes}
+use Rattle.answer.specs.Checks.{answerTo}
+use Rattle.setup.specs.Setup.{lawfulSites, ownersBelow, lawful, faults, echoQuorum, readyAmplification, readyQuorum}
 use Rattle.block.specs.Layout.{countedRequest, encode}
 use Rattle.block.specs.Reading.{wellShaped, reading}
-use Rattle.setup.specs.Setup.{lawfulSites, ownersBelow, lawful, faults, echoQuorum, readyAmplification, readyQuorum}
 use Rattle.broadcast.specs.Process.{madeOf, support, onlyIf, readyOnEchoes, readyOnReadies, deliverOnReadies, takeSend, takeEcho, takeReady, take, receive, receiveAll, request}
 use Rattle.table.specs.Layout.{rowBytes, layout, withRow}
+use Rattle.table.specs.Writing.{withoutRow}
 use Rattle.table.specs.Rules.{parents, parentRule, parentInForm, rowInForm, heldInForm}
 use Rattle.table.specs.Form.{inForm}
 use Rattle.table.specs.Fresh.{emptyTable}
-use Rattle.table.specs.Checks.{answerTo}
 use Rattle.admission.specs.Admission.{admission, admitted}
+use Rattle.take_back.specs.TakingBack.{takingBack, takenBack}
 use Rattle.interpret.specs.Slot.{parentState, insert, insertIf, numbers, messagesOf, messages, interpretSlot}
 use Rattle.interpret.specs.Interpretation.{interpretation}
 use Rattle.retire.specs.Retiring.{retirable, retiring}
-use Rattle.take_back.specs.TakingBack.{withoutRow, takingBack, takenBack}
 use Rattle.watch.specs.Forks.{forkedIn, forks}
 use Rattle.watch.specs.Ancestors.{reached, ancestors}
 use Rattle.build.specs.Building.{greatestBelow, nextSequence, picked, nextContent, wellListed, buildingFrom, builtFrom}
-use Rattle.agreement.specs.Ledger.{taken}
-use Rattle.agreement.specs.History.{slotRecord, directs}
-use Rattle.agreement.specs.Ancestry.{found, gather, find, historyOf}
-use Rattle.agreement.specs.Run.{siteAnswer, siteStep, siteAfter, siteAnswers}
+use Rattle.history.specs.History.{slotRecord, directs}
+use Rattle.history.specs.Ancestry.{found, gather, find, historyOf}
+use Rattle.run.specs.Ledger.{taken}
+use Rattle.run.specs.Run.{siteAnswer, siteStep, siteAfter, siteAnswers}
 use Rattle.cases.specs.Toy.{seen, toy, block}
 use Rattle.cases.specs.Run.{tableAfter, answers, arriving}
 use Rattle.cases.specs.Blocks.{fresh, unlawful, first, fork, second, both, stranger, third, fourth, later, echoing, readying, delivering, numbered, four, holding}

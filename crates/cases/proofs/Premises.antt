@@ -10,11 +10,11 @@ use Rattle.base.proofs.Tests.{by-test, true-not-false}
 use Rattle.base.proofs.List.{some-at}
 use Rattle.base.proofs.Bytes.{same-equal, equal-same}
 use Rattle.setup.specs.Setup.{lawful}
-use Rattle.broadcast.specs.Record.{flatten}
-use Rattle.interpret.specs.Buffer.{numbersOf}
-use Rattle.agreement.specs.History.{meaning}
-use Rattle.agreement.specs.Ledger.{Ledger, empty}
-use Rattle.agreement.specs.Promises.{forked, NoCollision, Promised}
+use Rattle.records.specs.Layout.{flatten, numbersOf}
+use Rattle.history.specs.History.{meaning}
+use Rattle.history.specs.Forks.{forked, NoCollision}
+use Rattle.run.specs.Ledger.{Ledger, empty}
+use Rattle.agreement.specs.Promises.{Promised}
 use Rattle.agreement.proofs.Theorem.{promised}
 use Rattle.cases.specs.Toy.{toy}
 use Rattle.cases.specs.Run.{callsOf, answersOf}

@@ -5,13 +5,12 @@ use mathlib.Core.List.{List}
 use Prim.Native.Nat.{ℕ, _<_}
 use native.Mathlib.Omega.{arith}
 use lib.ListN.{length}
-use Rattle.block.specs.Limits.{slotCount}
-use Rattle.block.specs.declared.Answer.{Answer}
-use Rattle.setup.specs.Setup.{Setup, lawful}
-use Rattle.broadcast.specs.Record.{flatten}
-use Rattle.agreement.specs.History.{slotRecord}
-use Rattle.agreement.specs.Ledger.{Call, empty}
-use Rattle.agreement.specs.Promises.{historyAt}
+use Rattle.answer.specs.declared.Answer.{Answer}
+use Rattle.setup.specs.Setup.{Setup, lawful, slotCount}
+use Rattle.records.specs.Layout.{flatten}
+use Rattle.history.specs.History.{slotRecord}
+use Rattle.run.specs.Ledger.{Call, empty}
+use Rattle.run.specs.Promises.{historyAt}
 use Rattle.cases.specs.Toy.{toy}
 use Rattle.cases.specs.Run.{zeros, Step, callsOf, answersOf, arriving}
 use Rattle.cases.specs.Blocks.{sites}

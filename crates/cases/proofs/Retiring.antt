@@ -13,12 +13,15 @@ use Rattle.base.proofs.Bytes.{same-equal}
 use Rattle.base.proofs.List.{list-same}
 use Rattle.broadcast.specs.declared.SlotRecord.{SlotRecord}
 use Rattle.table.specs.Layout.{layout}
-use Rattle.interpret.specs.Buffer.{partStart, partOf, recordIn}
-use Rattle.retire.specs.Retiring.{movedBytes, moveDown, movedParts, retiring, retiredTable, retiredRecords}
+use Rattle.table.specs.Writing.{movedBytes, moveDown}
+use Rattle.records.specs.Layout.{partStart, partOf, recordIn}
+use Rattle.records.specs.Moving.{movedParts}
+use Rattle.retire.specs.Retiring.{retiring, retiredTable, retiredRecords}
 use Rattle.watch.specs.Forks.{forks}
-use Rattle.agreement.specs.History.{slotRecord}
-use Rattle.agreement.specs.Ledger.{Ledger, empty, viewIn}
-use Rattle.agreement.specs.Promises.{forked, NoCollision, RetiredClear, historyAt}
+use Rattle.history.specs.History.{slotRecord}
+use Rattle.history.specs.Forks.{forked, NoCollision}
+use Rattle.run.specs.Ledger.{Ledger, empty, viewIn}
+use Rattle.run.specs.Promises.{RetiredClear, historyAt}
 use Rattle.agreement.proofs.Theorem.{promised}
 use Rattle.cases.specs.Toy.{toy}
 use Rattle.cases.specs.Run.{Turn, callsOf, answersOf, ledgerLeft, siteLeft, zeros}

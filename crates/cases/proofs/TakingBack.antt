@@ -6,19 +6,20 @@ use native.Mathlib.Omega.{arith}
 use lib.ListN.{replicate}
 use Rattle.base.specs.List.{someIn}
 use Rattle.base.proofs.Bytes.{same-equal}
-use Rattle.block.specs.declared.Answer.{Answer}
+use Rattle.answer.specs.declared.Answer.{Answer}
 use Rattle.broadcast.specs.declared.SlotRecord.{SlotRecord}
 use Rattle.table.specs.Layout.{layout}
 use Rattle.table.specs.Fresh.{nothing}
+use Rattle.records.specs.Layout.{recordIn}
 use Rattle.admission.specs.Admission.{rowFor}
-use Rattle.interpret.specs.Buffer.{recordIn}
+use Rattle.campaigns.specs.Arriving.{Arrived}
 use Rattle.take_back.specs.TakingBack.{takenBack}
 use Rattle.take_back.specs.Promises.{UndoneBy}
 use Rattle.take_back.proofs.Promises.{promises}
-use Rattle.campaigns.specs.Arriving.{Arrived}
-use Rattle.agreement.specs.Ledger.{Ledger}
-use Rattle.agreement.specs.Ledger.Call.{takeBack}
-use Rattle.agreement.specs.Promises.{forked, NoCollision, Interpreted}
+use Rattle.history.specs.Forks.{forked, NoCollision}
+use Rattle.run.specs.Ledger.{Ledger}
+use Rattle.run.specs.Ledger.Call.{takeBack}
+use Rattle.run.specs.Promises.{Interpreted}
 use Rattle.agreement.proofs.Theorem.{promised}
 use Rattle.cases.specs.Toy.{toy}
 use Rattle.cases.specs.Run.{tableAfter, callsOf, answersOf, ledgerLeft, siteLeft, zeros, echoes}

@@ -15,26 +15,25 @@ use Rattle.base.specs.Search.{allBelow}
 use Rattle.base.proofs.Tests.{by-test, and-left, and-right}
 use Rattle.base.proofs.Search.{all-true-at}
 use Rattle.base.proofs.List.{list-same}
-use Rattle.block.specs.Limits.{slotCount}
-use Rattle.block.specs.declared.Answer.{Answer}
-use Rattle.setup.specs.Setup.{Setup, lawful}
+use Rattle.answer.specs.declared.Answer.{Answer}
+use Rattle.answer.specs.Checks.{answerTo}
+use Rattle.setup.specs.Setup.{Setup, lawful, slotCount}
 use Rattle.broadcast.specs.declared.SlotRecord.{SlotRecord}
 use Rattle.broadcast.specs.declared.Sent.{Sent}
-use Rattle.broadcast.specs.Record.{recordSize, flatten}
 use Rattle.table.specs.Rules.{heldInForm}
 use Rattle.table.specs.Fresh.{emptyTable, freshTable}
-use Rattle.table.specs.Checks.{answerTo}
+use Rattle.records.specs.Layout.{recordSize, flatten, bufferSize, partOf, recordIn}
+use Rattle.records.proofs.Parts.{numbers-part, record-in}
 use Rattle.admission.specs.Admission.{admissionChecks}
-use Rattle.interpret.specs.Buffer.{bufferSize, partOf, recordIn}
-use Rattle.interpret.specs.Interpretation.{interpretationChecks}
-use Rattle.interpret.proofs.Parts.{numbers-part, record-in}
-use Rattle.agreement.specs.History.{slotRecord, meaning}
-use Rattle.retire.specs.Retiring.{retiringChecks}
 use Rattle.take_back.specs.TakingBack.{takingBackChecks}
-use Rattle.agreement.specs.Ledger.{Call, admit, interpret, retire, takeBack, Ledger, empty, taken, viewIn, ledgerAnswer, ledgerStep, ledgerAfter, ledgerAnswers}
-use Rattle.agreement.specs.Run.{Site, started, siteAfter, siteAnswers}
-use Rattle.agreement.specs.Promises.{Interpreted, RetiredClear, historyAt, ledgerOf, siteWith, Promised}
-use Rattle.agreement.proofs.Meanings.{record-sized}
+use Rattle.interpret.specs.Interpretation.{interpretationChecks}
+use Rattle.retire.specs.Retiring.{retiringChecks}
+use Rattle.history.specs.History.{slotRecord, meaning}
+use Rattle.history.proofs.Meanings.{record-sized}
+use Rattle.run.specs.Ledger.{Call, admit, interpret, retire, takeBack, Ledger, empty, taken, viewIn, ledgerAnswer, ledgerStep, ledgerAfter, ledgerAnswers}
+use Rattle.run.specs.Run.{Site, started, siteAfter, siteAnswers}
+use Rattle.run.specs.Promises.{Interpreted, RetiredClear, historyAt, ledgerOf, siteWith}
+use Rattle.agreement.specs.Promises.{Promised}
 use Rattle.agreement.proofs.Theorem.{promised}
 use Rattle.cases.specs.Toy.{toy}
 use Rattle.cases.specs.Run.{good, zeros, at, answers, Turn, callsOf, answersOf, ledgerLeft, Session, Step, arriving, Campaign}

@@ -5,11 +5,11 @@ use mathlib.Core.List.{[], _∷_, _++_}
 use lib.ListN.{drop}
 use Rattle.base.specs.List.{listBelow}
 use Rattle.base.specs.Bytes.{allZero}
-use Rattle.block.specs.Limits.{slotCount}
+use Rattle.answer.specs.Checks.{refused}
+use Rattle.setup.specs.Setup.{slotCount}
 use Rattle.table.specs.Layout.{rowStart, countOf, digestAt, siteAt, sequenceAt, referencesAt, requestAt, markAt, withRow}
 use Rattle.table.specs.Fresh.{nothing}
 use Rattle.admission.specs.Admission.{rowFor}
-use Rattle.table.specs.Checks.{refused}
 use Rattle.cases.specs.Toy.{toy, request, block}
 use Rattle.cases.specs.Run.{good, judged, placed, tableAfter, answers}
 use Rattle.cases.specs.Blocks.{fresh, unlawful, first, fork, second, both, stranger, third, fourth, numbered, four, holding}

@@ -9,13 +9,14 @@ use lib.ListN.{getD}
 use Rattle.base.specs.Bytes.{Bytes}
 use Rattle.base.specs.Count.{countBelow}
 use Rattle.base.specs.List.{listBelow}
-use Rattle.block.specs.Layout.{siteOf}
 use Rattle.setup.specs.Setup.{faults}
-use Rattle.broadcast.specs.Record.{none, withEcho, madeOffset}
-use Rattle.interpret.specs.Buffer.{partOf}
-use Rattle.agreement.specs.Ledger.{Ledger}
-use Rattle.agreement.specs.Run.{Site}
-use Rattle.agreement.specs.Promises.{forked, deliveredEntry}
+use Rattle.block.specs.Layout.{siteOf}
+use Rattle.broadcast.specs.Record.{none, withEcho}
+use Rattle.records.specs.Layout.{madeOffset, partOf}
+use Rattle.history.specs.Forks.{forked}
+use Rattle.run.specs.Ledger.{Ledger}
+use Rattle.run.specs.Run.{Site}
+use Rattle.run.specs.Promises.{deliveredEntry}
 use Rattle.arrival.specs.Full.{Full}
 use Rattle.arrival.specs.Arrival.{FirstRequest, InSet, AllInterpreted, Rounds, entryIn, Premises, DeliveredInChain}
 use Rattle.cases.specs.Toy.{toy, request, block}

@@ -6,13 +6,13 @@ use Prim.Native.Nat.{ℕ, _+_, _-_}
 use lib.ListN.{replicate}
 use Rattle.base.specs.Bytes.{Bytes}
 use Rattle.base.specs.List.{listBelow}
-use Rattle.block.specs.Answers.{putAnswers}
-use Rattle.block.specs.declared.Answer.{Answer}
-use Rattle.table.specs.Checks.{success, refused}
-use Rattle.admission.specs.Admission.{admission}
+use Rattle.answer.specs.Buffer.{putAnswers}
+use Rattle.answer.specs.declared.Answer.{Answer}
+use Rattle.answer.specs.Checks.{success, refused}
 use Rattle.shelf.specs.Layout.{Waiting, shelfSize, shelfBytes}
 use Rattle.shelf.specs.Rules.{hasPlace}
 use Rattle.shelf.specs.Form.{emptyShelf}
+use Rattle.admission.specs.Admission.{admission}
 use Rattle.campaigns.specs.Passes.{Try, outcomesOf}
 use Rattle.campaigns.specs.Arriving.{Arrived, Called, arrived, arrival}
 use Rattle.cases.specs.Toy.{toy, request, block}

@@ -3,8 +3,7 @@ use mathlib.Core.List.{List, [], _∷_, map}
 use Prim.Native.Nat.{ℕ, zero, suc, _+_}
 use lib.ListN.{replicate}
 use Rattle.base.specs.Bytes.{Bytes}
-use Rattle.block.specs.Limits.{slotCount}
-use Rattle.setup.specs.Setup.{Setup}
+use Rattle.setup.specs.Setup.{Setup, slotCount}
 use Rattle.table.specs.Layout.{layout}
 use Rattle.table.specs.Fresh.{nothing, emptyTable}
 use Rattle.admission.specs.Admission.{rowFor}

@@ -4,10 +4,10 @@
 -- builds, and is not full. The digest is the toy one.
 use mathlib.Core.List.{List, [], _∷_, _++_, List·Memᴰ}
 use Rattle.base.specs.Bytes.{Bytes}
-use Rattle.table.specs.Checks.{refused}
-use Rattle.agreement.specs.Ledger.Call.{interpret, retire, takeBack}
-use Rattle.agreement.specs.Run.{started}
-use Rattle.agreement.specs.Promises.{NoCollision}
+use Rattle.answer.specs.Checks.{refused}
+use Rattle.history.specs.Forks.{NoCollision}
+use Rattle.run.specs.Ledger.Call.{interpret, retire, takeBack}
+use Rattle.run.specs.Run.{started}
 use Rattle.arrival.specs.Full.{BlockBy, Full}
 use Rattle.arrival.specs.Building.{BuildsByRule}
 use Rattle.cases.specs.Toy.{toy, request, block}

@@ -7,11 +7,11 @@ use lib.Dec.{eqb}
 use lib.ListN.{replicate}
 use Rattle.base.specs.Bytes.{Bytes}
 use Rattle.base.specs.List.{listBelow}
+use Rattle.answer.specs.Checks.{success, refused}
 use Rattle.block.specs.Limits.{blockSize, maxReferences, maxRequestListSize}
 use Rattle.block.specs.Layout.{referencesOf}
 use Rattle.table.specs.View.{Row}
 use Rattle.table.specs.Layout.{siteOffset, rowStart, viewOf, layout}
-use Rattle.table.specs.Checks.{success, refused}
 use Rattle.watch.specs.Forks.{everywhere}
 use Rattle.build.specs.Building.{nextBlock, building, built}
 use Rattle.cases.specs.Toy.{toy, request, block}

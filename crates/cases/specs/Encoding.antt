@@ -1,10 +1,10 @@
--- Lists of calls in bytes, as `replay` takes them (crates/agreement, specs/Encoding.antt).
+-- Lists of calls in bytes, as `replay` takes them (crates/run, specs/Encoding.antt).
 use mathlib.Core.Path.{_≡_}
 use mathlib.Core.List.{[], _∷_, _++_}
 use lib.ListN.{take, replicate}
 use Rattle.base.specs.Bytes.{Bytes}
-use Rattle.agreement.specs.Ledger.Call.{admit, interpret, retire, takeBack}
-use Rattle.agreement.specs.Encoding.{callsIn}
+use Rattle.run.specs.Ledger.Call.{admit, interpret, retire, takeBack}
+use Rattle.run.specs.Encoding.{callsIn}
 
 -- an admission of three bytes with verdict 5, and an interpretation of place 258
 abbrev pub admissionBytes : Bytes

@@ -4,11 +4,11 @@ use mathlib.Core.List.{[], _∷_}
 use Prim.Native.Nat.{ℕ, _+_, _-_}
 use lib.ListN.{replicate}
 use Rattle.base.specs.Bytes.{Bytes}
+use Rattle.answer.specs.Checks.{refused}
 use Rattle.table.specs.Layout.{rowStart, siteOffset}
-use Rattle.table.specs.Checks.{refused}
-use Rattle.interpret.specs.Buffer.{bufferSize}
-use Rattle.agreement.specs.Ledger.Call.{interpret}
-use Rattle.agreement.specs.Run.{Site, siteAnswers}
+use Rattle.records.specs.Layout.{bufferSize}
+use Rattle.run.specs.Ledger.Call.{interpret}
+use Rattle.run.specs.Run.{Site, siteAnswers}
 use Rattle.cases.specs.Toy.{toy}
 use Rattle.cases.specs.Run.{good, placed, done, answers, _giving_, Session}
 use Rattle.cases.specs.Blocks.{sites, fresh, unlawful, first, fork, second, third, fourth, four}

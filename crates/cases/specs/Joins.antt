@@ -7,18 +7,17 @@ use Prim.Native.Nat.{ℕ, zero, suc, _+_, _-_, _*_}
 use lib.ListN.{drop, replicate}
 use Rattle.base.specs.Bytes.{Bytes}
 use Rattle.base.specs.List.{listBelow}
-use Rattle.block.specs.Limits.{slotCount}
-use Rattle.block.specs.declared.Answer.{Answer}
-use Rattle.setup.specs.Setup.{lawful}
+use Rattle.answer.specs.declared.Answer.{Answer}
+use Rattle.answer.specs.Checks.{success, refused}
+use Rattle.setup.specs.Setup.{lawful, slotCount}
 use Rattle.table.specs.Layout.{ownersOffset, siteOffset, sequenceOffset, requestsOffset, rowStart, tableSize, setupOf, countOf, digestAt, siteAt, sequenceAt, referencesAt, requestAt, markAt}
 use Rattle.table.specs.Form.{inForm}
 use Rattle.table.specs.Fresh.{emptyTable}
-use Rattle.table.specs.Checks.{success, refused}
-use Rattle.interpret.specs.Buffer.{bufferSize, partStart, partOf}
-use Rattle.agreement.specs.Ledger.Call.{interpret}
-use Rattle.agreement.specs.Run.{Site}
-use Rattle.agreement.specs.Promises.{siteWith}
+use Rattle.records.specs.Layout.{bufferSize, partStart, partOf}
 use Rattle.join.specs.Join.{joinAnswer, joined, copied}
+use Rattle.run.specs.Ledger.Call.{interpret}
+use Rattle.run.specs.Run.{Site}
+use Rattle.run.specs.Promises.{siteWith}
 use Rattle.cases.specs.Toy.{toy, block}
 use Rattle.cases.specs.Run.{good, zeros}
 use Rattle.cases.specs.Blocks.{sites, fresh, first, fork, second, both, stranger, third, fourth, numbered, four, holding}

@@ -6,8 +6,7 @@ use Prim.Native.Nat.{ℕ}
 use lib.ListN.{replicate}
 use Rattle.base.specs.Bytes.{Bytes}
 use Rattle.table.specs.Layout.{layout}
-use Rattle.agreement.specs.Run.{Site}
-use Rattle.report.specs.declared.Delivery.{Delivery}
+use Rattle.run.specs.Run.{Site}
 use Rattle.report.specs.Text.{names, deliveryLine}
 use Rattle.report.specs.Arrivals.{arrived, unread, arrivalsIn}
 use Rattle.report.specs.Listing.{arrivalLines, listing}

@@ -10,13 +10,14 @@ use lib.ListN.{replicate}
 use Rattle.base.specs.Bytes.{Bytes}
 use Rattle.base.specs.Count.{countBelow}
 use Rattle.base.specs.List.{listBelow}
+use Rattle.answer.specs.Checks.{refused}
 use Rattle.setup.specs.Setup.{lawful, faults}
-use Rattle.table.specs.Checks.{refused}
-use Rattle.interpret.specs.Buffer.{bufferSize, partOf}
-use Rattle.agreement.specs.Ledger.{Ledger}
-use Rattle.agreement.specs.Ledger.Call.{interpret}
-use Rattle.agreement.specs.Run.{started, siteAnswers}
-use Rattle.agreement.specs.Promises.{forked, Interpreted, NoCollision, Delivered, ledgerOf, siteWith}
+use Rattle.records.specs.Layout.{bufferSize, partOf}
+use Rattle.history.specs.Forks.{forked, NoCollision}
+use Rattle.run.specs.Ledger.{Ledger}
+use Rattle.run.specs.Ledger.Call.{interpret}
+use Rattle.run.specs.Run.{started, siteAnswers}
+use Rattle.run.specs.Promises.{Interpreted, Delivered, ledgerOf, siteWith}
 use Rattle.cases.specs.Toy.{toy, request, block}
 use Rattle.cases.specs.Run.{good, judged, placed, done, Turn, _giving_, callsOf, answersOf}
 use Rattle.cases.specs.Blocks.{sites, first, fork, third, threeSites, echoing, readying, delivering}

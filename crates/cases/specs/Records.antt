@@ -6,8 +6,8 @@ use Prim.Native.Nat.{ℕ, _*_}
 use lib.ListN.{take, drop, replicate}
 use Rattle.base.specs.Bytes.{Bytes}
 use Rattle.setup.specs.Setup.{Setup}
-use Rattle.broadcast.specs.Record.{none, recordSize}
-use Rattle.interpret.specs.Buffer.{partSize, bufferSize}
+use Rattle.broadcast.specs.Record.{none}
+use Rattle.records.specs.Layout.{recordSize, partSize, bufferSize}
 use Rattle.cases.specs.Toy.{toy, request, block}
 use Rattle.cases.specs.Run.{siteLeft, Step, _making_, sends, echoes, readies, delivers, arriving}
 use Rattle.cases.specs.Blocks.{sites, first, fork, third, threeSites, echoing, readying}

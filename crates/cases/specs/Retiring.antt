@@ -8,22 +8,23 @@ use lib.Dec.{eqb}
 use lib.ListN.{length, drop, replicate}
 use Rattle.base.specs.Bytes.{Bytes}
 use Rattle.base.specs.List.{listBelow, passing}
+use Rattle.answer.specs.Checks.{refused}
 use Rattle.broadcast.specs.declared.Sent.{Sent}
 use Rattle.broadcast.specs.Record.{none}
 use Rattle.table.specs.View.{Row, markedIf}
 use Rattle.table.specs.Layout.{viewOf, layout}
 use Rattle.table.specs.Fresh.{nothing}
-use Rattle.table.specs.Checks.{refused}
+use Rattle.records.specs.Layout.{bufferSize, partStart, partOf, recordIn}
 use Rattle.admission.specs.Admission.{rowFor, admitted}
-use Rattle.interpret.specs.Buffer.{bufferSize, partStart, partOf, recordIn}
 use Rattle.retire.specs.Retiring.{retiredTable, retiredRecords}
 use Rattle.watch.specs.Forks.{everywhere, forks}
 use Rattle.watch.specs.Ancestors.{ancestors}
 use Rattle.build.specs.Building.{nextBlock}
-use Rattle.agreement.specs.Ledger.{viewIn}
-use Rattle.agreement.specs.Ledger.Call.{interpret, retire}
-use Rattle.agreement.specs.Run.{siteAnswers}
-use Rattle.agreement.specs.Promises.{forked, InterpretedBlock}
+use Rattle.history.specs.Forks.{forked}
+use Rattle.run.specs.Ledger.{viewIn}
+use Rattle.run.specs.Ledger.Call.{interpret, retire}
+use Rattle.run.specs.Run.{siteAnswers}
+use Rattle.run.specs.Promises.{InterpretedBlock}
 use Rattle.cases.specs.Toy.{toy, request, block}
 use Rattle.cases.specs.Run.{good, placed, done, answers, Turn, _giving_, ledgerLeft, siteLeft, Session, Step, _making_, sends, echoes, readies, delivers, arriving}
 use Rattle.cases.specs.Blocks.{sites, fresh, unlawful, first, fork, second, fourSites, echoing, four}

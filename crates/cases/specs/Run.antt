@@ -6,17 +6,17 @@ use Prim.Native.Nat.{ℕ, suc}
 use lib.ListN.{length, replicate}
 use Rattle.base.specs.Bytes.{Bytes}
 use Rattle.base.specs.List.{listBelow}
-use Rattle.block.specs.declared.Answer.{Answer}
+use Rattle.answer.specs.declared.Answer.{Answer}
+use Rattle.answer.specs.Checks.{success}
 use Rattle.setup.specs.Setup.{Setup}
 use Rattle.broadcast.specs.declared.Sent.{Sent}
 use Rattle.broadcast.specs.Record.{none, withSend, withEcho, withReady, withDelivered}
 use Rattle.table.specs.Fresh.{emptyTable}
-use Rattle.table.specs.Checks.{success}
-use Rattle.interpret.specs.Buffer.{bufferSize, recordIn}
-use Rattle.agreement.specs.Ledger.{Call, Ledger}
-use Rattle.agreement.specs.Ledger.Call.{admit, interpret}
-use Rattle.agreement.specs.Run.{Site, siteAfter, siteAnswers}
-use Rattle.agreement.specs.Promises.{ledgerOf, siteWith}
+use Rattle.records.specs.Layout.{bufferSize, recordIn}
+use Rattle.run.specs.Ledger.{Call, Ledger}
+use Rattle.run.specs.Ledger.Call.{admit, interpret}
+use Rattle.run.specs.Run.{Site, siteAfter, siteAnswers}
+use Rattle.run.specs.Promises.{ledgerOf, siteWith}
 use Rattle.cases.specs.Toy.{toy}
 
 -- ---- calls and answers

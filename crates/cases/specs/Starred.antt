@@ -3,9 +3,9 @@ use mathlib.Core.Path.{_≡_}
 use mathlib.Core.List.{List, [], _∷_}
 use Prim.Native.Nat.{ℕ, zero, suc}
 use Rattle.base.specs.Bytes.{Bytes}
+use Rattle.answer.specs.Checks.{refused}
 use Rattle.broadcast.specs.Record.{none}
-use Rattle.table.specs.Checks.{refused}
-use Rattle.agreement.specs.Ledger.Call.{interpret}
+use Rattle.run.specs.Ledger.Call.{interpret}
 use Rattle.cases.specs.Toy.{toy, request, block}
 use Rattle.cases.specs.Run.{good, placed, answers, Campaign, Step, _making_, sends, echoes, readies, delivers}
 use Rattle.cases.specs.Blocks.{sites, fresh, first, fork, both, threeSites, fourSites, echoing, readying, delivering}

@@ -6,16 +6,16 @@ use mathlib.Core.List.{List, [], _∷_, _++_}
 use Prim.Native.Nat.{ℕ, zero, suc}
 use lib.ListN.{replicate}
 use Rattle.base.specs.Bytes.{Bytes, sameBytes}
+use Rattle.answer.specs.Checks.{answerTo, refused}
 use Rattle.table.specs.View.{markedIf, View}
 use Rattle.table.specs.Layout.{layout}
 use Rattle.table.specs.Fresh.{nothing}
-use Rattle.table.specs.Checks.{answerTo, refused}
+use Rattle.records.specs.Layout.{partOf, recordIn}
 use Rattle.admission.specs.Admission.{rowFor}
-use Rattle.interpret.specs.Buffer.{partOf, recordIn}
 use Rattle.take_back.specs.TakingBack.{takingBackChecks, takenBack}
 use Rattle.watch.specs.Forks.{forks}
-use Rattle.agreement.specs.Ledger.Call.{interpret, retire, takeBack}
-use Rattle.agreement.specs.Promises.{forked, NoCollision}
+use Rattle.history.specs.Forks.{forked, NoCollision}
+use Rattle.run.specs.Ledger.Call.{interpret, takeBack}
 use Rattle.cases.specs.Toy.{toy, block}
 use Rattle.cases.specs.Run.{good, placed, done, tableAfter, answers, Turn, _giving_, ledgerLeft, siteLeft, Session, echoes}
 use Rattle.cases.specs.Blocks.{sites, fresh, unlawful, first, fork, second, third, echoing, four, holding}

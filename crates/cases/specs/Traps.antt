@@ -6,8 +6,8 @@
 use mathlib.Core.List.{[], _∷_, map}
 use Prim.Native.Nat.{ℕ}
 use Rattle.base.specs.Bytes.{Bytes}
-use Rattle.block.specs.declared.Request.{Request}
 use Rattle.setup.specs.Setup.{Setup}
+use Rattle.block.specs.declared.Request.{Request}
 use Rattle.broadcast.specs.Record.{none}
 use Rattle.cases.specs.Toy.{toy, request, block}
 use Rattle.cases.specs.Run.{Campaign, _making_, sends, echoes, readies}

@@ -10,10 +10,10 @@ use Rattle.base.specs.Bytes.{Bytes}
 use Rattle.base.specs.List.{thoseIn}
 use Rattle.base.proofs.Tests.{by-test}
 use Rattle.base.proofs.Those.{those-append}
-use Rattle.block.specs.declared.Answer.{Answer}
-use Rattle.admission.specs.Admission.{admission, admitted}
+use Rattle.answer.specs.declared.Answer.{Answer}
 use Rattle.shelf.specs.Layout.{Waiting}
 use Rattle.shelf.specs.Rules.{isFor, waits}
+use Rattle.admission.specs.Admission.{admission, admitted}
 use Rattle.campaigns.specs.Arriving.{Arrived, behind, shelved, withPasses, arrived}
 use Rattle.campaigns.specs.Promises.{only}
 use Rattle.campaigns.proofs.Apart.{waits-only, settled-only}

@@ -9,12 +9,8 @@ use Rattle.base.specs.Bytes.{Bytes}
 use Rattle.base.specs.List.{countIn, thoseIn}
 use Rattle.sha256.specs.Sha256.{sha256}
 use Rattle.sha256.proofs.Promises.{sha256-length}
-use Rattle.block.specs.Limits.{referenceSize}
 use Rattle.setup.specs.Setup.{Setup, lawful}
-use Rattle.agreement.specs.Run.{started}
-use Rattle.agreement.specs.Promises.{siteWith}
-use Rattle.agreement.proofs.Theorem.{theorem}
-use Rattle.arrival.proofs.Theorem as arrival
+use Rattle.block.specs.Limits.{referenceSize}
 use Rattle.shelf.specs.Layout.{Waiting, waitingIn}
 use Rattle.shelf.specs.Rules.{maxCampaign}
 use Rattle.shelf.specs.Form.{inForm, emptyShelf}
@@ -22,6 +18,10 @@ use Rattle.shelf.proofs.Formed.{of-ruled, formed-bytes}
 use Rattle.shelf.proofs.Ruled.{ruled-empty}
 use Rattle.shelf.proofs.Laid.{empty-laid, waiting-laid}
 use Rattle.campaigns.specs.Promises.{only, timesWaiting}
+use Rattle.run.specs.Run.{started}
+use Rattle.run.specs.Promises.{siteWith}
+use Rattle.agreement.proofs.Theorem.{theorem}
+use Rattle.arrival.proofs.Theorem as arrival
 use Rattle.controller.specs.Run.{ControllerCall, OwnCall, Alone, Controller, emptyStart, after, ownRun, aloneAfter, aloneReplies}
 use Rattle.controller.specs.Promises.{begin, plainCalls, RunKeeps, Independent, CampaignKeeps, ArrivalUndone}
 use Rattle.controller.proofs.Runs.{run-formed, run-plain, run-alone, run-replies, run-listed, run-accounted}

@@ -13,14 +13,14 @@ use Rattle.base.specs.List.{countIn}
 use Rattle.base.proofs.Tests.{by-test}
 use Rattle.base.proofs.Those.{count-in-append}
 use Rattle.block.specs.Limits.{referenceSize}
-use Rattle.agreement.specs.Run.{Site, siteAfter}
-use Rattle.agreement.proofs.Runs.{after-append}
 use Rattle.shelf.specs.Layout.{Waiting, waitingIn}
 use Rattle.shelf.specs.Rules.{maxCampaign}
 use Rattle.shelf.specs.Form.{inForm}
 use Rattle.campaigns.specs.Passes.{outcomesOf}
 use Rattle.campaigns.specs.Promises.{only, timesWaiting, isEnd, timesEnded}
 use Rattle.campaigns.proofs.Tries.{outcomes-append}
+use Rattle.run.specs.Run.{Site, siteAfter}
+use Rattle.run.proofs.Runs.{after-append}
 use Rattle.controller.specs.Run.{CampaignCall, arrives, made, ControllerCall, Reply, Controller, Alone, replyTo, step, after, eachOwn, replies, outcomes, triesBy, tries, isTaken, takenBy, taken, plainBy, plainRun, ownRun, aloneStep, aloneAfter, aloneReplies}
 use Rattle.controller.proofs.Steps.{step-formed, other-site, other-waiting, other-times, own-accounted, own-plain, own-reply, own-view}
 

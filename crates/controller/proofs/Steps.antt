@@ -13,21 +13,21 @@ use Rattle.base.specs.Bytes.{Bytes, sameBytes}
 use Rattle.base.specs.List.{countIn}
 use Rattle.base.proofs.Tests.{by-test}
 use Rattle.base.proofs.Those.{count-in-those}
+use Rattle.answer.specs.declared.Answer.{Answer}
+use Rattle.answer.specs.Checks.{answerTo, refused}
 use Rattle.block.specs.Limits.{referenceSize}
-use Rattle.block.specs.declared.Answer.{Answer}
-use Rattle.table.specs.Checks.{answerTo, refused}
-use Rattle.admission.specs.Admission.{admission, admitted}
-use Rattle.admission.proofs.Kept.{refused-table}
-use Rattle.agreement.specs.Ledger.{admit}
-use Rattle.agreement.specs.Run.{Site, siteStep, siteAfter}
 use Rattle.shelf.specs.Layout.{Waiting, waitingIn}
 use Rattle.shelf.specs.Rules.{maxCampaign, isFor, hasPlace}
 use Rattle.shelf.specs.Form.{inForm}
+use Rattle.admission.specs.Admission.{admission, admitted}
+use Rattle.admission.proofs.Kept.{refused-table}
 use Rattle.campaigns.specs.Passes.{Try, outcomesOf}
 use Rattle.campaigns.specs.Arriving.{Arrived, Called, outcomesSize, unchanged, arrived}
 use Rattle.campaigns.specs.Promises.{only, timesWaiting, timesEnded, TriedFrom, Tested, CallKeeps}
 use Rattle.campaigns.proofs.Ways.{called-is, at17}
 use Rattle.campaigns.proofs.Promises.{call-keeps, called-waiting}
+use Rattle.run.specs.Ledger.{admit}
+use Rattle.run.specs.Run.{Site, siteStep, siteAfter}
 use Rattle.controller.specs.Run.{CampaignCall, arrives, made, isTaken, Controller, Alone, arrivalAt, replyTo, step, triesBy, takenBy, plainBy, aloneArrived, aloneReply, aloneStep}
 use Rattle.controller.proofs.Own.{seenBy, arrived-only}
 

@@ -10,17 +10,17 @@ use lib.ListN.{length}
 use borrow.Author.Tests.{eq-eqb}
 use Rattle.base.specs.Bytes.{Bytes}
 use Rattle.base.specs.List.{countIn}
+use Rattle.answer.specs.declared.Answer.{Answer}
 use Rattle.block.specs.Limits.{referenceSize}
-use Rattle.block.specs.declared.Answer.{Answer}
 use Rattle.admission.specs.Admission.{admission, admitted}
-use Rattle.take_back.specs.Promises.{UndoneBy, Brought, loaded, admittedOf}
-use Rattle.take_back.proofs.Promises.{promises}
-use Rattle.agreement.specs.Run.{siteStep}
 use Rattle.campaigns.specs.Passes.{Try, letIn}
 use Rattle.campaigns.specs.Arriving.{arrival}
 use Rattle.campaigns.specs.Promises.{TriedFrom}
 use Rattle.campaigns.proofs.Ways.{by-way}
 use Rattle.campaigns.proofs.Promises.{call-keeps}
+use Rattle.take_back.specs.Promises.{UndoneBy, Brought, loaded, admittedOf}
+use Rattle.take_back.proofs.Promises.{promises}
+use Rattle.run.specs.Run.{siteStep}
 use Rattle.controller.specs.Run.{Controller, arrivalAt, step}
 use Rattle.controller.specs.Promises.{ArrivalUndone}
 

@@ -7,15 +7,16 @@ use Prim.Native.Nat.{ℕ, suc, _+_}
 use Rattle.base.specs.Bytes.{Bytes, sameBytes}
 use Rattle.base.specs.List.{countIn}
 use Rattle.setup.specs.Setup.{Setup}
-use Rattle.take_back.specs.Promises.{UndoneBy}
-use Rattle.agreement.specs.Ledger.{Call, takeBack}
-use Rattle.agreement.specs.Run.{siteAfter}
-use Rattle.agreement.specs.Promises.{siteWith, Promised}
-use Rattle.arrival.specs.Arrival.{Arrival}
 use Rattle.shelf.specs.Layout.{waitingIn}
 use Rattle.shelf.specs.Form.{inForm}
 use Rattle.campaigns.specs.Passes.{letIn, outcomesOf}
 use Rattle.campaigns.specs.Promises.{only, timesWaiting, timesEnded}
+use Rattle.take_back.specs.Promises.{UndoneBy}
+use Rattle.run.specs.Ledger.{Call, takeBack}
+use Rattle.run.specs.Run.{siteAfter}
+use Rattle.run.specs.Promises.{siteWith}
+use Rattle.agreement.specs.Promises.{Promised}
+use Rattle.arrival.specs.Arrival.{Arrival}
 use Rattle.controller.specs.Run.{ControllerCall, made, Controller, Alone, emptyStart, arrivalAt, step, after, replies, outcomes, tries, taken, plainRun, ownRun, aloneAfter, aloneReplies}
 
 module _ (digest : Bytes → Bytes) where

@@ -5,15 +5,15 @@ use mathlib.Core.List.{List, [], _∷_, _++_, map}
 use Prim.Native.Nat.{ℕ}
 use lib.Dec.{eqb, leb}
 use Rattle.base.specs.Bytes.{Bytes}
-use Rattle.block.specs.declared.Answer.{Answer}
+use Rattle.answer.specs.declared.Answer.{Answer}
+use Rattle.answer.specs.Checks.{answerTo, refused}
 use Rattle.setup.specs.Setup.{Setup}
-use Rattle.table.specs.Checks.{answerTo, refused}
-use Rattle.agreement.specs.Ledger.{Call, admit}
-use Rattle.agreement.specs.Run.{Site, started, siteAnswer, siteStep}
 use Rattle.shelf.specs.Layout.{Waiting}
 use Rattle.shelf.specs.Form.{emptyShelf}
 use Rattle.campaigns.specs.Passes.{Try, outcomesOf}
 use Rattle.campaigns.specs.Arriving.{Arrived, Called, outcomesSize, unchanged, listed, arrivalChecks, arrived, arrival}
+use Rattle.run.specs.Ledger.{Call, admit}
+use Rattle.run.specs.Run.{Site, started, siteAnswer, siteStep}
 
 -- a call for a campaign: a block arrives, with a buffer of so many numbers for outcomes; or "the other calls made for it", on its own table and
 -- records, retirings, takings back and admissions past the shelf among them

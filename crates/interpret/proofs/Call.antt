@@ -10,17 +10,17 @@ use lib.ListN.{length}
 use borrow.Author.Tests.{eq-eqb, ne-eqb, lt-ltb, le-ltb}
 use Rattle.base.specs.Search.{firstBelow, anyBelow}
 use Rattle.base.specs.Bytes.{Bytes, splice}
-use Rattle.block.specs.declared.Answer.{Answer}
+use Rattle.answer.specs.declared.Answer.{Answer}
+use Rattle.answer.specs.Checks.{success, refused, answerTo}
 use Rattle.setup.specs.Setup.{maxSites}
 use Rattle.setup.proofs.Thresholds.{sites-lawful, sites-few}
 use Rattle.table.specs.Layout.{setupOf, countOf, referencesAt, markAt, rowAt, viewOf, withMark}
 use Rattle.table.specs.Rules.{refersUninterpreted}
 use Rattle.table.specs.Form.{inForm}
-use Rattle.table.specs.Checks.{success, refused, answerTo}
 use Rattle.table.specs.Steps.{rowOf}
 use Rattle.table.proofs.Views.{row-form}
 use Rattle.table.proofs.Formed.{formed-of}
-use Rattle.interpret.specs.Buffer.{bufferSize, partStart}
+use Rattle.records.specs.Layout.{bufferSize, partStart}
 use Rattle.interpret.specs.Interpretation.{written, interpretation, marked, recorded}
 use Rattle.interpret.specs.Steps.{Ready}
 

@@ -15,18 +15,16 @@ use Rattle.base.proofs.Tests.{and-right, or-cases}
 use Rattle.base.proofs.Count.{count-one}
 use Rattle.base.proofs.Parts.{part-of-front}
 use Rattle.base.proofs.List.{list-same}
-use Rattle.block.specs.Limits.{slotCount}
-use Rattle.setup.specs.Setup.{Setup}
-use Rattle.broadcast.specs.Record.{recordSize, flatten, recordAt}
+use Rattle.setup.specs.Setup.{Setup, slotCount}
 use Rattle.table.specs.View.{maxPlaces, Row, View}
 use Rattle.table.specs.Layout.{siteAt, sequenceAt, rowAt, viewOf}
 use Rattle.table.specs.Rules.{isParent, parentRow, parents, parentRule}
+use Rattle.records.specs.Layout.{recordSize, flatten, recordAt, partSize, partStart, partOf, recordIn, numbersOf}
+use Rattle.records.proofs.Flattened.{record-from}
 use Rattle.interpret.specs.Slot.{Direct, interpretSlot}
-use Rattle.interpret.specs.Buffer.{partSize, partStart, partOf, recordIn, numbersOf}
 use Rattle.interpret.specs.Interpretation.{directAt, directsBelow, recordFor, written}
 use Rattle.interpret.proofs.Order.{interpretSlot-same}
 use Rattle.interpret.proofs.Kept.{below-from, below-has}
-use Rattle.interpret.proofs.Parts.{record-from}
 
 -- equal parts have equal records
 record-of-part : (b c : List ℕ) (i j slot : ℕ) → slot < slotCount → partOf b i ≡ partOf c j → recordIn b i slot ≡ recordIn c j slot

@@ -13,9 +13,7 @@ use borrow.Author.Tests.{eqb-true, eqb-false}
 use Rattle.base.specs.Bytes.{Bytes, splice}
 use Rattle.base.proofs.Tests.{by-test, true-not-false}
 use Rattle.base.proofs.Splice.{length-splice}
-use Rattle.block.specs.Limits.{slotCount}
-use Rattle.setup.specs.Setup.{Setup}
-use Rattle.broadcast.specs.Record.{recordSize}
+use Rattle.setup.specs.Setup.{Setup, slotCount}
 use Rattle.broadcast.proofs.Steps.{Sized}
 use Rattle.table.specs.View.{maxPlaces, Row, View}
 use Rattle.table.specs.Layout.{setupOf, countOf, rowAt, viewOf, withMark}
@@ -23,13 +21,14 @@ use Rattle.table.specs.Form.{inForm}
 use Rattle.table.specs.Promises.{Marked}
 use Rattle.table.proofs.Formed.{Formed, formed-of, in-formed}
 use Rattle.table.proofs.Marked.{marked as mark-read, marked-formed}
+use Rattle.records.specs.Layout.{recordSize, partSize, bufferSize, partStart}
+use Rattle.records.proofs.Flattened.{record-sized}
+use Rattle.records.proofs.Parts.{numbers-length}
 use Rattle.interpret.specs.Slot.{Direct}
-use Rattle.interpret.specs.Buffer.{partSize, bufferSize, partStart}
 use Rattle.interpret.specs.Interpretation.{directAt, joinIf, directsBelow, recordFor, written, interpretation, marked, recorded}
 use Rattle.interpret.specs.Promises.{Open}
 use Rattle.interpret.proofs.Causes.{causes}
 use Rattle.interpret.proofs.Order.{interpretSlot-sized}
-use Rattle.interpret.proofs.Parts.{record-sized, numbers-length}
 
 -- ---- the blocks of the lower places that a row refers to
 

@@ -6,8 +6,6 @@ pub mod Lowest
 pub mod Records
 mod Turns
 mod Places
-pub mod Parts
-mod Typed
 pub mod FirstChecks
 pub mod Causes
 pub mod Kept

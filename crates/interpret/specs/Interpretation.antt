@@ -7,16 +7,16 @@ use lib.Dec.{eqb, ltb}
 use lib.ListN.{length}
 use Rattle.base.specs.Search.{firstBelow, anyBelow}
 use Rattle.base.specs.Bytes.{Bytes, splice}
-use Rattle.block.specs.declared.Answer.{Answer}
+use Rattle.answer.specs.declared.Answer.{Answer}
+use Rattle.answer.specs.Checks.{Check, check, answerTo}
 use Rattle.setup.specs.Setup.{Setup}
 use Rattle.broadcast.specs.declared.SlotRecord.{SlotRecord}
 use Rattle.table.specs.View.{Row, interpreted, View}
 use Rattle.table.specs.Layout.{setupOf, viewOf, withMark}
 use Rattle.table.specs.Rules.{refersUninterpreted}
 use Rattle.table.specs.Form.{inForm}
-use Rattle.table.specs.Checks.{Check, check, answerTo}
+use Rattle.records.specs.Layout.{bufferSize, partStart, recordIn, numbersOf}
 use Rattle.interpret.specs.Slot.{Direct, interpretSlot}
-use Rattle.interpret.specs.Buffer.{bufferSize, partStart, recordIn, numbersOf}
 
 -- the block of place j with its record in the buffer
 abbrev pub directAt : View → List ℕ → ℕ → ℕ → Direct

@@ -1,6 +1,5 @@
--- Interpretation of a place. Slot, Buffer, Interpretation and Promises are what a reader must believe; nothing in Steps need be believed.
+-- Interpretation of a place. Slot, Interpretation and Promises are what a reader must believe; nothing in Steps need be believed.
 pub mod Slot
-pub mod Buffer
 pub mod Interpretation
 pub mod Promises
 pub mod Steps

@@ -10,7 +10,7 @@ use Rattle.base.specs.Bytes.{Bytes}
 use Rattle.table.specs.Layout.{countOf, markAt, rowAt}
 use Rattle.table.specs.Form.{inForm}
 use Rattle.table.specs.Promises.{Marked}
-use Rattle.interpret.specs.Buffer.{bufferSize}
+use Rattle.records.specs.Layout.{bufferSize}
 use Rattle.interpret.specs.Interpretation.{interpretation, marked, recorded}
 
 -- check 2 holds, then 12, then 13, then 14

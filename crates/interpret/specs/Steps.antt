@@ -8,8 +8,8 @@ use lib.ListN.{length, getD}
 use Rattle.base.specs.Count.{countBelow}
 use Rattle.base.specs.List.{listBelow, passing}
 use Rattle.base.specs.Bytes.{Bytes}
-use Rattle.block.specs.Limits.{slotCount, maxReferences}
-use Rattle.setup.specs.Setup.{maxSites, ownerOf}
+use Rattle.setup.specs.Setup.{maxSites, ownerOf, slotCount}
+use Rattle.block.specs.Limits.{maxReferences}
 use Rattle.broadcast.specs.declared.Kind.{Kind}
 use Rattle.broadcast.specs.declared.SlotRecord.{SlotRecord}
 use Rattle.broadcast.specs.Record.{blank}
@@ -17,8 +17,8 @@ use Rattle.broadcast.specs.Process.{madeOf, received, receiveAll}
 use Rattle.table.specs.View.{maxPlaces, Row, View}
 use Rattle.table.specs.Layout.{tableSize, setupOf, siteAt, rowAt, viewOf}
 use Rattle.table.specs.Rules.{parentRow}
+use Rattle.records.specs.Layout.{bufferSize, recordIn}
 use Rattle.interpret.specs.Slot.{Direct, messages}
-use Rattle.interpret.specs.Buffer.{bufferSize, recordIn}
 use Rattle.interpret.specs.Interpretation.{directAt}
 
 -- a table and a record buffer of the right lengths, a place, sites that an array of sixteen has room for, and references that one has room for

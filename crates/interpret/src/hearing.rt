@@ -1,8 +1,4 @@
 // The messages made in the blocks that a place refers to, and a record that hears them.
-use crate::MADE_OFFSET;
-use crate::PART_SIZE;
-use crate::RECORD_SIZE;
-use crate::buffer;
 use broadcast::Kind;
 use broadcast::SlotRecord;
 use setup::MAX_SITES;
@@ -47,7 +43,7 @@ fn lowest_of(table: &[u8], places: &[u8], records: &[u16], slot: usize) -> Lowes
     while k < places.len() {
         let j = base::wide(places[k]);
         let p = base::wide(rows::site_at(table, j));
-        let made = buffer::sent_at(records, PART_SIZE * j + RECORD_SIZE * slot + MADE_OFFSET);
+        let made = records::made_in(records, j, slot);
         sends[p] = least(made.send, sends[p]);
         echoes[p] = least(made.echo, echoes[p]);
         readies[p] = least(made.ready, readies[p]);

@@ -1,18 +1,15 @@
 // Interpretation of a place: its records from those of the places that it refers to. Promises: `interpret` answers and leaves what
 // specs/Interpretation.antt says, for any table, record buffer and place; form is kept, and each of 12 to 15 comes under its cause and under
 // no other (specs/Promises.antt). Assumes nothing.
-pub mod buffer;
 mod hearing;
 
-use block::Answer;
+use answer::Answer;
 use block::MAX_REFERENCES;
-use block::SLOTS;
 use broadcast::SlotRecord;
-use setup::MAX_SITES;
-use table::MARK_OFFSET;
+use records::BUFFER_SIZE;
+use records::PART_SIZE;
+use setup::SLOTS;
 use table::MAX_PLACES;
-use table::ROW_SIZE;
-use table::ROWS_OFFSET;
 use table::rows;
 use table::rules;
 ghost use mathlib.Core.Path.{_≡_};
@@ -21,30 +18,15 @@ ghost use lib.ListN.{length, take};
 ghost use Rattle.base.specs.Count.{countBelow};
 ghost use Rattle.base.specs.Mask.{inMask};
 ghost use Rattle.base.specs.List.{passing};
-ghost use Rattle.block.specs.Limits.{maxReferences, slotCount};
+ghost use Rattle.setup.specs.Setup.{slotCount};
+ghost use Rattle.block.specs.Limits.{maxReferences};
 ghost use Rattle.broadcast.specs.Record.{nothingMade};
 ghost use Rattle.table.specs.View.{maxPlaces};
 ghost use Rattle.table.specs.Layout.{setupOf, referencesAt, viewOf};
 ghost use Rattle.table.specs.Steps.{Place};
-ghost use Rattle.interpret.specs.Buffer.{bufferSize};
+ghost use Rattle.records.specs.Layout.{bufferSize};
 ghost use Rattle.interpret.specs.Interpretation.{recordFor, written, interpretation, marked, recorded};
 ghost use Rattle.interpret.specs.Steps.{referredBy, Ready, ReadySlot, parentOf, stateAt};
-
-// Where each part of a record's numbers stands: what was sent so far, the ECHO and the READY heard from each site, and what was made.
-pub const SENT_COUNT: usize = 4;
-
-pub const ECHOES_OFFSET: usize = SENT_COUNT;
-
-pub const READIES_OFFSET: usize = ECHOES_OFFSET + MAX_SITES;
-
-pub const MADE_OFFSET: usize = READIES_OFFSET + MAX_SITES;
-
-pub const RECORD_SIZE: usize = MADE_OFFSET + SENT_COUNT;
-
-// The numbers of a place, and of all places.
-pub const PART_SIZE: usize = RECORD_SIZE * SLOTS;
-
-pub const BUFFER_SIZE: usize = PART_SIZE * MAX_PLACES;
 
 // Puts the places below this one that are in the mask to the front of the list, lower ones first; how many they are.
 fn list_places(references: u64, place: usize, list: &mut [u8]) -> usize
@@ -92,7 +74,7 @@ fn start_of(records: &[u16], parent: usize, slot: usize) -> SlotRecord
     if MAX_PLACES <= parent {
         return blank;
     }
-    let mut s = buffer::record_at(records, PART_SIZE * parent + RECORD_SIZE * slot);
+    let mut s = records::record_in(records, parent, slot);
     let none = blank.made;
     s.made = none;
     s
@@ -131,7 +113,7 @@ fn place_records(table: &[u8], place: usize, records: &[u16]) -> [u16; PART_SIZE
     let mut slot = 0;
     while slot < SLOTS {
         let state = slot_record(table, place, &list[..count], parent, records, slot);
-        buffer::put_record(&mut out, RECORD_SIZE * slot, state);
+        records::put_record(&mut out, slot, state);
         slot += 1;
     }
     out
@@ -144,41 +126,23 @@ pub fn interpret(table: &mut [u8], place: usize, records: &mut [u16]) -> Answer
     ensures { λ _. ⌜ now (records .exit) ≡ recorded (now (table .entry)) (now (records .entry)) place ⌝ }
 {
     if !table::in_form(table) {
-        return Answer {
-            refusal: 2,
-            value: 0,
-        };
+        return answer::refused(2, 0);
     }
     if records.len() != BUFFER_SIZE {
-        return Answer {
-            refusal: 12,
-            value: 0,
-        };
+        return answer::refused(12, 0);
     }
     if rows::count_of(table) <= place {
-        return Answer {
-            refusal: 13,
-            value: 0,
-        };
+        return answer::refused(13, 0);
     }
     if rows::mark_at(table, place) == 1 {
-        return Answer {
-            refusal: 14,
-            value: 0,
-        };
+        return answer::refused(14, 0);
     }
     let missing = rules::first_uninterpreted(table, place, rows::references_at(table, place));
     if missing < place {
-        return Answer {
-            refusal: 15,
-            value: missing,
-        };
+        return answer::refused(15, missing);
     }
     let part = place_records(table, place, records);
-    buffer::put(records, PART_SIZE * place, &part);
-    base::put(table, ROWS_OFFSET + ROW_SIZE * place + MARK_OFFSET, &[1u8]);
-    Answer {
-        refusal: 0,
-        value: 0,
-    }
+    records::put_part(records, place, &part);
+    table::writing::set_mark(table, place);
+    answer::success(0)
 }

@@ -9,13 +9,14 @@ use lib.ListN.{length}
 use borrow.Author.Tests.{eq-eqb, ne-eqb, leb-true, not-true}
 use Rattle.base.specs.Bytes.{Bytes}
 use Rattle.base.proofs.Tests.{by-test}
-use Rattle.block.specs.declared.Answer.{Answer}
+use Rattle.answer.specs.declared.Answer.{Answer}
+use Rattle.answer.specs.Checks.{answerTo}
+use Rattle.answer.specs.Promises.{elsewhere, different}
+use Rattle.answer.proofs.Promises.{all-passed}
 use Rattle.table.specs.View.{maxPlaces}
 use Rattle.table.specs.Layout.{setupOf, viewOf}
 use Rattle.table.specs.Form.{inForm}
-use Rattle.table.specs.Checks.{answerTo}
-use Rattle.table.proofs.Checks.{numbered, all-hold}
-use Rattle.interpret.specs.Buffer.{bufferSize}
+use Rattle.records.specs.Layout.{bufferSize}
 use Rattle.join.specs.Join.{neitherRetired, sameSetup, joinedCount, joinAnswer, joinedTable, joinedRecords, joined, copied}
 use Rattle.join.specs.Promises.{BothFormed, OneSetup}
 use Rattle.join.specs.Steps.{sidesChecks, blocksChecks, blocksAnswer, blocksTable, blocksRecords, Passed}
@@ -68,12 +69,12 @@ module _ (left right : Bytes) (leftRecords rightRecords third : List ℕ) where
   -- ---- they pass
 
   one-setup : sides .refusal ≡ 0 → OneSetup left right leftRecords rightRecords third
-  unfolding numbered
+  unfolding different elsewhere
   one-setup e =
-      let h = all-hold (sidesChecks left right (length leftRecords) (length rightRecords) (length third)) 0 refl e in
+      let h = all-passed (sidesChecks left right (length leftRecords) (length rightRecords) (length third)) 0 refl e in
       record {
-        unretired = unretired-of left right leftRecords rightRecords third (whole-of left right leftRecords rightRecords third (formed-both left right (h .0)) (h .1 .0)) (h .1 .1 .0);
-        setup = setup-same (setupOf left) (setupOf right) .0 (h .1 .1 .1 .0);
+        unretired = unretired-of left right leftRecords rightRecords third (whole-of left right leftRecords rightRecords third (formed-both left right (h .0 .0 .0 .1)) (h .0 .0 .1)) (h .0 .1);
+        setup = setup-same (setupOf left) (setupOf right) .0 (h .1);
       }
 
   pub one-setup-of : (a : Answer) → a ≡ sides → a .refusal ≡ 0 → OneSetup left right leftRecords rightRecords third
@@ -106,17 +107,17 @@ module _ (left right : Bytes) (leftRecords rightRecords third : List ℕ) where
     formed-of-both = let w = o .unretired .isWhole in record { leftFormed = w .leftFormed; rightFormed = w .rightFormed }
 
     pub passed : a .refusal ≡ 0 → Passed left right leftRecords rightRecords third
-    unfolding numbered
+    unfolding different elsewhere
     passed z =
-        let h = all-hold (blocksChecks left right) (joinedCount (viewOf left) (viewOf right)) refl (ap (λ (x : Answer). x .refusal) (sym e) ∙ z) in
+        let h = all-passed (blocksChecks left right) (joinedCount (viewOf left) (viewOf right)) refl (ap (λ (x : Answer). x .refusal) (sym e) ∙ z) in
         record {
           joinable = record {
             formed = formed-of-both;
             leftRetired = o .unretired .leftRetired;
             rightRetired = o .unretired .rightRetired;
             setup = o .setup;
-            apart = not-true _ (h .0);
-            fits = leb-true (joinedCount (viewOf left) (viewOf right)) maxPlaces (h .1 .0);
+            apart = not-true _ (h .0 .1);
+            fits = leb-true (joinedCount (viewOf left) (viewOf right)) maxPlaces (h .1);
           };
           sides = record { formed = formed-of-both; leftSize = o .unretired .isWhole .leftSize; rightSize = o .unretired .isWhole .rightSize };
           size = o .unretired .isWhole .size;

@@ -14,7 +14,7 @@ use Rattle.base.specs.Bytes.{Bytes}
 use Rattle.base.proofs.Tests.{by-test, and-left, and-right, and-not-right, same-tests}
 use Rattle.base.proofs.Search.{any-true, any-true-at, any-false, any-false-at, all-true}
 use Rattle.base.proofs.Bytes.{same-equal, equal-same}
-use Rattle.block.specs.Limits.{slotCount}
+use Rattle.setup.specs.Setup.{slotCount}
 use Rattle.table.specs.View.{maxPlaces}
 use Rattle.table.specs.Layout.{countOf, digestAt, siteAt, sequenceAt, referencesAt, requestAt, rowAt, viewOf}
 use Rattle.table.specs.Rules.{hasDigest}

@@ -11,7 +11,7 @@ use Rattle.base.proofs.Tests.{by-test}
 use Rattle.base.proofs.Search.{first-le}
 use Rattle.table.specs.Layout.{countOf, digestAt, viewOf}
 use Rattle.table.specs.Rules.{hasDigest}
-use Rattle.interpret.specs.Buffer.{partStart}
+use Rattle.records.specs.Layout.{partStart}
 use Rattle.join.specs.Join.{isExtra, placeIn, handedBack, partFor, copiedBelow, joinedTable, joinedRecords}
 use Rattle.join.specs.Promises.{placeBehind}
 use Rattle.join.specs.Steps.{Passed, extrasBelow}

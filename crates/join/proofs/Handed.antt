@@ -16,8 +16,8 @@ use Rattle.base.proofs.Splice.{splice-nothing, length-splice}
 use Rattle.table.specs.View.{maxPlaces, interpreted, View}
 use Rattle.table.specs.Layout.{countOf, digestAt, markAt, rowAt, viewOf}
 use Rattle.table.proofs.Formed.{formed-of, one-place}
-use Rattle.interpret.specs.Buffer.{bufferSize, partSize, partStart, partOf}
-use Rattle.interpret.proofs.Parts.{part-written, part-other}
+use Rattle.records.specs.Layout.{partSize, bufferSize, partStart, partOf}
+use Rattle.records.proofs.Parts.{part-written, part-other}
 use Rattle.join.specs.Join.{placeIn, interpretedAt, handedBack, partFor, copiedBelow, joinedTable, joinedRecords}
 use Rattle.join.specs.Steps.{Passed}
 use Rattle.join.proofs.Referred.{place-has, interpreted-from, interpreted-here}

@@ -2,7 +2,7 @@
 use mathlib.Core.Path.{_≡_, refl, sym, ap, ap₂, _∙_}
 use mathlib.Core.Bool.{true, false}
 use mathlib.Core.List.{List, []}
-use Prim.Native.Nat.{ℕ, _+_, _-_, _*_, _≤_, _<_}
+use Prim.Native.Nat.{ℕ, _+_, _-_, _≤_, _<_}
 use native.Mathlib.Numerals.{add-one}
 use native.Mathlib.Omega.{arith}
 use lib.Dec.{ltb}
@@ -12,11 +12,10 @@ use borrow.Author.Tests.{ltb-true, ltb-false, not-false}
 use Rattle.base.specs.Bytes.{Bytes, splice}
 use Rattle.base.proofs.Tests.{by-test}
 use Rattle.base.proofs.Count.{count-rises}
-use Rattle.base.proofs.Parts.{part-size}
 use Rattle.base.proofs.Splice.{length-splice}
 use Rattle.table.specs.View.{maxPlaces, View}
 use Rattle.table.specs.Layout.{countOf, digestAt, viewOf}
-use Rattle.interpret.specs.Buffer.{bufferSize, partSize, partStart}
+use Rattle.records.specs.Layout.{partSize, bufferSize, partStart, partOf}
 use Rattle.join.specs.Join.{isExtra, placeIn, interpretedAt, handedBack, copiedBelow}
 use Rattle.join.specs.Promises.{placeBehind}
 use Rattle.join.specs.Steps.{Joinable, resultPlace, extrasBelow}
@@ -26,20 +25,13 @@ use Rattle.join.proofs.Placed.{extra-is}
 -- ---- whose part it is
 
 module _ (v w : View) (left right : List ℕ) (i j : ℕ) where
-  -- the part as the code takes it
-  abbrev taken : List ℕ → ℕ → List ℕ
-  taken b k = take ((partSize * k + partSize) - partSize * k) (drop (partSize * k) b)
-
-  taken-is : (b : List ℕ) (k : ℕ) → taken b k ≡ take partSize (drop (partStart k) b)
-  taken-is b k = ap (λ (n : ℕ). take n (drop (partSize * k) b)) (part-size (partSize * k) partSize)
-
-  pub from-left : interpretedAt v i ≡ true → taken left i ≡ handedBack v w left right i j
+  pub from-left : interpretedAt v i ≡ true → partOf left i ≡ handedBack v w left right i j
   unfolding handedBack
-  from-left y = rw y (taken-is left i)
+  from-left y = rw y
 
-  pub from-right : interpretedAt v i ≡ false → interpretedAt w j ≡ true → taken right j ≡ handedBack v w left right i j
+  pub from-right : interpretedAt v i ≡ false → interpretedAt w j ≡ true → partOf right j ≡ handedBack v w left right i j
   unfolding handedBack
-  from-right n y = rw (n, y) (taken-is right j)
+  from-right n y = rw (n, y)
 
   pub from-neither : interpretedAt v i ≡ false → interpretedAt w j ≡ false → [] ≡ handedBack v w left right i j
   unfolding handedBack

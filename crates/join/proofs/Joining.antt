@@ -18,8 +18,8 @@ use Rattle.base.proofs.Tests.{by-test, and-left, and-right, or-cases, same-test
 use Rattle.base.proofs.Search.{any-true, any-false, any-false-at, any-first, first-passes}
 use Rattle.base.proofs.Count.{count-some, count-one, count-single, count-sent, count-grows}
 use Rattle.base.proofs.Bytes.{same-equal, equal-same, same-other, other-same}
-use Rattle.block.specs.Limits.{referenceSize, slotCount, maxReferences}
-use Rattle.setup.specs.Setup.{Setup}
+use Rattle.setup.specs.Setup.{Setup, slotCount}
+use Rattle.block.specs.Limits.{referenceSize, maxReferences}
 use Rattle.table.specs.View.{maxPlaces, Row, interpreted, View}
 use Rattle.table.specs.Layout.{rowStart, setupOf, retiredOf, countOf, digestAt, siteAt, sequenceAt, requestAt, markAt, rowAt, viewOf, withRow, withMark}
 use Rattle.table.specs.Rules.{hasDigest, placeOf, parentRow, parents, parentRule}

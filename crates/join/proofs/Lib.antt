@@ -7,7 +7,6 @@ pub mod Joining
 mod Placed
 mod Turns
 mod Clashing
-mod Carried
 pub mod Standing
 pub mod Handed
 mod Handing

@@ -10,13 +10,13 @@ use borrow.Author.Tests.{eqb-true, eq-eqb, leb-true, not-true}
 use Rattle.base.specs.Bytes.{Bytes, sameBytes}
 use Rattle.base.proofs.Tests.{and-left, and-right}
 use Rattle.base.proofs.Bytes.{same-equal, equal-same}
+use Rattle.answer.specs.Promises.{elsewhere, different, Decided}
+use Rattle.answer.proofs.Promises.{decided}
 use Rattle.setup.specs.Setup.{Setup}
 use Rattle.table.specs.View.{maxPlaces}
 use Rattle.table.specs.Layout.{setupOf, retiredOf, viewOf}
 use Rattle.table.specs.Form.{inForm}
-use Rattle.table.specs.Checks.{answerTo}
-use Rattle.table.proofs.Checks.{numbered, all-hold}
-use Rattle.interpret.specs.Buffer.{bufferSize}
+use Rattle.records.specs.Layout.{bufferSize}
 use Rattle.join.specs.Steps.{Passed}
 use Rattle.join.specs.Promises.{BothFormed, Whole, Unretired}
 use Rattle.join.specs.Join.{neitherRetired, sameSetup, joinedCount, joinChecks, joinAnswer, joined, copied, joinedTable, joinedRecords}
@@ -58,12 +58,16 @@ unretired-of left right leftRecords rightRecords third w e =
     }
 
 module _ (left right : Bytes) (leftRecords rightRecords third : List ℕ) (e : joinAnswer left right leftRecords rightRecords third .refusal ≡ 0) where
+  told : Decided (joinAnswer left right leftRecords rightRecords third) (joinChecks left right (length leftRecords) (length rightRecords) (length third))
+      (joinedCount (viewOf left) (viewOf right))
+  unfolding joinAnswer different elsewhere
+  told = decided _ _ refl
+
   pub passes : Passed left right leftRecords rightRecords third
-  unfolding joinAnswer numbered
   passes =
-      let h = all-hold (joinChecks left right (length leftRecords) (length rightRecords) (length third)) (joinedCount (viewOf left) (viewOf right)) refl e in
-      let formed = formed-both left right (h .0) in
-      let u = unretired-of left right leftRecords rightRecords third (whole-of left right leftRecords rightRecords third formed (h .1 .0)) (h .1 .1 .0) in
+      let h = told .none .0 e in
+      let formed = formed-both left right (h .0 .0 .0 .0 .0 .1) in
+      let u = unretired-of left right leftRecords rightRecords third (whole-of left right leftRecords rightRecords third formed (h .0 .0 .0 .0 .1)) (h .0 .0 .0 .1) in
       let w = u .isWhole in
       record {
         sides = record { formed = formed; leftSize = w .leftSize; rightSize = w .rightSize };
@@ -72,9 +76,9 @@ module _ (left right : Bytes) (leftRecords rightRecords third : List ℕ) (e : j
           formed = formed;
           leftRetired = u .leftRetired;
           rightRetired = u .rightRetired;
-          setup = setup-same (setupOf left) (setupOf right) .0 (h .1 .1 .1 .0);
-          apart = not-true _ (h .1 .1 .1 .1 .0);
-          fits = leb-true (joinedCount (viewOf left) (viewOf right)) maxPlaces (h .1 .1 .1 .1 .1 .0);
+          setup = setup-same (setupOf left) (setupOf right) .0 (h .0 .0 .1);
+          apart = not-true _ (h .0 .1);
+          fits = leb-true (joinedCount (viewOf left) (viewOf right)) maxPlaces (h .1);
         };
       }
 
@@ -87,7 +91,4 @@ module _ (left right : Bytes) (leftRecords rightRecords third : List ℕ) (e : j
   copied-passed = rw e
 
   pub value-passed : joinAnswer left right leftRecords rightRecords third .value ≡ joinedCount (viewOf left) (viewOf right)
-  unfolding joinAnswer answerTo numbered
-  value-passed =
-      let h = all-hold (joinChecks left right (length leftRecords) (length rightRecords) (length third)) (joinedCount (viewOf left) (viewOf right)) refl e in
-      rw (h .0, h .1 .0, h .1 .1 .0, h .1 .1 .1 .0, h .1 .1 .1 .1 .0, h .1 .1 .1 .1 .1 .0)
+  value-passed = told .returned e

@@ -12,7 +12,7 @@ use Rattle.base.proofs.Tests.{by-test, true-not-false, and-left, and-right, and
 use Rattle.base.proofs.Search.{first-le, first-passes, any-true, any-first, any-true-at, any-false-at, all-true-at}
 use Rattle.base.proofs.Bytes.{same-equal, equal-same}
 use Rattle.base.proofs.TopPlace.{not-in}
-use Rattle.block.specs.Limits.{slotCount}
+use Rattle.setup.specs.Setup.{slotCount}
 use Rattle.table.specs.View.{maxPlaces, View}
 use Rattle.table.specs.Layout.{countOf, digestAt, referencesAt, markAt, viewOf}
 use Rattle.table.specs.Rules.{hasDigest}

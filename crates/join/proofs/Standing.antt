@@ -2,22 +2,22 @@
 use mathlib.Core.Path.{_≡_, refl, sym, ap, _∙_, subst}
 use mathlib.Core.Bool.{Bool, true, false, _&&_}
 use mathlib.Core.Logic.{_≢_}
-use mathlib.Core.List.{List, [], _∷_}
-use Prim.Native.Nat.{ℕ, _+_, _≤_, _<_}
+use mathlib.Core.List.{List}
+use Prim.Native.Nat.{ℕ, _≤_, _<_}
 use native.Mathlib.Omega.{arith}
 use lib.Dec.{eqb, ltb}
 use lib.ListN.{getD}
 use borrow.Author.Tests.{eqb-true, eq-eqb, ne-eqb, lt-ltb, ltb-true, ltb-false, not-true, not-false}
 use Rattle.base.specs.Search.{anyBelow}
 use Rattle.base.specs.Mask.{inMask}
-use Rattle.base.specs.Bytes.{Bytes, splice}
+use Rattle.base.specs.Bytes.{Bytes}
 use Rattle.base.proofs.Tests.{by-test, and-left, and-right, same-tests}
 use Rattle.base.proofs.Search.{any-true, any-true-at, any-false}
 use Rattle.base.proofs.Count.{count-rises, count-apart}
 use Rattle.base.proofs.Bytes.{other-same}
 use Rattle.base.proofs.Sets.{mask-has}
 use Rattle.table.specs.View.{maxPlaces, SameRow}
-use Rattle.table.specs.Layout.{markOffset, rowStart, countOf, digestAt, referencesAt, markAt, viewOf, withRow, withMark}
+use Rattle.table.specs.Layout.{countOf, digestAt, referencesAt, markAt, viewOf, withRow, withMark}
 use Rattle.table.specs.Rules.{hasDigest}
 use Rattle.table.specs.Steps.{Place, Places, rowWith}
 use Rattle.table.proofs.Formed.{formed-of, formed-places, formed-row, one-place}
@@ -183,11 +183,11 @@ module _ (t right : Bytes) (j : ℕ) (places : List ℕ) (next : Next t right j 
     there : anyBelow (hasDigest (viewOf t) (digestAt right j)) (countOf t) ≡ true
     there = is-held left right both j t so-far (next .below) low
 
-    pub mark-is : markAt right j ≡ 1 → (t′ : Bytes) → t′ ≡ splice t (rowStart (getD places j 0) + markOffset) (1 ∷ []) → t′ ≡ joinPlace t (viewOf right) j
-    unfolding joinPlace withMark
+    pub mark-is : markAt right j ≡ 1 → (t′ : Bytes) → t′ ≡ withMark t (getD places j 0) → t′ ≡ joinPlace t (viewOf right) j
+    unfolding joinPlace
     mark-is m t′ o =
         rw (there, eq-eqb (markAt right j) 1 m)
-        (o ∙ ap (λ (p : ℕ). splice t (rowStart p + markOffset) (1 ∷ [])) (place-is-result ∙ sym (stands left right both j t so-far (next .below) low)))
+        (o ∙ ap (withMark t) (place-is-result ∙ sym (stands left right both j t so-far (next .below) low)))
 
     pub leave-is : markAt right j ≢ 1 → t ≡ joinPlace t (viewOf right) j
     unfolding joinPlace

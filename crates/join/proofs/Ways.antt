@@ -7,12 +7,12 @@ use native.Mathlib.Omega.{arith}
 use borrow.Author.Tests.{eq-eqb, ne-eqb, lt-ltb, le-ltb, le-leb, lt-leb}
 use Rattle.base.specs.Search.{firstBelow, anyBelow}
 use Rattle.base.specs.Bytes.{Bytes}
-use Rattle.block.specs.declared.Answer.{Answer}
+use Rattle.answer.specs.declared.Answer.{Answer}
+use Rattle.answer.specs.Checks.{answerTo, refused, success}
 use Rattle.table.specs.View.{maxPlaces}
 use Rattle.table.specs.Layout.{setupOf, countOf, viewOf}
 use Rattle.table.specs.Form.{inForm}
-use Rattle.table.specs.Checks.{answerTo, refused, success}
-use Rattle.interpret.specs.Buffer.{bufferSize}
+use Rattle.records.specs.Layout.{bufferSize}
 use Rattle.join.specs.Join.{neitherRetired, sameSetup, clashAt, joinedCount}
 use Rattle.join.specs.Promises.{BothFormed}
 use Rattle.join.specs.Steps.{sidesChecks, blocksAnswer}

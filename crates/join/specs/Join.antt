@@ -8,15 +8,14 @@ use lib.ListN.{length}
 use Rattle.base.specs.Search.{firstBelow, anyBelow, allBelow}
 use Rattle.base.specs.Count.{countBelow}
 use Rattle.base.specs.Bytes.{Bytes, sameBytes, splice}
-use Rattle.block.specs.Limits.{slotCount}
-use Rattle.block.specs.declared.Answer.{Answer}
-use Rattle.setup.specs.Setup.{Setup}
+use Rattle.answer.specs.declared.Answer.{Answer}
+use Rattle.answer.specs.Checks.{Check, check, answerTo}
+use Rattle.setup.specs.Setup.{Setup, slotCount}
 use Rattle.table.specs.View.{maxPlaces, Row, interpreted, View}
 use Rattle.table.specs.Layout.{setupOf, retiredOf, countOf, digestAt, viewOf, withRow, withMark}
 use Rattle.table.specs.Rules.{hasDigest, placeOf}
 use Rattle.table.specs.Form.{inForm}
-use Rattle.table.specs.Checks.{Check, check, answerTo}
-use Rattle.interpret.specs.Buffer.{bufferSize, partStart, partOf}
+use Rattle.records.specs.Layout.{bufferSize, partStart, partOf}
 
 -- the place that holds the block of this digest, or the count
 abbrev pub placeIn : View → Bytes → ℕ

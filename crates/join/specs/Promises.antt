@@ -9,12 +9,12 @@ use lib.ListN.{length}
 use Rattle.base.specs.Search.{First}
 use Rattle.base.specs.Count.{countBelow}
 use Rattle.base.specs.Bytes.{Bytes}
-use Rattle.block.specs.Limits.{slotCount}
-use Rattle.block.specs.declared.Answer.{Answer}
+use Rattle.answer.specs.declared.Answer.{Answer}
+use Rattle.setup.specs.Setup.{slotCount}
 use Rattle.table.specs.View.{maxPlaces, interpreted}
 use Rattle.table.specs.Layout.{setupOf, retiredOf, countOf, digestAt, siteAt, sequenceAt, requestAt, rowAt, viewOf}
 use Rattle.table.specs.Form.{inForm}
-use Rattle.interpret.specs.Buffer.{bufferSize, partOf}
+use Rattle.records.specs.Layout.{bufferSize, partOf}
 use Rattle.join.specs.Join.{refersBy, sameBlock, isExtra, joinedCount, joinAnswer, placeIn, interpretedAt, partFor, joined, copied}
 
 -- ---- refusals

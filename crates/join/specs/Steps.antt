@@ -1,19 +1,18 @@
 -- What the contracts of inner functions cite: what an entry point has tested, and where blocks stand. Nothing here need be believed.
 use mathlib.Core.Path.{_≡_}
 use mathlib.Core.Bool.{Bool, true, false, not, cond, _&&_}
-use mathlib.Core.List.{List, _++_}
+use mathlib.Core.List.{List}
 use Prim.Native.Nat.{ℕ, zero, suc, _≤_, _<_}
 use lib.Dec.{eqb}
 use lib.ListN.{length, getD, take, drop}
 use Rattle.base.specs.Search.{anyBelow}
 use Rattle.base.specs.Mask.{maskBelow, inMask}
 use Rattle.base.specs.Bytes.{Bytes, splice}
-use Rattle.base.specs.Word.{wordSize, wordBytes}
-use Rattle.block.specs.declared.Answer.{Answer}
+use Rattle.answer.specs.declared.Answer.{Answer}
+use Rattle.answer.specs.Checks.{Check, answerTo}
 use Rattle.table.specs.View.{maxPlaces}
-use Rattle.table.specs.Layout.{referencesOffset, requestsOffset, setupOf, retiredOf, countOf, digestAt, viewOf}
-use Rattle.table.specs.Checks.{Check, answerTo}
-use Rattle.interpret.specs.Buffer.{bufferSize, partStart}
+use Rattle.table.specs.Layout.{setupOf, retiredOf, countOf, digestAt, viewOf}
+use Rattle.records.specs.Layout.{bufferSize, partStart}
 use Rattle.join.specs.Join.{clashAt, isExtra, joinedCount, joinChecks, joinBelow, joinedTable, placeIn, handedBack, joinedRecords}
 use Rattle.join.specs.Promises.{BothFormed, placeBehind}
 
@@ -97,10 +96,6 @@ pub record Pair (left : Bytes) (i : ℕ) (right : Bytes) (j : ℕ) (inRight inLe
   pub back : Held left right inLeft
   pub first : i < countOf left
   pub second : j < countOf right
-
--- the bytes of a row with these references in place of its own
-abbrev pub withReferences : Bytes → ℕ → Bytes
-withReferences row references = take referencesOffset row ++ (wordBytes wordSize references ++ drop requestsOffset row)
 
 -- the table after the right's places below j
 pub record Next (t right : Bytes) (j : ℕ) (places : List ℕ) : Type 0 where

@@ -6,7 +6,7 @@ ghost use lib.Dec.{eqb};
 ghost use lib.ListN.{length};
 ghost use Rattle.base.specs.Search.{firstBelow, allBelow};
 ghost use Rattle.base.specs.Mask.{inMask};
-ghost use Rattle.block.specs.Limits.{slotCount};
+ghost use Rattle.setup.specs.Setup.{slotCount};
 ghost use Rattle.table.specs.View.{maxPlaces};
 ghost use Rattle.table.specs.Layout.{countOf, requestAt, viewOf};
 ghost use Rattle.table.specs.Steps.{Place};
@@ -46,7 +46,7 @@ fn same_requests(table: &[u8], i: usize, other: &[u8], j: usize) -> bool
     ensures { λ r. ⌜ r ≡ allBelow (λ slot. eqb (requestAt (now (table .entry)) i slot) (requestAt (now (other .entry)) j slot)) slotCount ⌝ }
 {
     let mut slot = 0;
-    while slot < block::SLOTS {
+    while slot < setup::SLOTS {
         if rows::request_at(table, i, slot) != rows::request_at(other, j, slot) {
             return false;
         }

@@ -6,13 +6,13 @@ mod parts;
 mod places;
 mod rows;
 
-use block::Answer;
-use interpret::BUFFER_SIZE;
+use answer::Answer;
+use records::BUFFER_SIZE;
 use table::MAX_PLACES;
 ghost use mathlib.Core.Path.{_≡_};
 ghost use lib.ListN.{length};
+ghost use Rattle.answer.specs.Checks.{answerTo};
 ghost use Rattle.table.specs.Layout.{tableSize, setupOf};
-ghost use Rattle.table.specs.Checks.{answerTo};
 ghost use Rattle.join.specs.Join.{neitherRetired, sameSetup, joinAnswer, joinedTable, joinedRecords, joined, copied};
 ghost use Rattle.join.specs.Promises.{BothFormed, OneSetup};
 ghost use Rattle.join.specs.Steps.{sidesChecks, blocksAnswer, blocksTable, blocksRecords, Passed, Held, Numbered};
@@ -36,10 +36,7 @@ fn same_setup(left: &[u8], right: &[u8]) -> bool
     if table::rows::sites_of(left) != table::rows::sites_of(right) {
         return false;
     }
-    base::same(
-        &left[table::OWNERS_OFFSET..table::RETIRED_OFFSET],
-        &right[table::OWNERS_OFFSET..table::RETIRED_OFFSET],
-    )
+    base::same(table::rows::owners_of(left), table::rows::owners_of(right))
 }
 
 // The checks of the two sides as a whole: 2, 12, 31 and 23.
@@ -53,51 +50,27 @@ fn sides_answer(
     ensures { λ r. ⌜ r ≡ answerTo (sidesChecks (now (left .entry)) (now (right .entry)) «left_size» «right_size» size) 0 ⌝ }
 {
     if !table::in_form(left) {
-        return Answer {
-            refusal: 2,
-            value: 0,
-        };
+        return answer::refused(2, 0);
     }
     if !table::in_form(right) {
-        return Answer {
-            refusal: 2,
-            value: 0,
-        };
+        return answer::refused(2, 0);
     }
     if left_size != BUFFER_SIZE {
-        return Answer {
-            refusal: 12,
-            value: 0,
-        };
+        return answer::refused(12, 0);
     }
     if right_size != BUFFER_SIZE {
-        return Answer {
-            refusal: 12,
-            value: 0,
-        };
+        return answer::refused(12, 0);
     }
     if size != BUFFER_SIZE {
-        return Answer {
-            refusal: 12,
-            value: 0,
-        };
+        return answer::refused(12, 0);
     }
     if !neither_retired(left, right) {
-        return Answer {
-            refusal: 31,
-            value: 0,
-        };
+        return answer::refused(31, 0);
     }
     if !same_setup(left, right) {
-        return Answer {
-            refusal: 23,
-            value: 0,
-        };
+        return answer::refused(23, 0);
     }
-    Answer {
-        refusal: 0,
-        value: 0,
-    }
+    answer::success(0)
 }
 
 // The checks of the blocks, 24 and 25. Where they pass, `places` has for each place of the right the place of its block in the result.
@@ -108,22 +81,13 @@ fn blocks_answer(left: &[u8], right: &[u8], in_right: &[u8], places: &mut [u8]) 
 {
     let clash = clash::first_clash(left, right, in_right, places);
     if clash < table::rows::count_of(left) {
-        return Answer {
-            refusal: 24,
-            value: clash,
-        };
+        return answer::refused(24, clash);
     }
     let count = places::number_extras(left, right, places);
     if MAX_PLACES < count {
-        return Answer {
-            refusal: 25,
-            value: 0,
-        };
+        return answer::refused(25, 0);
     }
-    Answer {
-        refusal: 0,
-        value: count,
-    }
+    answer::success(count)
 }
 
 // Makes the left's table that of both and fills the third buffer, where each block's place is known.

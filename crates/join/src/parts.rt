@@ -1,14 +1,13 @@
 // The record parts of the result.
-use interpret::PART_SIZE;
 use table::rows;
 ghost use mathlib.Core.Path.{_≡_};
-ghost use Prim.Native.Nat.{_≤_, _<_};
+ghost use Prim.Native.Nat.{_<_};
 ghost use lib.ListN.{length};
 ghost use Rattle.base.specs.Bytes.{splice};
 ghost use Rattle.table.specs.View.{maxPlaces};
 ghost use Rattle.table.specs.Layout.{countOf, viewOf};
 ghost use Rattle.table.specs.Steps.{Places};
-ghost use Rattle.interpret.specs.Buffer.{bufferSize, partStart};
+ghost use Rattle.records.specs.Layout.{bufferSize, partStart};
 ghost use Rattle.join.specs.Join.{interpretedAt, handedBack, copiedBelow};
 ghost use Rattle.join.specs.Steps.{Sides, Joinable, Held, Numbered, extrasBelow};
 
@@ -37,12 +36,10 @@ fn part_of<'a>(
     ensures { λ r. ⌜ now r ≡ handedBack (viewOf (now (left .entry))) (viewOf (now (right .entry))) (now («left_records» .entry)) (now («right_records» .entry)) i j ⌝ }
 {
     if interpreted_at(left, i) {
-        let at = PART_SIZE * i;
-        return &left_records[at..at + PART_SIZE];
+        return records::part(left_records, i);
     }
     if interpreted_at(right, j) {
-        let at = PART_SIZE * j;
-        return &right_records[at..at + PART_SIZE];
+        return records::part(right_records, j);
     }
     &left_records[0..0]
 }
@@ -62,7 +59,7 @@ fn copy_part<'a>(
     ensures { λ _. ⌜ now (third .exit) ≡ splice (now (third .entry)) (partStart place) (handedBack (viewOf (now (left .entry))) (viewOf (now (right .entry))) (now («left_records» .entry)) (now («right_records» .entry)) i j) ⌝ }
 {
     let part = part_of(left, i, right, j, left_records, right_records);
-    interpret::buffer::put(third, PART_SIZE * place, part);
+    records::put_part(third, place, part);
 }
 
 // The parts of the left's places.

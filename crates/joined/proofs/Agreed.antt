@@ -11,12 +11,14 @@ use Rattle.base.specs.Count.{countBelow}
 use Rattle.base.specs.Bytes.{Bytes}
 use Rattle.base.proofs.Count.{count-mono}
 use Rattle.base.proofs.List.{some-found, some-at}
-use Rattle.block.specs.Limits.{referenceSize, slotCount}
-use Rattle.setup.specs.Setup.{Setup, lawful, faults}
-use Rattle.broadcast.specs.Record.{recordSize}
-use Rattle.agreement.specs.Ledger.{Call, Ledger}
-use Rattle.agreement.specs.Run.{Site}
-use Rattle.agreement.specs.Promises.{forked, deliveredEntry, NoCollision, Delivered, SiteKeeps, ledgerOf, siteWith, Promised}
+use Rattle.setup.specs.Setup.{Setup, lawful, faults, slotCount}
+use Rattle.block.specs.Limits.{referenceSize}
+use Rattle.records.specs.Layout.{recordSize}
+use Rattle.history.specs.Forks.{forked, NoCollision}
+use Rattle.run.specs.Ledger.{Call, Ledger}
+use Rattle.run.specs.Run.{Site}
+use Rattle.run.specs.Promises.{deliveredEntry, Delivered, SiteKeeps, ledgerOf, siteWith}
+use Rattle.agreement.specs.Promises.{Promised}
 use Rattle.agreement.proofs.Theorem.{promised}
 use Rattle.joined.specs.Promises.{ShowsDelivered, Reachable}
 

@@ -8,7 +8,7 @@ use lib.Dec.{ltb}
 use borrow.Author.Tests.{ltb-true, ltb-false}
 use Rattle.base.specs.Bytes.{Bytes}
 use Rattle.base.proofs.Tests.{by-test, not-true-false, same-tests}
-use Rattle.block.specs.Limits.{slotCount}
+use Rattle.setup.specs.Setup.{slotCount}
 use Rattle.block.specs.Layout.{siteOf, sequenceOf, referencesOf, requestFor}
 use Rattle.block.specs.Reading.{reading, fieldsOf}
 use Rattle.block.specs.Promises.{Shaped}
@@ -19,12 +19,12 @@ use Rattle.table.specs.Layout.{countOf, digestAt, siteAt, sequenceAt, requestAt
 use Rattle.table.proofs.Formed.{formed-of, formed-row, one-place}
 use Rattle.admission.specs.Admission.{lists}
 use Rattle.admission.proofs.Listed.{lists-member, member-lists}
-use Rattle.agreement.proofs.Reached.{Rows}
 use Rattle.join.specs.Join.{refersBy, placeIn, joinedTable}
 use Rattle.join.specs.Steps.{Passed}
 use Rattle.join.proofs.Referred.{place-found, place-has, by-from, by-has}
 use Rattle.join.proofs.Joining.{Shows, Carried, Joining}
 use Rattle.join.proofs.Handed.{whole}
+use Rattle.run.proofs.Reached.{Rows}
 
 shaped : (b : Bytes) → reading b ≡ Block (fieldsOf b) → Shaped b
 shaped b e = reading-accepted b (fieldsOf b) e .accepted .shape

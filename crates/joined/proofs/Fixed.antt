@@ -16,16 +16,16 @@ use Rattle.table.specs.View.{maxPlaces, View}
 use Rattle.table.specs.Layout.{countOf, digestAt, siteAt, sequenceAt, markAt, rowAt, viewOf}
 use Rattle.table.specs.Form.{inForm}
 use Rattle.table.proofs.Formed.{formed-of, formed-row, formed-parent, one-place}
-use Rattle.interpret.specs.Buffer.{partOf}
+use Rattle.records.specs.Layout.{partOf}
 use Rattle.interpret.specs.Interpretation.{written}
 use Rattle.interpret.proofs.Directs.{Stands, written-same, written-kept}
-use Rattle.agreement.proofs.Reached.{Fixed}
-use Rattle.agreement.proofs.Retraced.{restored}
 use Rattle.join.specs.Join.{refersBy, partFor, copiedBelow, joinedTable, joinedRecords}
 use Rattle.join.specs.Steps.{Passed}
 use Rattle.join.proofs.Referred.{by-from, by-has}
 use Rattle.join.proofs.Joining.{Shows, Carried, Joining}
 use Rattle.join.proofs.Handed as handed
+use Rattle.run.proofs.Reached.{Fixed}
+use Rattle.run.proofs.Retraced.{restored}
 
 module _ (left right : Bytes) (leftRecords rightRecords third : List ℕ) (p : Passed left right leftRecords rightRecords third) where
   abbrev n : ℕ

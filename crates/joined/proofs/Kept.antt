@@ -7,16 +7,15 @@ use native.Mathlib.Omega.{arith}
 use lib.ListN.{getD}
 use Rattle.base.specs.Bytes.{Bytes}
 use Rattle.setup.specs.Setup.{Setup}
-use Rattle.broadcast.specs.Record.{recordSize}
 use Rattle.table.specs.Layout.{countOf, markAt}
-use Rattle.interpret.specs.Buffer.{partOf}
-use Rattle.agreement.specs.Run.{Site}
-use Rattle.agreement.specs.Promises.{deliveredEntry}
-use Rattle.agreement.proofs.Reached.{Fixed}
+use Rattle.records.specs.Layout.{recordSize, partOf}
 use Rattle.join.specs.Join.{joinedTable, joinedRecords}
 use Rattle.join.specs.Steps.{Passed}
 use Rattle.join.proofs.Joining.{Joining}
 use Rattle.join.proofs.Handed as handed
+use Rattle.run.specs.Run.{Site}
+use Rattle.run.specs.Promises.{deliveredEntry}
+use Rattle.run.proofs.Reached.{Fixed}
 use Rattle.joined.specs.Promises.{ShowsDelivered}
 use Rattle.joined.proofs.Fixed.{right-part}
 

@@ -12,26 +12,27 @@ use Rattle.base.specs.Bytes.{Bytes}
 use Rattle.base.proofs.Tests.{by-test}
 use Rattle.sha256.specs.Sha256.{sha256}
 use Rattle.sha256.proofs.Promises.{sha256-length}
-use Rattle.block.specs.Limits.{referenceSize}
 use Rattle.setup.specs.Setup.{Setup, lawful}
+use Rattle.block.specs.Limits.{referenceSize}
 use Rattle.table.specs.Layout.{setupOf, retiredOf, countOf}
 use Rattle.table.proofs.Canonical.{Canonical}
-use Rattle.interpret.specs.Buffer.{bufferSize}
-use Rattle.agreement.specs.Ledger.{Call, Ledger}
-use Rattle.agreement.specs.Run.{Site, started, siteAfter}
-use Rattle.agreement.specs.Promises.{ledgerOf, siteWith}
-use Rattle.agreement.proofs.Standing.{Standing, standing}
-use Rattle.agreement.proofs.Runs.{after-append}
-use Rattle.agreement.proofs.Growth.{none-retired}
-use Rattle.agreement.proofs.Theorem.{run, promised}
-use Rattle.agreement.proofs.Reached.{Fixed, Reached, reached, Rows, reached-rows}
-use Rattle.agreement.proofs.Retraced.{callsOf, retraced, calls-among}
-use Rattle.arrival.proofs.Theorem as arrival
+use Rattle.records.specs.Layout.{bufferSize}
 use Rattle.join.specs.Join.{joinedTable, joinedRecords}
 use Rattle.join.specs.Steps.{Passed}
 use Rattle.join.proofs.Passes.{passes, joined-passed, copied-passed}
 use Rattle.join.proofs.Joining.{Joining}
 use Rattle.join.proofs.Handed.{whole, records-length}
+use Rattle.run.specs.Ledger.{Call, Ledger}
+use Rattle.run.specs.Run.{Site, started, siteAfter}
+use Rattle.run.specs.Promises.{ledgerOf, siteWith}
+use Rattle.run.proofs.Standing.{Standing, standing}
+use Rattle.run.proofs.Runs.{after-append}
+use Rattle.run.proofs.Growth.{none-retired}
+use Rattle.run.proofs.Promises.{run}
+use Rattle.run.proofs.Reached.{Fixed, Reached, reached, Rows, reached-rows}
+use Rattle.run.proofs.Retraced.{callsOf, retraced, calls-among}
+use Rattle.agreement.proofs.Theorem.{promised}
+use Rattle.arrival.proofs.Theorem as arrival
 use Rattle.joined.specs.Promises.{joinOf, CanJoin, ShowsDelivered, Reachable, left, right, Covered}
 use Rattle.joined.proofs.Fixed.{restored-is, joined-fixed}
 use Rattle.joined.proofs.Kept.{delivered}

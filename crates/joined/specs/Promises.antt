@@ -7,16 +7,16 @@ use Prim.Native.Nat.{ℕ, _+_, _*_, _≤_, _<_}
 use lib.ListN.{getD}
 use Rattle.base.specs.Count.{countBelow}
 use Rattle.base.specs.Bytes.{Bytes}
-use Rattle.block.specs.Limits.{slotCount}
-use Rattle.setup.specs.Setup.{Setup, faults}
-use Rattle.broadcast.specs.Record.{recordSize}
+use Rattle.setup.specs.Setup.{Setup, faults, slotCount}
 use Rattle.table.specs.Layout.{countOf, markAt}
-use Rattle.interpret.specs.Buffer.{partOf}
-use Rattle.agreement.specs.Ledger.{Call}
-use Rattle.agreement.specs.Run.{Site, siteAfter}
-use Rattle.agreement.specs.Promises.{forked, deliveredEntry, NoCollision, ledgerOf, siteWith, Promised}
-use Rattle.arrival.specs.Arrival.{Arrival}
+use Rattle.records.specs.Layout.{recordSize, partOf}
 use Rattle.join.specs.Join.{joinAnswer, joined, copied}
+use Rattle.history.specs.Forks.{forked, NoCollision}
+use Rattle.run.specs.Ledger.{Call}
+use Rattle.run.specs.Run.{Site, siteAfter}
+use Rattle.run.specs.Promises.{deliveredEntry, ledgerOf, siteWith}
+use Rattle.agreement.specs.Promises.{Promised}
+use Rattle.arrival.specs.Arrival.{Arrival}
 
 -- what joining two sites leaves: the left's table, and the third buffer
 abbrev pub joinOf : Site → Site → List ℕ → Site

@@ -3,10 +3,10 @@
 // wait. Promises: it is safe, it ends, and it holds no more of the input than that buffer does; each turn makes the steps that are due on the
 // bytes that are unread, keeps those that no step used, in their order, and puts what comes behind them. Assumes: the contracts of the kit's
 // calls on files. That a read puts the next bytes there, and that the lines are written, is tested.
-use interpret::BUFFER_SIZE;
 use libc::STDERR_FILENO;
 use libc::STDIN_FILENO;
 use libc::STDOUT_FILENO;
+use records::BUFFER_SIZE;
 use report::State;
 use table::TABLE_SIZE;
 ghost use mathlib.Core.Path.{_≡_};

@@ -11,7 +11,7 @@ use borrow.Author.Tests.{leb-true, leb-false}
 use Rattle.base.specs.Bytes.{Bytes, splice}
 use Rattle.base.proofs.Tests.{by-test}
 use Rattle.sha256.specs.Sha256.{sha256}
-use Rattle.agreement.specs.Run.{Site}
+use Rattle.run.specs.Run.{Site}
 use Rattle.report.specs.Framing.{wanted, Outcome, stepped, linesSize, linesOf, handed}
 use Rattle.report.specs.Gathering.{siteWith, Gathering, noSteps, isDue, pieceAt, outcomeAt, siteSteppedAt, due, oneMore, gatherOn, gathering}
 use Rattle.report.specs.Steps.{advanced}

@@ -9,7 +9,7 @@ use lib.ListN.{length, drop, length-take, length-drop}
 use borrow.Author.Tests.{ltb-true, ltb-false}
 use Rattle.base.specs.Bytes.{Bytes}
 use Rattle.base.proofs.Tests.{by-test}
-use Rattle.agreement.specs.Run.{Site}
+use Rattle.run.specs.Run.{Site}
 use Rattle.report.specs.Framing.{wanted}
 use Rattle.report.specs.Gathering.{Gathering, noSteps, pieceAt, due, oneMore, gatherOn, gathering}
 use Rattle.report.specs.declared.State.{State}

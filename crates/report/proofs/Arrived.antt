@@ -9,20 +9,20 @@ use borrow.Author.Tests.{eq-eqb, ne-eqb}
 use lib.Dec.{eqb}
 use lib.ListN.{length}
 use Rattle.base.specs.Bytes.{Bytes}
+use Rattle.sha256.specs.Sha256.{sha256}
+use Rattle.answer.specs.declared.Answer.{Answer}
 use Rattle.block.specs.Limits.{headerSize}
 use Rattle.block.specs.Layout.{siteOf, sequenceOf}
 use Rattle.block.specs.Reading.{fieldsOf}
-use Rattle.block.specs.declared.Answer.{Answer}
 use Rattle.block.proofs.Accepted.{reading-accepted}
-use Rattle.sha256.specs.Sha256.{sha256}
 use Rattle.table.specs.View.{maxPlaces}
 use Rattle.table.proofs.Formed.{formed-places}
+use Rattle.records.specs.Layout.{bufferSize}
 use Rattle.admission.specs.Admission.{admission, admitted}
 use Rattle.admission.proofs.Promises.{sha256-promises}
-use Rattle.interpret.specs.Buffer.{bufferSize}
 use Rattle.interpret.specs.Interpretation.{interpretation, marked, recorded}
 use Rattle.interpret.proofs.Promises.{promises}
-use Rattle.agreement.specs.Run.{Site, siteAnswer}
+use Rattle.run.specs.Run.{Site, siteAnswer}
 use Rattle.report.proofs.Calls.{number, second, passed-site, passed-refusal, refused-site, refused-refusal}
 use Rattle.report.specs.Text.{refusedLine}
 use Rattle.report.specs.Listing.{deliveryLines, siteArrived, arrivalLines}

@@ -8,7 +8,7 @@ use lib.ListN.{length}
 use borrow.Author.Tests.{eqb-true, ltb-false, leb-false}
 use Rattle.base.specs.Bytes.{Bytes}
 use Rattle.table.specs.Fresh.{freshAnswer}
-use Rattle.agreement.specs.Run.{Site}
+use Rattle.run.specs.Run.{Site}
 use Rattle.report.specs.Arrivals.{setupIn, lengthSize, verdictSize, overlong}
 use Rattle.report.specs.Framing.{pieceSize, wantedBy, wanted, Outcome, setupStep, lengthStep, skipStep, blockStep, stepBy, stepped}
 use Rattle.report.specs.declared.Expected.{Expected}

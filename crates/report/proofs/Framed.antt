@@ -9,7 +9,7 @@ use lib.ListN.{length, length-drop, drop-of-length-le}
 use borrow.Author.Tests.{lt-ltb, le-ltb}
 use Rattle.base.specs.Bytes.{Bytes}
 use Rattle.base.proofs.Tests.{by-test}
-use Rattle.agreement.specs.Run.{Site}
+use Rattle.run.specs.Run.{Site}
 use Rattle.report.specs.Text.{unreadLine}
 use Rattle.report.specs.Arrivals.{Arrival, arrived, unread, arrivalSize, overlong, firstVerdict, firstBlock, behind, firstArrival, arrivals, arrivalsIn}
 use Rattle.report.specs.Listing.{siteArrived, arrivalLines, listingFrom}

@@ -10,7 +10,7 @@ use native.Mathlib.Omega.{arith}
 use lib.ListN.{length, take, drop, length-drop}
 use lib.Seq.{take-append-le, drop-append-le, drop-drop}
 use Rattle.base.specs.Bytes.{Bytes}
-use Rattle.agreement.specs.Run.{Site}
+use Rattle.run.specs.Run.{Site}
 use Rattle.report.specs.Framing.{wanted, stepped, siteStepped, run}
 use Rattle.report.specs.Gathering.{Gathering, pieceAt, due, oneMore, gathering}
 use Rattle.report.specs.Promises.{Stopped}

@@ -11,7 +11,7 @@ use lib.ListN.{length, drop, length-append, length-drop}
 use borrow.Author.Tests.{eqb-true, eqb-false, le-leb}
 use Rattle.base.specs.Bytes.{Bytes, joined}
 use Rattle.base.proofs.Tests.{by-test, true-not-false}
-use Rattle.agreement.specs.Run.{Site}
+use Rattle.run.specs.Run.{Site}
 use Rattle.report.specs.Framing.{wantedBy, wanted, expecting, start, run, linesSize}
 use Rattle.report.specs.Gathering.{Gathering, noSteps, due, gathering, Progress, nothingRead, turn, turns, lastTurns}
 use Rattle.report.specs.declared.Expected.{Expected}

@@ -20,10 +20,8 @@ pub mod Advanced
 pub mod Gathers
 pub mod InParts
 pub mod Promises
-pub mod Placed
 pub mod Calls
 pub mod Steady
 pub mod Stays
 pub mod Shown
-pub mod Agreed
 pub mod TextKept

@@ -10,7 +10,7 @@ use borrow.Author.Tests.{ltb-true, ltb-false}
 use Rattle.base.specs.Bytes.{Bytes}
 use Rattle.base.proofs.Tests.{by-test}
 use Rattle.block.specs.Limits.{maxBlockSize}
-use Rattle.agreement.specs.Run.{Site}
+use Rattle.run.specs.Run.{Site}
 use Rattle.report.specs.Text.{unreadLine}
 use Rattle.report.specs.Arrivals.{lengthSize, verdictSize, blockLength, arrivalSize, overlong, cut, firstVerdict, firstBlock, behind}
 use Rattle.report.specs.Listing.{siteArrived}

@@ -9,11 +9,10 @@ use lib.Seq.{getD-take}
 use Rattle.base.specs.Bytes.{Bytes, joined}
 use Rattle.base.proofs.Tests.{by-test}
 use Rattle.base.proofs.Parts.{part-of-front}
-use Rattle.block.specs.Limits.{slotCount}
-use Rattle.setup.specs.Setup.{Setup, lawful}
+use Rattle.setup.specs.Setup.{Setup, lawful, slotCount}
 use Rattle.setup.proofs.Thresholds.{eight-owners}
 use Rattle.table.specs.Layout.{tableSize}
-use Rattle.agreement.specs.Run.{Site, started}
+use Rattle.run.specs.Run.{Site, started}
 use Rattle.report.specs.Text.{names, setupLine}
 use Rattle.report.specs.Arrivals.{setupSize, setupIn}
 use Rattle.report.specs.Listing.{listing}

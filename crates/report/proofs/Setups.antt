@@ -8,11 +8,10 @@ use lib.ListN.{length, drop, length-take, length-drop}
 use borrow.Author.Tests.{eq-eqb, ne-eqb}
 use Rattle.base.specs.Bytes.{Bytes}
 use Rattle.base.proofs.Tests.{not-true-false}
-use Rattle.block.specs.Limits.{slotCount}
-use Rattle.setup.specs.Setup.{Setup, lawful}
+use Rattle.answer.specs.Checks.{answerTo}
+use Rattle.setup.specs.Setup.{Setup, lawful, slotCount}
 use Rattle.setup.proofs.Thresholds.{eight-owners}
 use Rattle.table.specs.Layout.{tableSize}
-use Rattle.table.specs.Checks.{answerTo}
 use Rattle.table.specs.Fresh.{freshTable, freshAnswer, freshIn}
 use Rattle.report.specs.Arrivals.{setupSize, setupIn}
 

@@ -7,29 +7,29 @@ use Prim.Native.Nat.{ℕ, _<_}
 use native.Mathlib.Omega.{arith}
 use borrow.Author.Tests.{eq-eqb}
 use Rattle.base.specs.Bytes.{Bytes}
-use Rattle.block.specs.Limits.{slotCount}
-use Rattle.setup.specs.Setup.{Setup}
 use Rattle.sha256.specs.Sha256.{sha256}
 use Rattle.sha256.proofs.Promises.{sha256-length}
+use Rattle.setup.specs.Setup.{Setup, slotCount}
 use Rattle.broadcast.specs.declared.SlotRecord.{SlotRecord}
 use Rattle.broadcast.proofs.Steps.Entry.{deliveryEntry}
 use Rattle.table.specs.Layout.{countOf, markAt}
 use Rattle.table.specs.Promises.{Marked}
-use Rattle.interpret.specs.Buffer.{partOf, recordIn, numbersOf}
-use Rattle.interpret.proofs.Parts.{record-in}
+use Rattle.records.specs.Layout.{partOf, recordIn, deliveredIn, numbersOf}
+use Rattle.records.proofs.Parts.{record-in}
 use Rattle.interpret.proofs.Promises.{promises}
-use Rattle.agreement.specs.History.{History, node, slotRecord, meaning}
-use Rattle.agreement.specs.Ledger.{Call, Ledger, ledgerAfter}
-use Rattle.agreement.specs.Run.{Site, siteAnswer}
-use Rattle.agreement.specs.Promises.{Interpreted, NoCollision, historyAt, Delivered}
-use Rattle.agreement.proofs.Meanings.{record-sized, record-made}
-use Rattle.agreement.proofs.Runs.{Together, run-together}
-use Rattle.agreement.proofs.Growth.{after-keeps}
-use Rattle.agreement.proofs.Standing.{place-history, safe-clear}
-use Rattle.agreement.proofs.Theorem.{delivered-is}
+use Rattle.history.specs.History.{History, node, slotRecord, meaning}
+use Rattle.history.specs.Forks.{NoCollision}
+use Rattle.history.proofs.Meanings.{record-sized, record-made}
+use Rattle.run.specs.Ledger.{Call, Ledger, ledgerAfter}
+use Rattle.run.specs.Run.{Site, siteAnswer}
+use Rattle.run.specs.Promises.{Interpreted, historyAt, Delivered}
+use Rattle.run.proofs.Runs.{Together, run-together}
+use Rattle.run.proofs.Growth.{after-keeps}
+use Rattle.run.proofs.Standing.{place-history, safe-clear}
+use Rattle.run.proofs.Promises.{delivered-is}
 use Rattle.report.specs.Arrivals.{Arrival, arrived, unread}
-use Rattle.report.specs.Listing.{deliveredIn, admissionAnswer, siteArrived, arrivalRefusal}
-use Rattle.report.specs.Agreed.{callsOf, Shows, here, later, past}
+use Rattle.report.specs.Listing.{admissionAnswer, siteArrived, arrivalRefusal}
+use Rattle.report.specs.Shown.{callsOf, Shows, here, later, past}
 use Rattle.report.proofs.Calls.{place, entered, second, both, passed-site, passed-refusal, accepted, callsAt, site-after-calls, none-back}
 use Rattle.report.proofs.Stays.{ledger-after-both, delivered-stays}
 

@@ -10,7 +10,7 @@ use lib.Seq.{drop-drop}
 use borrow.Author.Tests.{ltb-true, ltb-false, leb-true, leb-false}
 use Rattle.base.specs.Bytes.{Bytes}
 use Rattle.base.proofs.Tests.{by-test}
-use Rattle.agreement.specs.Run.{Site}
+use Rattle.run.specs.Run.{Site}
 use Rattle.report.specs.Framing.{pieceSize, wantedBy, expecting, outcome, stepBy, siteBy, run}
 use Rattle.report.specs.declared.Expected.the-variants.{Length, Skip}
 use Rattle.report.specs.declared.State.{State}

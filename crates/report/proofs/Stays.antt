@@ -11,18 +11,19 @@ use lib.ListN.{length, getD}
 use borrow.Author.Tests.{ne-eqb}
 use Rattle.base.specs.Bytes.{Bytes}
 use Rattle.base.proofs.Tests.{by-test, true-not-false}
-use Rattle.block.specs.Limits.{referenceSize}
 use Rattle.setup.specs.Setup.{Setup}
-use Rattle.broadcast.specs.Record.{recordSize}
-use Rattle.agreement.specs.History.{History, meaning}
-use Rattle.agreement.specs.Ancestry.{historyOf}
-use Rattle.agreement.specs.Ledger.{Call, admit, interpret, retire, takeBack, Ledger, taken, ledgerAnswer, ledgerStep, ledgerAfter}
-use Rattle.agreement.specs.Run.{Site, siteStep}
-use Rattle.agreement.specs.Promises.{InterpretedBlock, deliveredEntry, NoCollision, Delivered}
-use Rattle.agreement.proofs.Ancestry.{history-agree}
-use Rattle.agreement.proofs.Runs.{Together, step-together}
-use Rattle.agreement.proofs.Growth.{isTakingBack, NoneBack, step-keeps, after-keeps}
-use Rattle.agreement.proofs.Standing.{interpreted-among, one-history-each, safe-clear}
+use Rattle.block.specs.Limits.{referenceSize}
+use Rattle.records.specs.Layout.{recordSize}
+use Rattle.history.specs.History.{History, meaning}
+use Rattle.history.specs.Ancestry.{historyOf}
+use Rattle.history.specs.Forks.{NoCollision}
+use Rattle.history.proofs.Ancestry.{history-agree}
+use Rattle.run.specs.Ledger.{Call, admit, interpret, retire, takeBack, Ledger, taken, ledgerAnswer, ledgerStep, ledgerAfter}
+use Rattle.run.specs.Run.{Site, siteStep}
+use Rattle.run.specs.Promises.{InterpretedBlock, deliveredEntry, Delivered}
+use Rattle.run.proofs.Runs.{Together, step-together}
+use Rattle.run.proofs.Growth.{isTakingBack, NoneBack, step-keeps, after-keeps}
+use Rattle.run.proofs.Standing.{interpreted-among, one-history-each, safe-clear}
 
 -- a list of calls, and then another
 pub ledger-after-both : (digest : Bytes → Bytes) (s : Setup) (size : ℕ) (l : Ledger) (first second : List Call)

@@ -14,15 +14,14 @@ use Rattle.sha256.specs.Sha256.{sha256}
 use Rattle.table.specs.Layout.{countOf, markAt, viewOf}
 use Rattle.table.specs.Form.{inForm}
 use Rattle.table.specs.Promises.{Grown, Marked}
+use Rattle.records.specs.Layout.{bufferSize}
 use Rattle.admission.specs.Admission.{rowFor}
 use Rattle.admission.proofs.Promises.{sha256-promises}
-use Rattle.interpret.specs.Buffer.{bufferSize}
 use Rattle.interpret.proofs.Promises.{promises}
-use Rattle.agreement.specs.Run.{Site, siteAnswer}
+use Rattle.run.specs.Run.{Site, siteAnswer}
 use Rattle.report.specs.Arrivals.{Arrival, arrived, unread}
 use Rattle.report.specs.Listing.{admissionAnswer, siteArrived, arrivalRefusal}
-use Rattle.report.specs.Agreed.{Settled}
-use Rattle.report.proofs.Placed.{place-is-next}
+use Rattle.report.specs.Shown.{Settled}
 use Rattle.report.proofs.Calls.{number, place, entered, second, both, passed-site, passed-refusal, refused-site, refused-refusal}
 
 -- a table in form with every place interpreted, and a whole record buffer
@@ -46,7 +45,7 @@ module _ (x : Site) (k : Steady x) (b : Bytes) (verdict : ℕ) where
 
   module _ (e : number x b verdict ≡ 0) where
     next : p ≡ countOf (x .table)
-    next = place-is-next sha256 (x .table) b verdict e
+    next = sha256-promises .causes (x .table) b verdict .place e
 
     grown : Grown (x .table) t (rowFor sha256 (viewOf (x .table)) b)
     grown = sha256-promises .shown (x .table) b verdict e

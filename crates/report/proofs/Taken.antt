@@ -8,7 +8,7 @@ use lib.Seq.{getD-take}
 use Rattle.base.specs.Bytes.{Bytes}
 use Rattle.base.proofs.Parts.{part-of-front}
 use Rattle.block.specs.Limits.{maxBlockSize}
-use Rattle.agreement.specs.Run.{Site}
+use Rattle.run.specs.Run.{Site}
 use Rattle.report.specs.Text.{unreadLine}
 use Rattle.report.specs.Arrivals.{verdictSize}
 use Rattle.report.specs.Listing.{siteArrived, arrivalLines}

@@ -1,5 +1,4 @@
--- The text of a listing is its lines, and those of deliveries are what `Shows` says; so two texts have one number for a slot while at most f sites
--- forked. Assumes nothing; what is taken as given (no collision, few forks) stands in the promise itself.
+-- The text of a listing is its lines, and those of deliveries are what `Shows` says. Assumes nothing.
 use mathlib.Core.Path.{_≡_, sym, ap, _∙_, subst}
 use mathlib.Core.Bool.{true, cond}
 use mathlib.Core.Logic.{_⊎_, inl, inr}
@@ -8,21 +7,19 @@ use Prim.Native.Nat.{ℕ, _<_}
 use lib.ListN.{drop}
 use Rattle.base.specs.Bytes.{Bytes, joined}
 use Rattle.base.proofs.Tests.{by-test}
-use Rattle.block.specs.Limits.{slotCount}
-use Rattle.setup.specs.Setup.{Setup, lawful}
-use Rattle.agreement.specs.Run.{Site, started}
+use Rattle.setup.specs.Setup.{Setup, lawful, slotCount}
+use Rattle.run.specs.Run.{Site, started}
 use Rattle.report.specs.declared.Delivery.{Delivery}
 use Rattle.report.specs.declared.Field.{Field}
 use Rattle.report.specs.declared.Field.the-variants.{Empty}
 use Rattle.report.specs.Text.{names, refusalLine, setupLine, deliveryLine}
 use Rattle.report.specs.Arrivals.{Arrival, setupSize, setupIn, arrivalsIn}
 use Rattle.report.specs.Listing.{listing}
-use Rattle.report.specs.Agreed.{Shows}
-use Rattle.report.specs.Lines.{linesIn, text, LineShows, TextKeeps, OneNumber}
+use Rattle.report.specs.Shown.{Shows}
+use Rattle.report.specs.Lines.{linesIn, text, LineShows, TextKeeps}
 use Rattle.report.proofs.Legible.{legible}
 use Rattle.report.proofs.Split.{AllLines, split-all, names-line}
 use Rattle.report.proofs.Texts.{Delivers, Refuses, refusal-is-line, textsFrom, texts-joined, texts-lines, texts-kinds, shown-line, line-shown}
-use Rattle.report.proofs.Agreed.{agreed}
 
 module _ (buffer : List ℕ) (input : Bytes) where
   abbrev setup : Setup
@@ -106,15 +103,3 @@ module _ (buffer : List ℕ) (input : Bytes) where
         );
         slots = low-slot;
       }
-
-pub one-number : (buffer₁ buffer₂ : List ℕ) (input₁ input₂ : Bytes) → OneNumber buffer₁ buffer₂ input₁ input₂
-one-number buffer₁ buffer₂ input₁ input₂ =
-    record {
-      oneNumber = λ law same safe few d e m n q.
-          let s : Setup = setupIn input₁ in
-          let second : Shows (started s buffer₂) (arrivalsIn (drop setupSize input₂)) (d .slot) (e .number) =
-          subst (λ (k : ℕ). Shows (started s buffer₂) (arrivalsIn (drop setupSize input₂)) k (e .number)) (sym q)
-          (subst (λ (z : Setup). Shows (started z buffer₂) (arrivalsIn (drop setupSize input₂)) (e .slot) (e .number)) same (line-shows buffer₂ input₂ (ap lawful same ∙ law) e n)) in
-          agreed s buffer₁ buffer₂ (arrivalsIn (drop setupSize input₁)) (arrivalsIn (drop setupSize input₂)) law .oneNumber safe few (d .slot) (d .number) (e .number)
-          (low-slot buffer₁ input₁ d m) (line-shows buffer₁ input₁ law d m) second;
-    }

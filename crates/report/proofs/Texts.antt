@@ -12,17 +12,17 @@ use lib.Dec.{eqb}
 use Rattle.base.specs.Bytes.{Bytes, joined}
 use Rattle.base.specs.List.{listBelow}
 use Rattle.base.proofs.Tests.{by-test}
-use Rattle.block.specs.Limits.{slotCount}
-use Rattle.block.specs.Layout.{siteOf, sequenceOf}
 use Rattle.sha256.specs.Sha256.{sha256}
-use Rattle.agreement.specs.Run.{Site}
+use Rattle.setup.specs.Setup.{slotCount}
+use Rattle.block.specs.Layout.{siteOf, sequenceOf}
+use Rattle.run.specs.Run.{Site}
 use Rattle.report.specs.declared.Delivery.{Delivery}
 use Rattle.report.specs.declared.Field.{Field}
 use Rattle.report.specs.declared.Field.the-variants.{Number}
 use Rattle.report.specs.Text.{refusalLine, refusedLine, unreadLine, deliveryLine, deliveryText}
 use Rattle.report.specs.Arrivals.{Arrival, arrived, unread}
 use Rattle.report.specs.Listing.{delivery, deliveryLines, admissionAnswer, siteArrived, arrivalRefusal, arrivalLines, listingFrom}
-use Rattle.report.specs.Agreed.{Shows, here, later, past}
+use Rattle.report.specs.Shown.{Shows, here, later, past}
 use Rattle.report.proofs.Legible.{legible}
 use Rattle.report.proofs.Split.{isLine, AllLines, line-is-line}
 

@@ -9,7 +9,7 @@ use borrow.Author.Tests.{lt-ltb, le-ltb, le-leb, lt-leb, eq-eqb, ne-eqb}
 use lib.ListN.{length, getD, take, drop}
 use Rattle.base.specs.Bytes.{Bytes}
 use Rattle.table.specs.Fresh.{freshAnswer}
-use Rattle.agreement.specs.Run.{Site}
+use Rattle.run.specs.Run.{Site}
 use Rattle.report.specs.Text.{names, setupLine, unreadLine}
 use Rattle.report.specs.Arrivals.{setupIn, lengthSize, verdictSize, blockLength, overlong}
 use Rattle.report.specs.Listing.{siteArrived, arrivalLines}

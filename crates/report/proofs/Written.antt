@@ -6,7 +6,7 @@ use Prim.Native.Nat.{ℕ, zero, suc, _≤_, _<_}
 use native.Mathlib.Omega.{arith}
 use lib.ListN.{length, take, drop, length-drop}
 use Rattle.base.specs.Bytes.{Bytes}
-use Rattle.agreement.specs.Run.{Site}
+use Rattle.run.specs.Run.{Site}
 use Rattle.report.specs.Framing.{wantedBy, wanted, expecting, Outcome, outcome, stepBy, stepped, siteBy, siteStepped, run}
 use Rattle.report.specs.declared.Expected.the-variants.{Length, End}
 use Rattle.report.specs.declared.State.{State}

@@ -7,8 +7,8 @@ use lib.Dec.{ltb}
 use lib.ListN.{length, getD, take, drop}
 use Rattle.base.specs.Bytes.{Bytes}
 use Rattle.base.specs.Number.{numberAt}
-use Rattle.block.specs.Limits.{slotCount, maxBlockSize}
-use Rattle.setup.specs.Setup.{Setup}
+use Rattle.setup.specs.Setup.{Setup, slotCount}
+use Rattle.block.specs.Limits.{maxBlockSize}
 
 -- n and the owners
 abbrev pub setupSize : ℕ

@@ -6,9 +6,10 @@ use Prim.Native.Nat.{ℕ, zero, suc, _+_, _-_, _*_, _^_, _%_, min}
 use lib.Dec.{eqb, ltb, leb}
 use lib.ListN.{length, getD, take, drop, replicate}
 use Rattle.base.specs.Bytes.{Bytes, splice}
-use Rattle.block.specs.Limits.{slotCount, maxBlockSize}
+use Rattle.setup.specs.Setup.{slotCount}
+use Rattle.block.specs.Limits.{maxBlockSize}
 use Rattle.table.specs.Fresh.{freshAnswer, freshIn}
-use Rattle.agreement.specs.Run.{Site}
+use Rattle.run.specs.Run.{Site}
 use Rattle.report.specs.Text.{fieldCount, names, setupLine, unreadLine}
 use Rattle.report.specs.Arrivals.{setupSize, setupIn, lengthSize, verdictSize, blockLength, overlong}
 use Rattle.report.specs.Listing.{siteArrived, arrivalLines}

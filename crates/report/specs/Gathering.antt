@@ -6,7 +6,7 @@ use Prim.Native.Nat.{ℕ, zero, suc, _+_, _-_}
 use lib.Dec.{leb, ltb}
 use lib.ListN.{length, take, drop}
 use Rattle.base.specs.Bytes.{Bytes}
-use Rattle.agreement.specs.Run.{Site}
+use Rattle.run.specs.Run.{Site}
 use Rattle.report.specs.Framing.{wanted, Outcome, start, stepped, siteStepped, linesSize}
 use Rattle.report.specs.declared.State.{State}
 use Rattle.report.specs.declared.Gathered.{Gathered}

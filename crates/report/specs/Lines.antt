@@ -1,25 +1,22 @@
--- What stands in the text of a listing: what `Shows` of specs/Agreed.antt says is shown is a line of it, and no other line shows a delivery.
+-- What stands in the text of a listing: what `Shows` of specs/Shown.antt says is shown is a line of it, and no other line shows a delivery.
 -- proofs/TextKept.antt shows it.
 use mathlib.Core.Path.{_≡_}
 use mathlib.Core.Bool.{true, cond}
 use mathlib.Core.Logic.{_↔_, _≢_, _⊎_}
 use mathlib.Core.List.{List, [], _∷_, _++_, List·Memᴰ}
-use Prim.Native.Nat.{ℕ, _≤_, _<_}
+use Prim.Native.Nat.{ℕ, _<_}
 use lib.Dec.{eqb}
 use lib.ListN.{drop}
 use Rattle.base.specs.Bytes.{Bytes, joined}
-use Rattle.base.specs.Count.{countBelow}
-use Rattle.block.specs.Limits.{slotCount}
-use Rattle.setup.specs.Setup.{Setup, lawful, faults}
 use Rattle.sha256.specs.Sha256.{sha256}
-use Rattle.agreement.specs.Run.{started}
-use Rattle.agreement.specs.Promises.{forked, NoCollision}
+use Rattle.setup.specs.Setup.{lawful, slotCount}
+use Rattle.run.specs.Run.{started}
 use Rattle.report.specs.declared.Delivery.{Delivery}
 use Rattle.report.specs.declared.Field.{Field}
 use Rattle.report.specs.Text.{lineFeed, names, refusalLine, deliveryLine}
 use Rattle.report.specs.Arrivals.{setupSize, setupIn, arrivalsIn}
 use Rattle.report.specs.Listing.{listing}
-use Rattle.report.specs.Agreed.{Shows, blocks}
+use Rattle.report.specs.Shown.{Shows}
 
 -- the lines of a text, each with its line feed, where `before` was met of the first; what stands behind the last line feed is in none
 unfoldable pub linesAfter : Bytes → Bytes → List Bytes
@@ -60,18 +57,3 @@ module _ (buffer : List ℕ) (input : Bytes) where
     pub shown : lawful (setupIn input) ≡ true → (slot v : ℕ) → slot < slotCount
         → Shows (started (setupIn input) buffer) (arrivalsIn (drop setupSize input)) slot v ↔ LineShows slot v
     pub slots : (d : Delivery) → List·Memᴰ (deliveryLine d) (linesIn text) → d .slot < slotCount
-
--- two inputs of one lawful setup, each listed with a record buffer of any content
-module _ (buffer₁ buffer₂ : List ℕ) (input₁ input₂ : Bytes) where
-  abbrev pub setup : Setup
-  setup = setupIn input₁
-
-  -- the blocks that either listing admitted
-  abbrev pub admitted : List Bytes
-  admitted = blocks setup buffer₁ buffer₂ (arrivalsIn (drop setupSize input₁)) (arrivalsIn (drop setupSize input₂))
-
-  pub record OneNumber : Type 0 where
-    -- where at most f sites forked, the deliveries' lines of the two texts have one number for a slot
-    pub oneNumber : lawful setup ≡ true → setupIn input₂ ≡ setup → NoCollision sha256 admitted → countBelow (forked admitted) (setup .sites) ≤ faults (setup .sites)
-        → (d e : Delivery) → List·Memᴰ (deliveryLine d) (linesIn (text buffer₁ input₁)) → List·Memᴰ (deliveryLine e) (linesIn (text buffer₂ input₂))
-        → d .slot ≡ e .slot → d .number ≡ e .number

@@ -6,20 +6,15 @@ use lib.Dec.{eqb}
 use lib.ListN.{drop}
 use Rattle.base.specs.Bytes.{Bytes, joined}
 use Rattle.base.specs.List.{listBelow}
-use Rattle.block.specs.Limits.{slotCount}
+use Rattle.answer.specs.declared.Answer.{Answer}
+use Rattle.setup.specs.Setup.{lawful, slotCount}
 use Rattle.block.specs.Layout.{siteOf, sequenceOf}
-use Rattle.block.specs.declared.Answer.{Answer}
-use Rattle.setup.specs.Setup.{lawful}
-use Rattle.interpret.specs.Buffer.{recordIn}
-use Rattle.agreement.specs.Ledger.{Call, admit, interpret}
-use Rattle.agreement.specs.Run.{Site, started, siteAnswer, siteStep}
+use Rattle.records.specs.Layout.{deliveredIn}
+use Rattle.run.specs.Ledger.{Call, admit, interpret}
+use Rattle.run.specs.Run.{Site, started, siteAnswer, siteStep}
 use Rattle.report.specs.declared.Delivery.{Delivery}
 use Rattle.report.specs.Text.{names, setupLine, refusedLine, unreadLine, deliveryText}
 use Rattle.report.specs.Arrivals.{Arrival, arrived, unread, setupSize, setupIn, arrivalsIn}
-
--- the number delivered in the block of a place, 0 if there is none: entry 39 of its record
-abbrev pub deliveredIn : List ℕ → ℕ → ℕ → ℕ
-deliveredIn records place slot = recordIn records place slot .made .delivered
 
 abbrev pub delivery : List ℕ → ℕ → ℕ → ℕ → ℕ → ℕ → Delivery
 delivery records arrival place site sequence slot =

@@ -7,7 +7,7 @@ use Prim.Native.Nat.{ℕ, _+_, _-_, _≤_, _<_}
 use lib.ListN.{length, drop}
 use Rattle.base.specs.Bytes.{Bytes, joined}
 use Rattle.table.specs.Layout.{tableSize}
-use Rattle.agreement.specs.Run.{Site}
+use Rattle.run.specs.Run.{Site}
 use Rattle.report.specs.Listing.{listing}
 use Rattle.report.specs.Framing.{pieceSize, wanted, countLimit, start, run, linesSize}
 use Rattle.report.specs.Gathering.{Gathering, gathering, nothingRead, turns, lastTurns}

@@ -4,29 +4,17 @@ use crate::Field;
 use crate::LINES_SIZE;
 use crate::Lines;
 use crate::text;
-use block::SLOTS;
-use interpret::MADE_OFFSET;
-use interpret::PART_SIZE;
-use interpret::RECORD_SIZE;
+use setup::SLOTS;
 ghost use mathlib.Core.Path.{_≡_};
 ghost use Prim.Native.Nat.{_+_, _≤_, _<_};
 ghost use lib.ListN.{length};
 ghost use Rattle.base.specs.Bytes.{splice};
-ghost use Rattle.block.specs.Limits.{slotCount};
 ghost use Rattle.sha256.specs.Sha256.{sha256};
 ghost use Rattle.table.specs.View.{maxPlaces};
-ghost use Rattle.interpret.specs.Buffer.{bufferSize};
+ghost use Rattle.records.specs.Layout.{bufferSize};
 ghost use Rattle.report.specs.Text.{deliveryText};
-ghost use Rattle.report.specs.Listing.{deliveredIn, deliveryLines, siteArrived, arrivalLines};
+ghost use Rattle.report.specs.Listing.{deliveryLines, siteArrived, arrivalLines};
 ghost use Rattle.report.specs.Framing.{lineSize, linesOf};
-
-// The number delivered in the block of a place, 0 if there is none.
-fn delivered(records: &[u16], place: usize, slot: usize) -> u16
-    requires { ⌜ (length (now records) ≡ bufferSize) × (place < maxPlaces) × (slot < slotCount) ⌝ }
-    ensures { λ r. ⌜ r ≡ deliveredIn (now (records .entry)) place slot ⌝ }
-{
-    records[PART_SIZE * place + RECORD_SIZE * slot + MADE_OFFSET + 3]
-}
 
 // The line of a delivery, none where no number was delivered.
 fn put_delivery(out: &mut [u8], at: usize, d: Delivery) -> usize
@@ -58,7 +46,7 @@ fn delivery_lines(records: &[u16], arrival: u64, place: usize, site: u8, sequenc
     let mut length = 0;
     let mut slot = 0;
     while slot < SLOTS {
-        let number = delivered(records, place, slot);
+        let number = records::delivered_in(records, place, slot);
         let d = Delivery {
             arrival,
             place,

@@ -1,16 +1,17 @@
 // The listing of a campaign, one step at a time. The input is a setup and then arrivals; a state says what is expected next, and `wanted`
 // how many bytes that takes. Promises: `step` does and writes what specs/Framing.antt says, for any state, table, record buffer and bytes;
 // the steps' lines, joined, are the listing of the whole input, and `gather` makes the steps that are due on the bytes that came: no byte is
-// lost or used twice, and the lines stand in their order, in however many parts the input comes (specs/Promises.antt); and two listings of
-// one setup never show two numbers for a slot while at most f sites forked (specs/Agreed.antt). Assumes nothing.
+// lost or used twice, and the lines stand in their order, in however many parts the input comes (specs/Promises.antt); no interpretation is
+// refused, and what a listing shows is delivered in the ledger of its calls (specs/Shown.antt); and the deliveries' lines of its text are what
+// it shows (specs/Lines.antt). Assumes nothing.
 mod arrival;
 mod framing;
 mod gathering;
 mod text;
 
 use block::MAX_BLOCK_SIZE;
-use block::SLOTS;
 pub use gathering::gather;
+use setup::SLOTS;
 ghost use mathlib.Core.Path.{_≡_};
 ghost use Prim.Native.Nat.{_≤_};
 ghost use Rattle.sha256.specs.Sha256.{sha256};

@@ -1,23 +1,26 @@
 -- Each refusal of a retiring comes under its cause and under no other, and there is none where place 0 may be retired. Assumes nothing.
 use mathlib.Core.Path.{_≡_, refl}
 use mathlib.Core.Bool.{true, false, _&&_}
-use mathlib.Core.Logic.{_↔_, Iff·trans}
-use mathlib.Core.List.{List}
+use mathlib.Core.Logic.{_↔_, Iff·trans, Iff·and}
+use mathlib.Core.List.{List, []}
 use Prim.Native.Nat.{ℕ, _<_}
 use native.Mathlib.Omega.{arith}
 use lib.Dec.{eqb, ltb}
 use lib.ListN.{length, drop}
 use borrow.Author.Tests.{eqb-true, eq-eqb, lt-ltb, ltb-true}
 use Rattle.base.specs.Search.{anyBelow}
+use Rattle.base.specs.List.{someIn}
 use Rattle.base.specs.Bytes.{Bytes}
-use Rattle.base.proofs.Tests.{by-test, true-not-false, not-true-false, and-left, and-right}
+use Rattle.base.proofs.Tests.{by-test, and-left, and-right}
 use Rattle.base.proofs.Search.{any-true, any-true-at, any-false}
+use Rattle.answer.specs.Checks.{Check}
+use Rattle.answer.specs.Promises.{elsewhere, different, Decided}
+use Rattle.answer.proofs.Checks.{valuedOnly, no-value, missed}
+use Rattle.answer.proofs.Promises.{decided}
 use Rattle.table.specs.Layout.{countOf, siteAt, sequenceAt, markAt, rowAt, viewOf}
 use Rattle.table.specs.Form.{inForm}
-use Rattle.table.specs.Checks.{Check}
-use Rattle.table.proofs.Checks.{none-refused, past-check, at-check, elsewhere, never-answered, value-beside, and-then}
 use Rattle.interpret.specs.Promises.{Whole}
-use Rattle.interpret.proofs.FirstChecks.{past-thirteen, two, twelve, thirteen}
+use Rattle.interpret.proofs.FirstChecks.{held, two, twelve, thirteen}
 use Rattle.retire.specs.Retiring.{waitsForFirst, followsFirst, firstInterpreted, referrersInterpreted, siteGoesOn, retirable, retiringChecks, retiring}
 use Rattle.retire.specs.Promises.{Follows, Retirable, Causes}
 use Rattle.retire.proofs.Retired.{first-marked, waits-none}
@@ -52,22 +55,27 @@ module _ (t : Bytes) where
   )
 
 module _ (t : Bytes) (buffer : List ℕ) where
+  abbrev checks : List Check
+  checks = retiringChecks (inForm t) (viewOf t) (length buffer)
+
+  -- those after the first three
   abbrev rest : List Check
-  rest = drop 3 (retiringChecks (inForm t) (viewOf t) (length buffer))
+  rest = drop 3 checks
+
+  told : Decided (retiring t buffer) checks 0
+  unfolding retiring different elsewhere
+  told = decided checks 0 refl
 
   pub causes : Causes t buffer
-  unfolding retiring elsewhere
+  unfolding retiring valuedOnly someIn
   causes =
       record {
-        two = two t buffer 0 rest refl;
-        twelve = twelve t buffer 0 rest refl;
-        thirteen = Iff·trans (thirteen t buffer 0 rest refl) (λ p. (p .0, omega (arith, p .1)), λ p. (p .0, omega (arith, p .1)));
-        twentyNine = and-then (past-thirteen t buffer 0 rest 29 (λ e. omega arith) (λ e. omega arith) (λ e. omega arith))
-            (Iff·trans (at-check _ _ _ (never-answered 29 _ _ refl))
-            (λ e r. true-not-false (retirable-is t .1 r) e, λ n. not-true-false _ (λ y. n (retirable-is t .0 y))));
-        none = and-then (past-thirteen t buffer 0 rest 0 (λ e. omega arith) (λ e. omega arith) (λ e. omega arith))
-            (Iff·trans (past-check _ _ _ 0 (λ _ q. omega arith)) (λ p. retirable-is t .0 (p .0), λ r. (retirable-is t .1 r, none-refused 0)));
-        noValue = value-beside (retiring t buffer .refusal) 0 _ 0 (λ _ _. refl, (λ _ _. refl, (λ _ _. refl, (λ _ _. refl, λ _. refl)))) refl;
+        two = two t buffer 0 rest told;
+        twelve = twelve t buffer 0 rest told;
+        thirteen = Iff·trans (thirteen t buffer 0 rest told) (λ p. (p .0, omega (arith, p .1)), λ p. (p .0, omega (arith, p .1)));
+        twentyNine = Iff·trans (told .refused 3 (omega arith)) (Iff·and (held t buffer 0 rest) (missed _ _ (retirable-is t)));
+        none = Iff·trans (told .none) (Iff·and (held t buffer 0 rest) (retirable-is t));
+        noValue = no-value [] checks 0 refl refl;
       }
 
   pub goes-on : Whole t buffer → ((i : ℕ) → i < countOf t → markAt t i ≡ 1) → (i : ℕ) → i < countOf t → siteAt t i ≡ siteAt t 0

@@ -3,9 +3,10 @@ use mathlib.Core.Path.{sym, subst}
 use mathlib.Core.List.{List}
 use Prim.Native.Nat.{ℕ}
 use Rattle.table.specs.Layout.{setupOf, countOf, viewOf}
+use Rattle.table.specs.Writing.{withoutFirst}
 use Rattle.table.specs.Promises.{Shows}
-use Rattle.retire.specs.Retiring.{withoutFirst}
-use Rattle.retire.specs.Promises.{Moved, Promises}
+use Rattle.records.specs.Moving.{Moved}
+use Rattle.retire.specs.Promises.{Promises}
 use Rattle.retire.proofs.Retired.{table-passed, records-passed, shows-left, parts-left, refused, kept, sized}
 use Rattle.retire.proofs.Causes.{causes, goes-on}
 

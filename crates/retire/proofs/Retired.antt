@@ -15,21 +15,24 @@ use Rattle.base.specs.Bytes.{Bytes}
 use Rattle.base.proofs.Tests.{by-test, and-left, and-right, and-not-right, or-cases, or-true}
 use Rattle.base.proofs.Search.{any-false-at}
 use Rattle.base.proofs.Count.{count-first, count-same}
+use Rattle.answer.specs.Promises.{Passed, elsewhere, different}
+use Rattle.answer.proofs.Promises.{all-passed}
 use Rattle.setup.specs.Setup.{Setup}
 use Rattle.table.specs.View.{maxPlaces, Row, interpreted, View}
 use Rattle.table.specs.Layout.{setupOf, countOf, viewOf}
+use Rattle.table.specs.Writing.{movedRow, withoutFirst, moveDown}
 use Rattle.table.specs.Rules.{parentRow, parents, parentRule, parentInForm}
 use Rattle.table.specs.Form.{inForm}
 use Rattle.table.specs.Promises.{Shows}
 use Rattle.table.proofs.Views.{RowForm, row-form, form-row, Held, rule-formed}
 use Rattle.table.proofs.Formed.{Formed, formed-of, shows-formed}
 use Rattle.table.proofs.Canonical.{Canonical}
-use Rattle.table.proofs.Checks.{numbered, AllHold, all-hold}
-use Rattle.interpret.specs.Buffer.{bufferSize}
-use Rattle.retire.specs.Retiring.{waitsForFirst, firstInterpreted, referrersInterpreted, siteGoesOn, retirable, movedRow, withoutFirst, moveDown, movedParts, retiringChecks, retiring, retiredTable, retiredRecords}
-use Rattle.retire.specs.Promises.{Moved}
-use Rattle.retire.proofs.Moving.{count-moved, moved}
-use Rattle.retire.proofs.Lowered.{down-shows, down-canonical}
+use Rattle.table.proofs.Lowered.{down-shows, down-canonical}
+use Rattle.records.specs.Layout.{bufferSize}
+use Rattle.records.specs.Moving.{movedParts, Moved}
+use Rattle.records.proofs.Moving.{moved}
+use Rattle.retire.specs.Retiring.{waitsForFirst, firstInterpreted, referrersInterpreted, siteGoesOn, retirable, retiringChecks, retiring, retiredTable, retiredRecords}
+use Rattle.retire.proofs.Moving.{count-moved}
 
 -- ---- what may be retired
 
@@ -118,18 +121,18 @@ module _ (s : Setup) (v : View) (form : Held s v) (r : retirable v ≡ true) (so
 -- ---- the call
 
 module _ (t : Bytes) (buffer : List ℕ) (e : retiring t buffer .refusal ≡ 0) where
-  pub passes : AllHold (retiringChecks (inForm t) (viewOf t) (length buffer))
-  unfolding retiring numbered
-  passes = all-hold (retiringChecks (inForm t) (viewOf t) (length buffer)) 0 refl e
+  pub passes : Passed (retiringChecks (inForm t) (viewOf t) (length buffer)) 4
+  unfolding retiring different elsewhere
+  passes = all-passed (retiringChecks (inForm t) (viewOf t) (length buffer)) 0 refl e
 
   pub formed : Formed t
-  formed = formed-of t (passes .0)
+  formed = formed-of t (passes .0 .0 .0 .1)
 
   pub some : 0 < countOf t
-  some = ltb-true 0 (countOf t) (passes .1 .1 .0)
+  some = ltb-true 0 (countOf t) (passes .0 .1)
 
   pub may : retirable (viewOf t) ≡ true
-  may = passes .1 .1 .1 .0
+  may = passes .1
 
   pub table-passed : retiredTable t buffer ≡ moveDown t
   unfolding retiredTable
@@ -147,7 +150,7 @@ module _ (t : Bytes) (buffer : List ℕ) (e : retiring t buffer .refusal ≡ 0) 
   form-left = shows-formed (setupOf t) (withoutFirst (viewOf t)) _ shows-left (held-left (setupOf t) (viewOf t) (formed .held) may some)
 
   pub parts-left : Moved buffer (movedParts buffer (countOf t)) (countOf t)
-  parts-left = moved buffer (countOf t) (eqb-true (length buffer) bufferSize (passes .1 .0)) some (formed .held .fits)
+  parts-left = moved buffer (countOf t) (eqb-true (length buffer) bufferSize (passes .0 .0 .1)) some (formed .held .fits)
 
   pub canonical-left : Canonical t → Canonical (moveDown t)
   canonical-left = down-canonical t (formed .size) some (formed .held .fits) (formed .zeros)

@@ -1,138 +1,22 @@
--- What the code's steps make, one law each: rows and parts moved one after the other, and the ways out of the call. Assumes nothing.
-use mathlib.Core.Path.{_≡_, refl, sym, ap, ap₂, _∙_}
-use mathlib.Core.Bool.{Bool, true, false, _&&_}
+-- The ways out of the call, one law each. Assumes nothing.
+use mathlib.Core.Path.{_≡_, refl}
+use mathlib.Core.Bool.{true, false}
 use mathlib.Core.Logic.{_≢_}
-use mathlib.Core.List.{List, [], _∷_, _++_, append-nil}
-use Prim.Native.Nat.{ℕ, suc, _+_, _-_, _*_, _/_, _%_, _^_, _≤_, _<_}
-use native.Mathlib.Numerals.{add-one}
+use mathlib.Core.List.{List}
+use Prim.Native.Nat.{ℕ, suc}
 use native.Mathlib.Omega.{arith}
-use native.Mathlib.Nat.{div-eq-of-lt}
-use lib.Dec.{eqb, ltb}
-use lib.Pow.{pow-mono}
-use lib.ListN.{length, getD, take, drop, set, replicate, length-drop, length-replicate, take-append-drop}
-use lib.Seq.{drop-drop, take-suc, take-suc-set, drop-set-lt, getD-drop, length-take-le, drop-length}
-use borrow.Author.Tests.{eq-eqb, ne-eqb, lt-ltb, ltb-true, ltb-false}
-use Rattle.base.specs.Mask.{maskBelow, bitAt, inMask}
-use Rattle.base.specs.List.{listBelow}
-use Rattle.base.specs.Bytes.{Bytes, joined, splice}
-use Rattle.base.specs.Word.{wordSize, wordBytes}
-use Rattle.base.proofs.Tests.{by-test}
-use Rattle.base.proofs.Mask.{bit-suc}
-use Rattle.base.proofs.Sets.{mask-members, mask-same}
-use Rattle.base.proofs.Parts.{joined-list-more}
-use Rattle.base.proofs.Splice.{drop-splice, splice-append, splice-before}
-use Rattle.block.specs.declared.Answer.{Answer}
-use Rattle.table.specs.View.{maxPlaces}
-use Rattle.table.specs.Layout.{retiredOffset, rowsOffset, referencesOffset, rowSize, rowStart, tableSize, countOf, referencesAt, rowAt, viewOf}
+use lib.Dec.{eqb}
+use lib.ListN.{length}
+use borrow.Author.Tests.{eq-eqb, ne-eqb, lt-ltb}
+use Rattle.base.specs.Bytes.{Bytes}
+use Rattle.answer.specs.declared.Answer.{Answer}
+use Rattle.answer.specs.Checks.{success, refused, answerTo}
+use Rattle.table.specs.Layout.{countOf, viewOf}
+use Rattle.table.specs.Writing.{moveDown}
 use Rattle.table.specs.Form.{inForm}
-use Rattle.table.specs.Checks.{success, refused, answerTo}
-use Rattle.table.specs.Steps.{LastPlace}
-use Rattle.table.proofs.RowBytes.{rowPart, part-same}
-use Rattle.interpret.specs.Buffer.{partSize, bufferSize}
-use Rattle.retire.specs.Retiring.{retirable, movedRow, movedBytes, movedRows, moveDown, movedParts, retiring, retiredTable, retiredRecords}
-use Rattle.retire.proofs.Lowered.{rows-length}
-
--- ---- a row
-
--- equal rows move to equal bytes
-moved-same : (t u : Bytes) (i : ℕ) → rowPart t i ≡ rowPart u i → movedBytes t i ≡ movedBytes u i
-unfolding movedBytes
-moved-same t u i e =
-    ap₂ (λ (b : Bytes) (m : ℕ). splice b referencesOffset (wordBytes wordSize m)) e
-    (mask-same (movedRow (rowAt t i) .refersTo) (movedRow (rowAt u i) .refersTo) maxPlaces (λ j h. by-test (ltb (suc j) maxPlaces)
-    (λ y. ap (λ (x : Bool). ltb (suc j) maxPlaces && x) (part-same t u i e .refersTo (suc j) (ltb-true (suc j) maxPlaces y)))
-    (λ n. rw n)))
-
--- the mask halved
-half : (m : ℕ) → m < 2 ^ maxPlaces → m / 2 ≡ maskBelow (λ j. ltb (suc j) maxPlaces && inMask m (suc j)) maxPlaces
-half m h =
-    sym (mask-members maxPlaces (m / 2) (omega arith))
-    ∙ mask-same (inMask (m / 2)) (λ j. ltb (suc j) maxPlaces && inMask m (suc j)) maxPlaces (λ j l. bit j)
-  where
-    bit : (j : ℕ) → inMask (m / 2) j ≡ (ltb (suc j) maxPlaces && inMask m (suc j))
-    bit j = ap (λ (x : ℕ). eqb x 1) (sym (bit-suc m j)) ∙ by-test (ltb (suc j) maxPlaces)
-        (λ y. rw y)
-        (λ n. let z : bitAt m (suc j) ≡ 0 = ap (λ (x : ℕ). x % 2) (div-eq-of-lt (omega (arith, h, pow-mono (ltb-false (suc j) maxPlaces n)))) in rw (n, z))
-
-pub moved-is : (t : Bytes) (i references : ℕ) → references ≡ referencesAt t i → references < 2 ^ maxPlaces → (part row₁ w row₂ : Bytes) → part ≡ rowPart t i → length part ≡ rowSize
-    → row₁ ≡ splice (replicate rowSize 0) 0 part → w ≡ wordBytes wordSize (references / 2 ^ 1) → row₂ ≡ splice row₁ referencesOffset w → row₂ ≡ movedBytes t i
-unfolding movedBytes splice
-moved-is t i references e h part row₁ w row₂ p l q u v =
-    let n : 0 + length part ≡ length (replicate {A = ℕ} rowSize 0) = omega (arith, l, length-replicate {A = ℕ} rowSize 0) in
-    let first : row₁ ≡ rowPart t i =
-    q ∙ ap (λ (n : ℕ). part ++ drop n (replicate rowSize 0)) n ∙ ap (λ (x : Bytes). part ++ x) (drop-length (replicate rowSize 0)) ∙ append-nil part ∙ p in
-    let m : references / 2 ^ 1 ≡ maskBelow (movedRow (rowAt t i) .refersTo) maxPlaces =
-    half references h ∙ ap (λ (x : ℕ). maskBelow (λ j. ltb (suc j) maxPlaces && inMask x (suc j)) maxPlaces) e in
-    v ∙ ap₂ (λ (x y : Bytes). splice x referencesOffset y) first (u ∙ ap (wordBytes wordSize) m)
-
--- ---- the rows
-
-module _ (t : Bytes) (size : length t ≡ tableSize) where
-  pub rows-turn : (i : ℕ) → i + 1 < maxPlaces → (t₁ t₂ row : Bytes) → t₁ ≡ splice t rowsOffset (movedRows t i) → row ≡ movedBytes t₁ (i + 1) → t₂ ≡ splice t₁ (rowStart i) row
-      → t₂ ≡ splice t rowsOffset (movedRows t (i + 1))
-  rows-turn i h t₁ t₂ row e q f =
-      let n : length (movedRows t i) ≡ rowSize * i = rows-length t size i (omega arith) in
-      let at : rowStart (i + 1) ≡ rowsOffset + length (movedRows t i) + rowSize = omega arith in
-      let same : rowPart t₁ (i + 1) ≡ rowPart t (i + 1) =
-      ap (λ (x : Bytes). rowPart x (i + 1)) e ∙ ap (λ (m : ℕ). take rowSize (drop m (splice t rowsOffset (movedRows t i)))) at
-      ∙ ap (take rowSize) (drop-splice t rowsOffset (movedRows t i) (omega arith) rowSize) ∙ ap (λ (m : ℕ). take rowSize (drop m t)) (sym at) in
-      let its : row ≡ movedBytes t (suc i) = q ∙ moved-same t₁ t (i + 1) same ∙ ap (movedBytes t) (add-one i) in
-      let start : rowStart i ≡ rowsOffset + length (movedRows t i) = omega arith in
-      f ∙ ap₂ (λ (x : Bytes) (y : Bytes). splice x (rowStart i) y) e its
-      ∙ ap (λ (m : ℕ). splice (splice t rowsOffset (movedRows t i)) m (movedBytes t (suc i))) start
-      ∙ splice-append t rowsOffset (movedRows t i) (omega arith) (movedBytes t (suc i))
-      ∙ ap (splice t rowsOffset) (sym (joined-list-more (λ j. movedBytes t (suc j)) i))
-
-pub none-moved : (t : Bytes) → t ≡ splice t rowsOffset (movedRows t 0)
-unfolding splice joined listBelow
-none-moved t = sym (take-append-drop rowsOffset t)
-
--- ---- the table
-
-pub down-is : (t : Bytes) (left : ℕ) → LastPlace t left → (t₁ t₂ t₃ : Bytes) → t₁ ≡ splice t rowsOffset (movedRows t left) → t₂ ≡ splice t₁ (rowStart left) (replicate rowSize 0)
-    → t₃ ≡ splice t₂ retiredOffset (1 ∷ (left ∷ [])) → t₃ ≡ moveDown t
-unfolding moveDown
-down-is t left l t₁ t₂ t₃ e f g =
-    let n : length (movedRows t left) ≡ rowSize * left = rows-length t (l .size) left (l .few) in
-    let start : rowStart left ≡ rowsOffset + length (movedRows t left) = omega arith in
-    let k : left ≡ countOf t - 1 = omega (arith, l .count) in
-    g ∙ ap (λ (x : Bytes). splice x retiredOffset (1 ∷ (left ∷ [])))
-    (f ∙ ap (λ (x : Bytes). splice x (rowStart left) (replicate rowSize 0)) e
-    ∙ ap (λ (m : ℕ). splice (splice t rowsOffset (movedRows t left)) m (replicate rowSize 0)) start
-    ∙ splice-append t rowsOffset (movedRows t left) (omega (arith, l .size)) (replicate rowSize 0))
-    ∙ splice-before t retiredOffset (1 ∷ (left ∷ [])) (movedRows t left ++ replicate rowSize 0) (omega (arith, l .size))
-    ∙ ap (λ (m : ℕ). splice t retiredOffset (1 ∷ (m ∷ (movedRows t m ++ replicate rowSize 0)))) k
-
--- ---- the parts
-
-module _ (b : List ℕ) (n : ℕ) (fits : n + partSize ≤ length b) where
-  abbrev d : List ℕ
-  d = drop partSize b
-
-  pub part-turn : (r : List ℕ) (i : ℕ) → i < n → length r ≡ length b → take i r ≡ take i d → drop i r ≡ drop i b
-      → (take (i + 1) (set r i (getD r (i + partSize) 0)) ≡ take (i + 1) d) × (drop (i + 1) (set r i (getD r (i + partSize) 0)) ≡ drop (i + 1) b)
-  part-turn r i h l p q =
-      let v : getD r (i + partSize) 0 ≡ getD d i 0 =
-      sym (getD-drop i r partSize 0) ∙ ap (λ (x : List ℕ). getD x partSize 0) q ∙ getD-drop i b partSize 0
-      ∙ ap (λ (m : ℕ). getD b m 0) (swap i) ∙ sym (getD-drop partSize b i 0) in (
-        rw (add-one i) (take-suc-set r i (getD r (i + partSize) 0) (omega arith) ∙ ap₂ (λ (x : List ℕ) (y : ℕ). x ++ (y ∷ [])) p v ∙ sym (take-suc d i 0 (omega (arith, length-drop partSize b)))),
-        rw (add-one i) (drop-set-lt (suc i) r i (getD r (i + partSize) 0) (omega arith) ∙ next r ∙ ap (drop 1) q ∙ sym (next b)),
-      )
-    where
-      swap : (i : ℕ) → i + partSize ≡ partSize + i
-      swap i = omega arith
-
-      next : (x : List ℕ) → drop (suc i) x ≡ drop 1 (drop i x)
-      next x = let e : suc i ≡ i + 1 = omega arith in ap (λ (m : ℕ). drop m x) e ∙ sym (drop-drop 1 i x)
-
-  pub parts-are : (r : List ℕ) → take n r ≡ take n d → drop n r ≡ drop n b → r ≡ splice b 0 (take n d)
-  unfolding splice
-  parts-are r p q =
-      let l : length (take n d) ≡ n = length-take-le n d (omega (arith, length-drop partSize b)) in
-      let m : n ≡ 0 + length (take n d) = omega arith in
-      sym (take-append-drop n r) ∙ ap₂ _++_ p q ∙ ap (λ (k : ℕ). take n d ++ drop k b) m
-
--- ---- the ways out of retiring
+use Rattle.records.specs.Layout.{bufferSize}
+use Rattle.records.specs.Moving.{movedParts}
+use Rattle.retire.specs.Retiring.{retirable, retiring, retiredTable, retiredRecords}
 
 module _ (t : Bytes) (buffer : List ℕ) where
   abbrev pub Out : Answer → Bytes → List ℕ → Type 0
@@ -165,12 +49,6 @@ module _ (t : Bytes) (buffer : List ℕ) where
         unfolding retiring answerTo
         out-passes y = rw (f, eq-eqb (length buffer) bufferSize whole, lt-ltb 0 (countOf t) (omega arith), y)
 
-        parts-moved : (buffer′ : List ℕ) → buffer′ ≡ splice buffer 0 (take (partSize * left) (drop partSize buffer)) → buffer′ ≡ movedParts buffer (countOf t)
-        unfolding movedParts
-        parts-moved buffer′ e =
-            let k : left ≡ countOf t - 1 = omega arith in e ∙ ap (λ (m : ℕ). splice buffer 0 (take (partSize * m) (drop partSize buffer))) k
-
-        pub out0 : retirable (viewOf t) ≡ true → (t′ : Bytes) (buffer′ : List ℕ) → t′ ≡ moveDown t → buffer′ ≡ splice buffer 0 (take (partSize * left) (drop partSize buffer))
-            → Out (success 0) t′ buffer′
+        pub out0 : retirable (viewOf t) ≡ true → (t′ : Bytes) (buffer′ : List ℕ) → t′ ≡ moveDown t → buffer′ ≡ movedParts buffer (countOf t) → Out (success 0) t′ buffer′
         unfolding retiredTable retiredRecords
-        out0 y t′ buffer′ e g = let p = out-passes y in (p, (rw (← p) e, rw (← p) (parts-moved buffer′ g)))
+        out0 y t′ buffer′ e g = let p = out-passes y in (p, (rw (← p) e, rw (← p) g))

@@ -3,15 +3,17 @@ use mathlib.Core.Path.{_≡_}
 use mathlib.Core.Bool.{true, false}
 use mathlib.Core.Logic.{_↔_, _≢_}
 use mathlib.Core.List.{List}
-use Prim.Native.Nat.{ℕ, suc, _-_, _<_}
-use lib.ListN.{length, drop}
+use Prim.Native.Nat.{ℕ, _<_}
+use lib.ListN.{length}
 use Rattle.base.specs.Bytes.{Bytes}
 use Rattle.table.specs.Layout.{setupOf, countOf, siteAt, sequenceAt, markAt, rowAt, viewOf}
+use Rattle.table.specs.Writing.{withoutFirst}
 use Rattle.table.specs.Form.{inForm}
 use Rattle.table.specs.Promises.{Shows}
-use Rattle.interpret.specs.Buffer.{bufferSize, partStart, partOf}
+use Rattle.records.specs.Layout.{bufferSize}
+use Rattle.records.specs.Moving.{Moved}
 use Rattle.interpret.specs.Promises.{Whole, Held}
-use Rattle.retire.specs.Retiring.{withoutFirst, retiring, retiredTable, retiredRecords}
+use Rattle.retire.specs.Retiring.{retiring, retiredTable, retiredRecords}
 
 -- ---- refusals
 
@@ -39,12 +41,6 @@ pub record Causes (t : Bytes) (buffer : List ℕ) : Type 0 where
   pub noValue : retiring t buffer .value ≡ 0
 
 -- ---- what is left
-
--- the parts of the places 1 to k - 1 stand one place lower, and the buffer from place k - 1 on stays
-pub record Moved (buffer buffer′ : List ℕ) (k : ℕ) : Type 0 where
-  pub size : length buffer′ ≡ length buffer
-  pub lower : (i : ℕ) → i < k - 1 → partOf buffer′ i ≡ partOf buffer (suc i)
-  pub rest : drop (partStart (k - 1)) buffer′ ≡ drop (partStart (k - 1)) buffer
 
 pub record Promises : Type 0 where
   pub causes : (t : Bytes) (buffer : List ℕ) → Causes t buffer

@@ -1,21 +1,20 @@
 -- Request Eleven: "Retire place 0 and move every other place and record down by one; the buffer from the new count on stays". The checks are
 -- made over a view, so that a ledger makes the same ones.
 use mathlib.Core.Bool.{Bool, cond, not, _&&_}
-use mathlib.Core.List.{List, [], _∷_, _++_}
-use Prim.Native.Nat.{ℕ, suc, _-_}
+use mathlib.Core.List.{List, [], _∷_}
+use Prim.Native.Nat.{ℕ}
 use lib.Dec.{eqb, ltb}
-use lib.ListN.{length, take, drop, replicate}
+use lib.ListN.{length}
 use Rattle.base.specs.Search.{anyBelow}
-use Rattle.base.specs.Mask.{maskBelow}
-use Rattle.base.specs.List.{listBelow}
-use Rattle.base.specs.Bytes.{Bytes, joined, splice}
-use Rattle.base.specs.Word.{wordSize, wordBytes}
-use Rattle.block.specs.declared.Answer.{Answer}
-use Rattle.table.specs.View.{maxPlaces, Row, interpreted, View}
-use Rattle.table.specs.Layout.{retiredOffset, referencesOffset, rowSize, rowStart, countOf, rowAt, viewOf}
+use Rattle.base.specs.Bytes.{Bytes}
+use Rattle.answer.specs.declared.Answer.{Answer}
+use Rattle.answer.specs.Checks.{Check, check, answerTo}
+use Rattle.table.specs.View.{interpreted, View}
+use Rattle.table.specs.Layout.{countOf, viewOf}
+use Rattle.table.specs.Writing.{moveDown}
 use Rattle.table.specs.Form.{inForm}
-use Rattle.table.specs.Checks.{Check, check, answerTo}
-use Rattle.interpret.specs.Buffer.{partSize, bufferSize, partStart}
+use Rattle.records.specs.Layout.{bufferSize}
+use Rattle.records.specs.Moving.{movedParts}
 
 -- ---- 29: whether place 0 may be retired
 
@@ -41,40 +40,6 @@ siteGoesOn v = anyBelow (followsFirst v) (v .held)
 
 unfoldable pub retirable : View → Bool
 retirable v = firstInterpreted v && (referrersInterpreted v && siteGoesOn v)
-
--- ---- what is left
-
--- a row that moved down with all places: "References to it vanish from the sets", the others go with their places, which are below 64
-abbrev pub movedRow : Row → Row
-movedRow r =
-    record {
-      digest = r .digest;
-      site = r .site;
-      sequence = r .sequence;
-      refersTo = λ j. ltb (suc j) maxPlaces && r .refersTo (suc j);
-      request = r .request;
-      mark = r .mark;
-    }
-
--- "A table keeps whether it has retired anything"
-abbrev pub withoutFirst : View → View
-withoutFirst v = record { retired = 1; held = v .held - 1; row = λ i. movedRow (v .row (suc i)) }
-
--- the bytes of such a row: the places referred to changed, all others as they are
-unfoldable pub movedBytes : Bytes → ℕ → Bytes
-movedBytes t i = splice (take rowSize (drop (rowStart i) t)) referencesOffset (wordBytes wordSize (maskBelow (movedRow (rowAt t i) .refersTo) maxPlaces))
-
--- those of the places 1 to k
-abbrev pub movedRows : Bytes → ℕ → Bytes
-movedRows t k = joined (listBelow (λ i. movedBytes t (suc i)) k)
-
--- the table that has retired something, with the count one less, the other rows one place lower, and zeros at the old last place
-unfoldable pub moveDown : Bytes → Bytes
-moveDown t = splice t retiredOffset (1 ∷ ((countOf t - 1) ∷ (movedRows t (countOf t - 1) ++ replicate rowSize 0)))
-
--- the parts of the places 1 to k - 1, each one place lower; "the buffer from the new count on stays"
-unfoldable pub movedParts : List ℕ → ℕ → List ℕ
-movedParts buffer k = splice buffer 0 (take (partStart (k - 1)) (drop partSize buffer))
 
 -- ---- the call
 

@@ -10,8 +10,7 @@ use lib.ListN.{length}
 use borrow.Author.Tests.{eqb-true, leb-true, ltb-true}
 use Rattle.base.proofs.Tests.{and-left, and-right, or-cases}
 use Rattle.base.proofs.Search.{all-true-at}
-use Rattle.block.specs.Limits.{slotCount}
-use Rattle.setup.specs.Setup.{maxSites, Setup, ownerOf, lawfulSites, ownersBelow, lawful, faults, echoQuorum, readyAmplification, readyQuorum}
+use Rattle.setup.specs.Setup.{maxSites, Setup, ownerOf, lawfulSites, ownersBelow, lawful, faults, echoQuorum, readyAmplification, readyQuorum, slotCount}
 
 -- a test that passes at each lawful count of sites
 at-each : (test : ℕ → Bool) → (test 1 ≡ true) → (test 4 ≡ true) → (test 7 ≡ true) → (test 10 ≡ true) → (test 13 ≡ true) → (test 16 ≡ true)

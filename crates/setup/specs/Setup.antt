@@ -6,7 +6,6 @@ use Prim.Native.Nat.{ℕ, _+_, _-_, _*_, _/_}
 use lib.Dec.{eqb, ltb}
 use lib.ListN.{length, getD}
 use Rattle.base.specs.Search.{allBelow}
-use Rattle.block.specs.Limits.{slotCount}
 
 -- a site count n and eight owners, one for each slot
 pub record Setup : Type 0 where
@@ -15,6 +14,13 @@ pub record Setup : Type 0 where
 
 abbrev pub ownerOf : Setup → ℕ → ℕ
 ownerOf s slot = getD (s .owners) slot 0
+
+-- slots are 0 to 7
+abbrev pub slotCount : ℕ
+slotCount = 8
+
+abbrev pub maxSlot : ℕ
+maxSlot = slotCount - 1
 
 -- no setup has more sites
 abbrev pub maxSites : ℕ

@@ -7,6 +7,11 @@ ghost use Rattle.setup.specs.Setup.{lawfulSites, ownersBelow, lawful, fa
 // No setup has more sites.
 pub const MAX_SITES: usize = 16;
 
+// Every setup has so many slots.
+pub const SLOTS: usize = 8;
+
+pub const MAX_SLOT: u8 = (SLOTS - 1) as u8;
+
 // Whether there may be so many sites.
 fn lawful_sites(sites: u8) -> bool
     ensures { λ r. ⌜ r ≡ lawfulSites sites ⌝ }
@@ -38,7 +43,7 @@ pub fn lawful(sites: u8, owners: &[u8]) -> bool
     if !lawful_sites(sites) {
         return false;
     }
-    if owners.len() != block::SLOTS {
+    if owners.len() != SLOTS {
         return false;
     }
     owners_below(owners, sites)

@@ -6,12 +6,12 @@ use mathlib.Core.Path.{_≡_, refl, ap, ap₂, sym, _∙_}
 use mathlib.Core.List.{List, _∷_, _++_, append-assoc}
 use lib.ListN.{length, take, drop, replicate, length-append, length-drop, length-replicate, replicate-append-replicate}
 use lib.Seq.{take-at, take-append-add, drop-append-le}
+use Rattle.base.specs.Bytes.{splice}
+use Rattle.base.proofs.Splice.{take-splice, splice-append}
 use Rattle.sha256.specs.declared.rounds.State.{State}
 use Rattle.sha256.specs.Sha256.{bytesOf, zeros, pad, H0, hash, bytes, sha256}
-use Rattle.base.specs.Bytes.{splice}
 use Rattle.sha256.specs.Steps.{tailBlocks}
 use Rattle.sha256.proofs.Hashing.{hash-split, hash-take}
-use Rattle.base.proofs.Splice.{take-splice, splice-append}
 
 abbrev pub zs : ℕ → List ℕ
 zs n = replicate n 0

@@ -2,8 +2,8 @@
 ghost use mathlib.Core.Path.{_≡_};
 ghost use Prim.Native.Nat.{_+_, _*_, _%_, _^_, _≤_};
 ghost use lib.ListN.{length};
-ghost use Rattle.sha256.specs.Sha256.{Ch, Maj, Σ0, Σ1, σ0, σ1, bytesOf, word};
 ghost use Rattle.base.specs.Bytes.{splice};
+ghost use Rattle.sha256.specs.Sha256.{Ch, Maj, Σ0, Σ1, σ0, σ1, bytesOf, word};
 
 pub fn ch(x: u32, y: u32, z: u32) -> u32
     ensures { λ r. ⌜ r ≡ Ch x y z ⌝ }

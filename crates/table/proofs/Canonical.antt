@@ -20,8 +20,8 @@ use Rattle.base.proofs.Bytes.{zeros-replicate}
 use Rattle.base.proofs.List.{list-same}
 use Rattle.base.proofs.Parts.{part-and-rest, parts-list, joined-parts}
 use Rattle.base.proofs.Splice.{splice-part-in}
-use Rattle.block.specs.Limits.{referenceSize, slotCount}
-use Rattle.setup.specs.Setup.{Setup}
+use Rattle.setup.specs.Setup.{Setup, slotCount}
+use Rattle.block.specs.Limits.{referenceSize}
 use Rattle.table.specs.View.{maxPlaces, Row, View, markedIf, SameBelow}
 use Rattle.table.specs.Layout.{ownersOffset, retiredOffset, countOffset, rowsOffset, markOffset, rowSize, rowStart, tableSize, setupOf, retiredOf, countOf, rowAt, viewOf, rowBytes, layout, withRow, withMark}
 use Rattle.table.specs.Form.{inForm}

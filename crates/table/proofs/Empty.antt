@@ -9,8 +9,7 @@ use lib.Seq.{take-at, getD-at, drop-append-add, getD-append-add}
 use Rattle.base.specs.Bytes.{Bytes, allZero, joined}
 use Rattle.base.specs.List.{listBelow}
 use Rattle.base.proofs.Bytes.{replicate-zeros}
-use Rattle.block.specs.Limits.{slotCount}
-use Rattle.setup.specs.Setup.{Setup, lawful}
+use Rattle.setup.specs.Setup.{Setup, lawful, slotCount}
 use Rattle.setup.proofs.Thresholds.{eight-owners}
 use Rattle.table.specs.View.{maxPlaces}
 use Rattle.table.specs.Layout.{ownersOffset, retiredOffset, countOffset, rowsOffset, rowSize, rowStart, setupOf, retiredOf, countOf, layout}

@@ -1,19 +1,25 @@
 -- A fresh table is refused under its cause and under no other; else it shows its setup and no block. Assumes nothing.
 use mathlib.Core.Path.{_≡_, refl, sym, ap, subst}
 use mathlib.Core.Bool.{true, false}
-use mathlib.Core.Logic.{_↔_, Iff·trans}
+use mathlib.Core.Logic.{_↔_, Iff·rfl, Iff·trans, Iff·and}
+use mathlib.Core.List.{List, [], _∷_}
 use Prim.Native.Nat.{ℕ}
 use native.Mathlib.Omega.{arith}
+use lib.Dec.{eqb}
 use lib.ListN.{length, replicate}
 use borrow.Author.Tests.{eqb-true, eqb-false, eq-eqb, ne-eqb}
+use Rattle.base.specs.List.{someIn}
 use Rattle.base.specs.Bytes.{Bytes}
 use Rattle.base.proofs.Tests.{by-test}
+use Rattle.answer.specs.Promises.{elsewhere, different, Decided}
+use Rattle.answer.specs.Checks.{Check, check}
+use Rattle.answer.proofs.Checks.{valuedOnly, no-value}
+use Rattle.answer.proofs.Promises.{first-refused, second-refused, decided}
 use Rattle.setup.specs.Setup.{Setup, lawful}
 use Rattle.table.specs.Layout.{tableSize}
 use Rattle.table.specs.Fresh.{emptyTable, freshTable, freshAnswer, freshIn}
 use Rattle.table.specs.Promises.{Empty, FreshCauses, FreshInCauses}
 use Rattle.table.specs.declared.FreshTable.{FreshTable}
-use Rattle.table.proofs.Checks.{none-refused, past-check, at-check, elsewhere, never-answered, and-then, value-beside}
 use Rattle.table.proofs.Formed.{in-formed}
 use Rattle.table.proofs.Empty.{empty-shows, empty-formed}
 
@@ -52,19 +58,24 @@ module _ (s : Setup) where
     abbrev number : ℕ
     number = freshAnswer s t .refusal
 
+    abbrev checks : List Check
+    checks = check 1 (lawful s) 0 ∷ check 2 (eqb (length t) tableSize) 0 ∷ []
+
+    told : Decided (freshAnswer s t) checks 0
+    unfolding freshAnswer different elsewhere
+    told = decided checks 0 refl
+
     none : (number ≡ 0) ↔ ((lawful s ≡ true) × (length t ≡ tableSize))
-    unfolding freshAnswer
-    none = and-then (past-check _ _ _ 0 (λ _ q. omega arith))
-        (Iff·trans (past-check _ _ _ 0 (λ _ q. omega arith)) (λ p. eqb-true _ _ (p .0), λ e. (eq-eqb _ _ e, none-refused 0)))
+    none = Iff·trans (told .none) (Iff·and (λ p. p .1, λ e. (tt, e)) (eqb-true _ _, eq-eqb _ _))
 
     pub fresh-in : FreshInCauses s t
-    unfolding freshAnswer freshIn elsewhere
+    unfolding freshAnswer freshIn valuedOnly someIn
     fresh-in =
         record {
-          one = at-check _ _ _ (never-answered 1 _ _ refl);
-          two = and-then (past-check _ _ _ 2 (λ _ q. omega arith)) (Iff·trans (at-check _ _ _ (never-answered 2 _ _ refl)) (eqb-false _ _, ne-eqb _ _));
+          one = first-refused told;
+          two = Iff·trans (second-refused told) (Iff·and Iff·rfl (eqb-false _ _, ne-eqb _ _));
           none = none;
-          noValue = value-beside number 0 _ _ (λ _ _. refl, (λ _ _. refl, λ _. refl)) refl;
+          noValue = no-value [] checks 0 refl refl;
           refused = λ n. rw (ne-eqb number 0 n);
           shown = λ e. rw (eq-eqb number 0 e) (empty (none .0 e .0));
         }

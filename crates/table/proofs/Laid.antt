@@ -17,7 +17,8 @@ use Rattle.base.proofs.Sets.{mask-members}
 use Rattle.base.proofs.Parts.{part-and-rest, parts-list, joined-parts}
 use Rattle.base.proofs.Number.{part-of-number}
 use Rattle.base.proofs.Word.{word-below, bytes-of-word}
-use Rattle.block.specs.Limits.{referenceSize, slotCount}
+use Rattle.setup.specs.Setup.{slotCount}
+use Rattle.block.specs.Limits.{referenceSize}
 use Rattle.table.specs.View.{maxPlaces}
 use Rattle.table.specs.Layout.{siteOffset, sequenceOffset, referencesOffset, requestsOffset, markOffset, rowSize, rowStart}
 use Rattle.table.specs.Layout.{setupOf, rowAt, viewOf, rowBytes, layout}

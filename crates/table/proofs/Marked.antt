@@ -15,7 +15,8 @@ use Rattle.base.specs.Number.{number, numberAt}
 use Rattle.base.proofs.Tests.{by-test, true-not-false}
 use Rattle.base.proofs.Count.{count-same}
 use Rattle.base.proofs.Splice.{drop-splice, splice-low, splice-in, splice-part-low, length-splice}
-use Rattle.block.specs.Limits.{referenceSize, slotCount}
+use Rattle.setup.specs.Setup.{slotCount}
+use Rattle.block.specs.Limits.{referenceSize}
 use Rattle.table.specs.View.{maxPlaces, Row, interpreted, SameRow, markedIf, View}
 use Rattle.table.specs.Layout.{ownersOffset, countOffset, siteOffset, sequenceOffset, referencesOffset, requestsOffset, markOffset, rowSize, rowStart, tableSize, setupOf, countOf, rowAt, viewOf, withMark, retiredOffset, retiredOf}
 use Rattle.table.specs.Rules.{parents, parentRule, parentInForm}

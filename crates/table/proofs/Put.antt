@@ -11,7 +11,8 @@ use lib.Seq.{drop-drop}
 use Rattle.base.specs.Bytes.{Bytes, allZero, splice}
 use Rattle.base.proofs.Bytes.{zeros-drop}
 use Rattle.base.proofs.Splice.{drop-splice, splice-low, splice-in, splice-part-low, splice-part-in, length-splice}
-use Rattle.block.specs.Limits.{referenceSize, slotCount}
+use Rattle.setup.specs.Setup.{slotCount}
+use Rattle.block.specs.Limits.{referenceSize}
 use Rattle.table.specs.View.{maxPlaces, Row, SameRow}
 use Rattle.table.specs.Layout.{ownersOffset, retiredOffset, countOffset, rowsOffset, rowSize, rowStart, tableSize, setupOf, retiredOf, countOf, rowAt, viewOf, rowBytes, withRow}
 use Rattle.table.specs.Rules.{rowInForm}

@@ -19,7 +19,8 @@ use Rattle.base.proofs.Sets.{mask-has, mask-same}
 use Rattle.base.proofs.Parts.{part-of-front, EachSize, parts-at, parts-joined, length-joined-list}
 use Rattle.base.proofs.Number.{number-pair, number-of-part}
 use Rattle.base.proofs.Word.{length-word, word-of-bytes}
-use Rattle.block.specs.Limits.{referenceSize, slotCount}
+use Rattle.setup.specs.Setup.{slotCount}
+use Rattle.block.specs.Limits.{referenceSize}
 use Rattle.table.specs.View.{maxPlaces, Row, SameRow}
 use Rattle.table.specs.Layout.{siteOffset, sequenceOffset, referencesOffset, requestsOffset, markOffset, rowSize, rowStart, rowAt, rowBytes}
 use Rattle.table.proofs.Views.{row-sym, row-trans}

@@ -15,8 +15,8 @@ use Rattle.base.proofs.Tests.{by-test, true-not-false, not-true-false, and-left
 use Rattle.base.proofs.Search.{first-same, any-same, all-same, any-false, any-false-at, all-true, all-true-at}
 use Rattle.base.proofs.Count.{count-same}
 use Rattle.base.proofs.Bytes.{other-same, same-other}
-use Rattle.block.specs.Limits.{maxReferences}
 use Rattle.setup.specs.Setup.{Setup, lawful}
+use Rattle.block.specs.Limits.{maxReferences}
 use Rattle.table.specs.View.{maxPlaces, Row, interpreted, View, SameRow, SameBelow}
 use Rattle.table.specs.Rules.{hasDigest, placeOf, parentRow, parents, parentRule, parentInForm, refersUninterpreted, rowInForm, heldInForm}
 

@@ -4,11 +4,11 @@ use mathlib.Core.List.{[], _∷_}
 use lib.Dec.{eqb}
 use lib.ListN.{length, replicate}
 use Rattle.base.specs.Bytes.{Bytes}
-use Rattle.block.specs.declared.Answer.{Answer}
+use Rattle.answer.specs.declared.Answer.{Answer}
+use Rattle.answer.specs.Checks.{check, answerTo}
 use Rattle.setup.specs.Setup.{Setup, lawful}
 use Rattle.table.specs.View.{View}
 use Rattle.table.specs.Layout.{tableSize, rowAt, layout}
-use Rattle.table.specs.Checks.{check, answerTo}
 use Rattle.table.specs.declared.FreshTable.{FreshTable}
 
 -- nothing is held

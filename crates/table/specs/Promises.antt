@@ -6,8 +6,8 @@ use Prim.Native.Nat.{ℕ, suc, _≤_, _<_}
 use lib.Dec.{eqb}
 use lib.ListN.{length, drop, replicate}
 use Rattle.base.specs.Bytes.{Bytes, AllBytes, allZero}
-use Rattle.block.specs.Limits.{referenceSize}
 use Rattle.setup.specs.Setup.{Setup, lawful}
+use Rattle.block.specs.Limits.{referenceSize}
 use Rattle.table.specs.View.{maxPlaces, Row, SameRow, markedIf, View, SameBelow}
 use Rattle.table.specs.Layout.{rowStart, tableSize, setupOf, retiredOf, countOf, rowAt, viewOf, layout, withRow, withMark}
 use Rattle.table.specs.Form.{inForm}

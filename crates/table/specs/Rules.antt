@@ -5,8 +5,8 @@ use lib.Dec.{eqb, leb, ltb}
 use Rattle.base.specs.Search.{firstBelow, anyBelow, allBelow}
 use Rattle.base.specs.Count.{countBelow}
 use Rattle.base.specs.Bytes.{Bytes, sameBytes}
-use Rattle.block.specs.Limits.{maxReferences}
 use Rattle.setup.specs.Setup.{Setup, lawful}
+use Rattle.block.specs.Limits.{maxReferences}
 use Rattle.table.specs.View.{maxPlaces, Row, interpreted, View}
 
 -- place i holds the block of this digest

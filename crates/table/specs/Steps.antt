@@ -1,18 +1,21 @@
 -- What the contracts of inner functions cite: what an entry point has tested. Nothing here need be believed.
 use mathlib.Core.Path.{_≡_}
 use mathlib.Core.Bool.{Bool, true, cond, not, _&&_}
-use mathlib.Core.List.{List, []}
+use mathlib.Core.List.{List, [], _++_}
 use Prim.Native.Nat.{ℕ, zero, suc, _+_, _/_, _%_, _^_, _≤_, _<_}
 use lib.Dec.{eqb}
-use lib.ListN.{length, getD}
-use Rattle.base.specs.Bytes.{Bytes}
+use lib.ListN.{length, getD, take, drop}
+use Rattle.base.specs.Bytes.{Bytes, joined}
 use Rattle.base.specs.Search.{anyBelow}
 use Rattle.base.specs.List.{listBelow}
 use Rattle.base.specs.Mask.{maskBelow, inMask}
+use Rattle.base.specs.Number.{pair}
+use Rattle.base.specs.Word.{wordSize, wordBytes}
 use Rattle.base.specs.Steps.{printCount, printsBelow}
-use Rattle.setup.specs.Setup.{maxSites}
+use Rattle.setup.specs.Setup.{maxSites, slotCount}
+use Rattle.block.specs.Layout.{requestsIn, countedRequest}
 use Rattle.table.specs.View.{maxPlaces, Row}
-use Rattle.table.specs.Layout.{tableSize, rowStart, setupOf, countOf, digestAt, siteAt, sequenceAt, markAt, rowAt, viewOf}
+use Rattle.table.specs.Layout.{referencesOffset, requestsOffset, tableSize, rowStart, setupOf, countOf, digestAt, siteAt, sequenceAt, markAt, rowAt, viewOf}
 use Rattle.table.specs.Rules.{isParent, refersUninterpreted}
 use Rattle.table.specs.Form.{inForm}
 
@@ -48,6 +51,26 @@ rowWith t i references =
       request = rowAt t i .request;
       mark = rowAt t i .mark;
     }
+
+-- the two bytes of each slot's counted request
+abbrev pub requestBytes : Bytes → Bytes
+requestBytes list = joined (listBelow (λ slot. pair (countedRequest (requestsIn list) slot)) slotCount)
+
+-- a row with the places referred to as a mask, uninterpreted
+abbrev pub newRow : Bytes → ℕ → ℕ → ℕ → Bytes → Row
+newRow d site sequence references requests =
+    record {
+      digest = d;
+      site = site;
+      sequence = sequence;
+      refersTo = inMask references;
+      request = countedRequest (requestsIn requests);
+      mark = 0;
+    }
+
+-- the bytes of a row with these references in place of its own
+abbrev pub withReferences : Bytes → ℕ → Bytes
+withReferences row references = take referencesOffset row ++ (wordBytes wordSize references ++ drop requestsOffset row)
 
 -- for a block of this site and sequence number, that at place j is a parent
 abbrev pub parentAt : Bytes → ℕ → ℕ → ℕ → Bool

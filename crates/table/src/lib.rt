@@ -1,17 +1,20 @@
-// A site's table: the setup and what is held of each block, as bytes that the caller lends. Promises: a lent buffer of any length and
-// content is judged as specs/Form.antt says, a fresh table is the layout of its setup, and a table in form is the layout of its own
-// contents (proofs/Laid.antt). Assumes nothing of the bytes.
+// A site's table: the setup and what is held of each block, as bytes that the caller lends. No other library computes an index into them.
+// Promises: a lent buffer of any length and content is judged as specs/Form.antt says, a fresh table is the layout of its setup, a table in
+// form is the layout of its own contents (proofs/Laid.antt), and what is written is what specs/Layout.antt and specs/Writing.antt say. Assumes
+// nothing of the bytes.
 mod form;
 pub mod index;
+pub mod moving;
 pub mod rows;
 pub mod rules;
+pub mod writing;
 
-use block::Answer;
+use answer::Answer;
 use block::REFERENCE_SIZE;
-use block::SLOTS;
+use setup::SLOTS;
 ghost use mathlib.Core.Path.{_≡_};
 ghost use lib.ListN.{length, replicate};
-ghost use Rattle.block.specs.Limits.{slotCount};
+ghost use Rattle.setup.specs.Setup.{slotCount};
 ghost use Rattle.table.specs.Layout.{tableSize};
 ghost use Rattle.table.specs.Form.{inForm};
 ghost use Rattle.table.specs.Fresh.{emptyTable, freshTable, freshAnswer, freshIn};
@@ -19,25 +22,25 @@ ghost use Rattle.table.specs.Fresh.{emptyTable, freshTable, freshAnswer,
 pub const MAX_PLACES: usize = 64;
 
 // Where each field stands: of the table, then of a row, which begins with the digest.
-pub const OWNERS_OFFSET: usize = 1;
+const OWNERS_OFFSET: usize = 1;
 
-pub const RETIRED_OFFSET: usize = OWNERS_OFFSET + SLOTS;
+const RETIRED_OFFSET: usize = OWNERS_OFFSET + SLOTS;
 
-pub const COUNT_OFFSET: usize = RETIRED_OFFSET + 1;
+const COUNT_OFFSET: usize = RETIRED_OFFSET + 1;
 
-pub const ROWS_OFFSET: usize = COUNT_OFFSET + 1;
+const ROWS_OFFSET: usize = COUNT_OFFSET + 1;
 
-pub const SITE_OFFSET: usize = REFERENCE_SIZE;
+const SITE_OFFSET: usize = REFERENCE_SIZE;
 
-pub const SEQUENCE_OFFSET: usize = SITE_OFFSET + 1;
+const SEQUENCE_OFFSET: usize = SITE_OFFSET + 1;
 
-pub const REFERENCES_OFFSET: usize = SEQUENCE_OFFSET + 2;
+const REFERENCES_OFFSET: usize = SEQUENCE_OFFSET + 2;
 
-pub const REQUESTS_OFFSET: usize = REFERENCES_OFFSET + base::WORD_SIZE;
+const REQUESTS_OFFSET: usize = REFERENCES_OFFSET + base::WORD_SIZE;
 
-pub const MARK_OFFSET: usize = REQUESTS_OFFSET + 2 * SLOTS;
+const MARK_OFFSET: usize = REQUESTS_OFFSET + 2 * SLOTS;
 
-pub const ROW_SIZE: usize = MARK_OFFSET + 1;
+const ROW_SIZE: usize = MARK_OFFSET + 1;
 
 pub const TABLE_SIZE: usize = ROWS_OFFSET + ROW_SIZE * MAX_PLACES;
 
@@ -74,23 +77,14 @@ pub fn fresh_in(sites: u8, owners: &[u8], table: &mut [u8]) -> Answer
     ensures { λ _. ⌜ now (table .exit) ≡ freshIn (record { sites = sites; owners = now (owners .entry) }) (now (table .entry)) ⌝ }
 {
     if !setup::lawful(sites, owners) {
-        return Answer {
-            refusal: 1,
-            value: 0,
-        };
+        return answer::refused(1, 0);
     }
     if table.len() != TABLE_SIZE {
-        return Answer {
-            refusal: 2,
-            value: 0,
-        };
+        return answer::refused(2, 0);
     }
     base::clear(table);
     put_setup(sites, owners, table);
-    Answer {
-        refusal: 0,
-        value: 0,
-    }
+    answer::success(0)
 }
 
 // Whether a lent buffer is a table in form.

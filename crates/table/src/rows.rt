@@ -12,8 +12,7 @@ use crate::SITE_OFFSET;
 ghost use mathlib.Core.Path.{_≡_};
 ghost use Prim.Native.Nat.{_<_};
 ghost use lib.ListN.{length};
-ghost use Rattle.block.specs.Limits.{slotCount};
-ghost use Rattle.setup.specs.Setup.{ownerOf};
+ghost use Rattle.setup.specs.Setup.{ownerOf, slotCount};
 ghost use Rattle.table.specs.Layout.{tableSize, setupOf, retiredOf, countOf, digestAt, siteAt, sequenceAt, referencesAt, requestAt, markAt};
 ghost use Rattle.table.specs.Steps.{Place};
 
@@ -29,6 +28,13 @@ pub fn owner_of(table: &[u8], slot: usize) -> u8
     ensures { λ r. ⌜ r ≡ ownerOf (setupOf (now (table .entry))) slot ⌝ }
 {
     table[OWNERS_OFFSET + slot]
+}
+
+pub fn owners_of(table: &[u8]) -> &[u8]
+    requires { ⌜ length (now table) ≡ tableSize ⌝ }
+    ensures { λ r. ⌜ now r ≡ setupOf (now (table .entry)) .owners ⌝ }
+{
+    &table[OWNERS_OFFSET..RETIRED_OFFSET]
 }
 
 // 1 if something has been retired.

@@ -1,6 +1,5 @@
--- The laws of taking back. WithoutRow is about the table's bytes without its last row, TakenBack about the call, Causes about its refusals, Undoing
--- about admissions that are taken back; Promises gathers them. Turns is about the code. Other crates' proofs cite them.
-pub mod WithoutRow
+-- The laws of taking back. TakenBack is about the call, Causes about its refusals, Undoing about admissions that are taken back; Promises gathers
+-- them. Turns is about the code. Other crates' proofs cite them.
 pub mod TakenBack
 pub mod Causes
 pub mod Undoing

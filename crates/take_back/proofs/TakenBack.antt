@@ -1,32 +1,48 @@
 -- A taking back that passes its checks: the table shows the other places as they were, is in form, and its rows stand as their bytes where they did
 -- before. One that is refused changes nothing. Assumes nothing.
-use mathlib.Core.Path.{_≡_, refl, sym, subst}
+use mathlib.Core.Path.{_≡_, refl, sym, _∙_, subst}
 use mathlib.Core.Bool.{true}
 use mathlib.Core.Logic.{_≢_}
-use Prim.Native.Nat.{_<_}
+use Prim.Native.Nat.{suc, _<_}
+use native.Mathlib.Omega.{arith}
 use lib.Dec.{eqb}
 use borrow.Author.Tests.{eqb-true, eqb-false, ne-eqb, ltb-true}
 use Rattle.base.specs.Bytes.{Bytes}
 use Rattle.base.proofs.Tests.{by-test}
+use Rattle.answer.specs.Promises.{Passed, elsewhere, different}
+use Rattle.answer.proofs.Promises.{all-passed}
+use Rattle.setup.specs.Setup.{Setup}
+use Rattle.table.specs.View.{View}
 use Rattle.table.specs.Layout.{setupOf, countOf, viewOf}
+use Rattle.table.specs.Writing.{withoutLast, withoutRow}
 use Rattle.table.specs.Form.{inForm}
 use Rattle.table.specs.Promises.{Shows}
+use Rattle.table.proofs.Views.{Held, row-same, same-refl}
 use Rattle.table.proofs.Formed.{Formed, formed-of, shows-formed}
 use Rattle.table.proofs.Canonical.{Canonical}
-use Rattle.table.proofs.Checks.{numbered, AllHold, all-hold}
-use Rattle.take_back.specs.TakingBack.{withoutLast, withoutRow, takingBackChecks, takingBack, takenBack}
-use Rattle.take_back.proofs.WithoutRow.{held-left, left-shows, left-canonical}
+use Rattle.table.proofs.Cleared.{left-shows, left-canonical}
+use Rattle.take_back.specs.TakingBack.{takingBackChecks, takingBack, takenBack}
+
+-- the view that is left is in form: no row refers to a later one
+pub held-left : (s : Setup) (v : View) → Held s v → Held s (withoutLast v)
+held-left s v h =
+    record {
+      lawful = h .lawful;
+      retired = h .retired;
+      fits = omega (arith, h .fits);
+      rows = λ i l. row-same s (withoutLast v) v i refl (same-refl v (suc i)) (omega (arith, h .fits)) ∙ h .rows i (omega arith);
+    }
 
 module _ (t : Bytes) (e : takingBack t .refusal ≡ 0) where
-  passes : AllHold (takingBackChecks (inForm t) (viewOf t))
-  unfolding takingBack numbered
-  passes = all-hold (takingBackChecks (inForm t) (viewOf t)) 0 refl e
+  passes : Passed (takingBackChecks (inForm t) (viewOf t)) 3
+  unfolding takingBack different elsewhere
+  passes = all-passed (takingBackChecks (inForm t) (viewOf t)) 0 refl e
 
   formed : Formed t
-  formed = formed-of t (passes .0)
+  formed = formed-of t (passes .0 .0 .1)
 
   some : 0 < countOf t
-  some = ltb-true 0 (countOf t) (passes .1 .0)
+  some = ltb-true 0 (countOf t) (passes .0 .1)
 
   pub table-passed : takenBack t ≡ withoutRow t
   unfolding takenBack

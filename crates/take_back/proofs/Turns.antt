@@ -1,27 +1,18 @@
--- What the code's steps make, and the ways out of the call, one law each. Assumes nothing.
-use mathlib.Core.Path.{_≡_, refl, ap, _∙_}
+-- The ways out of the call, one law each. Assumes nothing.
+use mathlib.Core.Path.{_≡_, refl}
 use mathlib.Core.Bool.{true, false}
 use mathlib.Core.Logic.{_≢_}
-use mathlib.Core.List.{[], _∷_}
 use Prim.Native.Nat.{ℕ, suc, _-_}
 use native.Mathlib.Omega.{arith}
 use lib.Dec.{eqb}
-use lib.ListN.{replicate}
 use borrow.Author.Tests.{ne-eqb, lt-ltb}
-use Rattle.base.specs.Bytes.{Bytes, splice}
-use Rattle.block.specs.declared.Answer.{Answer}
-use Rattle.table.specs.Layout.{countOffset, rowSize, rowStart, countOf, markAt}
+use Rattle.base.specs.Bytes.{Bytes}
+use Rattle.answer.specs.declared.Answer.{Answer}
+use Rattle.answer.specs.Checks.{success, refused, answerTo}
+use Rattle.table.specs.Layout.{countOf, markAt}
+use Rattle.table.specs.Writing.{withoutRow}
 use Rattle.table.specs.Form.{inForm}
-use Rattle.table.specs.Checks.{success, refused, answerTo}
-use Rattle.table.specs.Steps.{LastPlace}
-use Rattle.take_back.specs.TakingBack.{withoutRow, takingBack, takenBack}
-
-pub cleared-is : (t : Bytes) (last : ℕ) → LastPlace t last → (t₁ t₂ : Bytes) → t₁ ≡ splice t (rowStart last) (replicate rowSize 0)
-    → t₂ ≡ splice t₁ countOffset (last ∷ []) → t₂ ≡ withoutRow t
-unfolding withoutRow
-cleared-is t last l t₁ t₂ e f =
-    let k : last ≡ countOf t - 1 = omega (arith, l .count) in
-    f ∙ ap (λ (x : Bytes). splice x countOffset (last ∷ [])) e ∙ ap (λ (m : ℕ). splice (splice t (rowStart m) (replicate rowSize 0)) countOffset (m ∷ [])) k
+use Rattle.take_back.specs.TakingBack.{takingBack, takenBack}
 
 module _ (t : Bytes) where
   abbrev pub Out : Answer → Bytes → Type 0

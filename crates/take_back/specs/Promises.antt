@@ -7,13 +7,14 @@ use Prim.Native.Nat.{ℕ, zero, suc, _+_, _-_, _<_}
 use lib.Dec.{eqb}
 use lib.ListN.{length}
 use Rattle.base.specs.Bytes.{Bytes}
+use Rattle.answer.specs.Checks.{success}
 use Rattle.block.specs.Limits.{referenceSize}
 use Rattle.table.specs.Layout.{setupOf, countOf, markAt, viewOf}
+use Rattle.table.specs.Writing.{withoutLast}
 use Rattle.table.specs.Form.{inForm}
-use Rattle.table.specs.Checks.{success}
 use Rattle.table.specs.Promises.{Shows}
 use Rattle.admission.specs.Admission.{admission, admitted}
-use Rattle.take_back.specs.TakingBack.{withoutLast, takingBack, takenBack}
+use Rattle.take_back.specs.TakingBack.{takingBack, takenBack}
 
 -- checks 2 and 32 hold
 pub record SomeHeld (t : Bytes) : Type 0 where

@@ -4,25 +4,13 @@ use mathlib.Core.Bool.{Bool, cond, not}
 use mathlib.Core.List.{List, [], _∷_}
 use Prim.Native.Nat.{_-_}
 use lib.Dec.{eqb, ltb}
-use lib.ListN.{replicate}
-use Rattle.base.specs.Bytes.{Bytes, splice}
-use Rattle.block.specs.declared.Answer.{Answer}
+use Rattle.base.specs.Bytes.{Bytes}
+use Rattle.answer.specs.declared.Answer.{Answer}
+use Rattle.answer.specs.Checks.{Check, check, answerTo}
 use Rattle.table.specs.View.{interpreted, View}
-use Rattle.table.specs.Layout.{countOffset, rowSize, rowStart, countOf, viewOf}
+use Rattle.table.specs.Layout.{viewOf}
+use Rattle.table.specs.Writing.{withoutRow}
 use Rattle.table.specs.Form.{inForm}
-use Rattle.table.specs.Checks.{Check, check, answerTo}
-
--- ---- what is left
-
--- all places but the last; whether something has been retired stays
-abbrev pub withoutLast : View → View
-withoutLast v = record { retired = v .retired; held = v .held - 1; row = v .row }
-
--- the table with zeros at its last place, in every field, and the count one less
-unfoldable pub withoutRow : Bytes → Bytes
-withoutRow t = splice (splice t (rowStart (countOf t - 1)) (replicate rowSize 0)) countOffset ((countOf t - 1) ∷ [])
-
--- ---- the call
 
 -- 2: table not in form; 32: "no block held"; 33: "the last place is interpreted"
 abbrev pub takingBackChecks : Bool → View → List Check

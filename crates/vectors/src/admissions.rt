@@ -1,7 +1,7 @@
 // Admission with SHA-256: setups, the parent rule, and a table that fills up.
 use crate::line::Line;
-use block::Answer;
-use block::SLOTS;
+use answer::Answer;
+use setup::SLOTS;
 
 fn show_answer(name: &[u8], answer: Answer) {
     Line::new()

@@ -2,7 +2,7 @@
 use crate::campaigns::show;
 use crate::campaigns::show_answer;
 use block::MAX_REQUEST_LIST_SIZE;
-use block::SLOTS;
+use setup::SLOTS;
 
 // A site alone builds four blocks; the first requests 7.
 fn show_alone() {

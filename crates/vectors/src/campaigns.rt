@@ -1,16 +1,14 @@
 // Campaigns through admission and interpretation, with SHA-256: what each call is answered, and what each block makes in slot 0.
 use crate::line::Line;
 use crate::watching;
-use block::Answer;
+use answer::Answer;
 use block::HEADER_SIZE;
 use block::MAX_BLOCK_SIZE;
 use block::MAX_REFERENCES;
 use block::REFERENCE_SIZE;
 use block::REQUEST_SIZE;
-use block::SLOTS;
-use interpret::BUFFER_SIZE;
-use interpret::MADE_OFFSET;
-use interpret::PART_SIZE;
+use records::BUFFER_SIZE;
+use setup::SLOTS;
 use table::MAX_PLACES;
 ghost use Prim.Native.Nat.{_+_, _^_, _≤_, _<_};
 
@@ -180,22 +178,18 @@ pub fn show_made(place: usize, records: &[u16]) {
     if MAX_PLACES <= place {
         return;
     }
-    let at = PART_SIZE * place + MADE_OFFSET;
-    let send = wide(records[at]);
-    let echo = wide(records[at + 1]);
-    let ready = wide(records[at + 2]);
-    let delivery = wide(records[at + 3]);
+    let made = records::made_in(records, place, 0);
     Line::new()
         .text(b"place ")
         .number(place)
         .text(b": SEND ")
-        .number(send)
+        .number(wide(made.send))
         .text(b" ECHO ")
-        .number(echo)
+        .number(wide(made.echo))
         .text(b" READY ")
-        .number(ready)
+        .number(wide(made.ready))
         .text(b" delivery ")
-        .number(delivery)
+        .number(wide(made.delivered))
         .show();
 }
 

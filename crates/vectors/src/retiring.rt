@@ -6,19 +6,15 @@ use crate::campaigns::show_made;
 use crate::campaigns::wide;
 use crate::line::Line;
 use block::MAX_BLOCK_SIZE;
-use block::SLOTS;
-use interpret::BUFFER_SIZE;
-use interpret::MADE_OFFSET;
-use interpret::PART_SIZE;
-use interpret::RECORD_SIZE;
-use table::COUNT_OFFSET;
-use table::MARK_OFFSET;
+use records::BUFFER_SIZE;
+use setup::SLOTS;
 use table::MAX_PLACES;
-use table::RETIRED_OFFSET;
-use table::ROW_SIZE;
-use table::ROWS_OFFSET;
-use table::SEQUENCE_OFFSET;
 use table::TABLE_SIZE;
+
+// How many bytes stand before the rows, and how many a row has: bytes are shown and set here by the written layout's numbers, not by the table's own.
+const FRONT_SIZE: usize = 11;
+
+const ROW_SIZE: usize = 60;
 
 // Runs a campaign as `show` does, with a record buffer of one number too few.
 fn show_short(name: &[u8], sites: u8, campaign: &[u8]) {
@@ -99,7 +95,7 @@ fn show_row(table: &[u8], place: usize) {
     if MAX_PLACES <= place {
         return;
     }
-    let at = ROWS_OFFSET + ROW_SIZE * place;
+    let at = FRONT_SIZE + ROW_SIZE * place;
     Line::new()
         .text(b"row ")
         .number(place)
@@ -115,7 +111,7 @@ fn show_front(table: &[u8]) {
     }
     Line::new()
         .text(b"table ")
-        .hexadecimal(&table[0..ROWS_OFFSET])
+        .hexadecimal(&table[0..FRONT_SIZE])
         .show();
 }
 
@@ -151,15 +147,15 @@ fn show_left() {
 }
 
 // A table of n 4 and owner 0 that has retired something and holds one block, which is interpreted: site 0's of sequence number 65,534. Any 32
-// bytes may stand as its digest, here zeros.
+// bytes may stand as its digest, here zeros. Set are n, byte 9, the count, and of the row its sequence number and its last byte.
 fn late_table() -> [u8; TABLE_SIZE] {
     let mut table = [0u8; TABLE_SIZE];
     table[0] = 4;
-    table[RETIRED_OFFSET] = 1;
-    table[COUNT_OFFSET] = 1;
-    table[ROWS_OFFSET + SEQUENCE_OFFSET] = 255;
-    table[ROWS_OFFSET + SEQUENCE_OFFSET + 1] = 254;
-    table[ROWS_OFFSET + MARK_OFFSET] = 1;
+    table[9] = 1;
+    table[10] = 1;
+    table[FRONT_SIZE + 33] = 255;
+    table[FRONT_SIZE + 34] = 254;
+    table[FRONT_SIZE + 59] = 1;
     table
 }
 
@@ -170,9 +166,6 @@ fn show_last_sequence() {
     let mut records = [0u16; BUFFER_SIZE];
     run_on(&mut table, &mut records, b"b00..0 b00..0 b10..0");
 }
-
-// Where a delivery stands, both among the numbers sent so far and among those made.
-const DELIVERY: usize = 3;
 
 // Retires as long as place 0 can be retired; how many retirings passed.
 fn retire_all(table: &mut [u8], records: &mut [u16]) -> usize {
@@ -212,7 +205,7 @@ fn made_delivery(place: usize, slot: usize, records: &[u16]) -> u16 {
     if records.len() != BUFFER_SIZE {
         return 0;
     }
-    records[PART_SIZE * place + RECORD_SIZE * slot + MADE_OFFSET + DELIVERY]
+    records::delivered_in(records, place, slot)
 }
 
 // What the block at a place delivers in a slot, if anything.
@@ -280,15 +273,11 @@ fn show_going_on() {
     let mut table = fresh.table;
     let mut records = [0u16; BUFFER_SIZE];
     run_campaign(&mut table, &mut records);
-    show_number(b"held: ", base::wide(table[COUNT_OFFSET]));
-    show_number(
-        b"place 59 has in slot 0: ",
-        wide(records[PART_SIZE * 59 + DELIVERY]),
-    );
-    show_number(
-        b"place 59 has in slot 7: ",
-        wide(records[PART_SIZE * 59 + RECORD_SIZE * 7 + DELIVERY]),
-    );
+    show_number(b"held: ", table::rows::count_of(&table));
+    let first = records::record_in(&records, 59, 0).sent;
+    let last = records::record_in(&records, 59, 7).sent;
+    show_number(b"place 59 has in slot 0: ", wide(first.delivered));
+    show_number(b"place 59 has in slot 7: ", wide(last.delivered));
 }
 
 fn show_refusals() {

@@ -1,7 +1,7 @@
 -- Each refusal of the watch comes under its cause and under no other, and what is answered beside a refusal and without one. Assumes nothing.
 use mathlib.Core.Path.{_≡_, refl, sym, ap, _∙_}
 use mathlib.Core.Bool.{true, false}
-use mathlib.Core.Logic.{_↔_, _≢_, Iff·trans}
+use mathlib.Core.Logic.{_↔_, _≢_, Iff·rfl, Iff·trans, Iff·and}
 use Prim.Native.Nat.{ℕ, _≤_, _<_}
 use native.Mathlib.Omega.{arith}
 use lib.Count.{ones}
@@ -9,13 +9,14 @@ use lib.Dec.{eqb}
 use borrow.Author.Tests.{eqb-true, ne-eqb, ltb-true, lt-ltb, ltb-false, le-ltb}
 use Rattle.base.specs.Bytes.{Bytes}
 use Rattle.base.proofs.Tests.{by-test, not-true-false}
+use Rattle.answer.specs.Promises.{elsewhere, different, Decided}
+use Rattle.answer.proofs.Promises.{first-refused, second-refused, decided}
 use Rattle.table.specs.Layout.{setupOf, countOf, viewOf}
 use Rattle.table.specs.Form.{inForm}
-use Rattle.table.proofs.Checks.{none-refused, past-check, at-check, elsewhere, never-answered, and-then}
 use Rattle.watch.specs.declared.ForkedSites.{ForkedSites}
 use Rattle.watch.specs.declared.AncestorPlaces.{AncestorPlaces}
 use Rattle.watch.specs.Forks.{forkedMask, reported, forks}
-use Rattle.watch.specs.Ancestors.{ancestorMask, ancestorAnswer, ancestors}
+use Rattle.watch.specs.Ancestors.{ancestorMask, ancestorChecks, ancestorAnswer, ancestors}
 
 module _ (t : Bytes) where
   -- ---- forks
@@ -66,18 +67,18 @@ module _ (t : Bytes) where
     same-number : (n : ℕ) → (ancestors t i .refusal ≡ n) ↔ (ancestorAnswer t i .refusal ≡ n)
     same-number n = (λ e. sym ancestors-number ∙ e, λ e. ancestors-number ∙ e)
 
+    told : Decided (ancestorAnswer t i) (ancestorChecks (inForm t) (viewOf t) i) 0
+    unfolding different elsewhere
+    told = decided _ 0 refl
+
     pub ancestors-two : (ancestors t i .refusal ≡ 2) ↔ (inForm t ≡ false)
-    unfolding elsewhere
-    ancestors-two = Iff·trans (same-number 2) (at-check _ _ _ (never-answered 2 _ _ refl))
+    ancestors-two = Iff·trans (same-number 2) (first-refused told)
 
     pub ancestors-thirteen : (ancestors t i .refusal ≡ 13) ↔ ((inForm t ≡ true) × (countOf t ≤ i))
-    unfolding elsewhere
-    ancestors-thirteen = and-then (Iff·trans (same-number 13) (past-check _ _ _ 13 (λ _ e. omega arith)))
-        (Iff·trans (at-check _ _ _ (never-answered 13 _ _ refl)) (λ e. ltb-false _ _ e, λ h. le-ltb _ _ h))
+    ancestors-thirteen = Iff·trans (same-number 13) (Iff·trans (second-refused told) (Iff·and Iff·rfl (ltb-false _ _, le-ltb _ _)))
 
     pub answer-none : (ancestorAnswer t i .refusal ≡ 0) ↔ ((inForm t ≡ true) × (i < countOf t))
-    answer-none = and-then (past-check _ _ _ 0 (λ _ e. omega arith))
-        (Iff·trans (past-check _ _ _ 0 (λ _ e. omega arith)) (λ p. ltb-true _ _ (p .0), λ h. (lt-ltb _ _ h, none-refused 0)))
+    answer-none = Iff·trans (told .none) (Iff·and (λ p. p .1, λ e. (tt, e)) (ltb-true _ _, lt-ltb _ _))
 
     pub ancestors-none : (ancestors t i .refusal ≡ 0) ↔ ((inForm t ≡ true) × (i < countOf t))
     ancestors-none = Iff·trans (same-number 0) answer-none

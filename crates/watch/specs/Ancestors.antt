@@ -8,11 +8,11 @@ use lib.Dec.{eqb, ltb}
 use Rattle.base.specs.Search.{anyBelow}
 use Rattle.base.specs.Mask.{maskBelow}
 use Rattle.base.specs.Bytes.{Bytes}
-use Rattle.block.specs.declared.Answer.{Answer}
+use Rattle.answer.specs.declared.Answer.{Answer}
+use Rattle.answer.specs.Checks.{Check, check, answerTo}
 use Rattle.table.specs.View.{View}
 use Rattle.table.specs.Layout.{viewOf}
 use Rattle.table.specs.Form.{inForm}
-use Rattle.table.specs.Checks.{Check, check, answerTo}
 use Rattle.watch.specs.declared.AncestorPlaces.{AncestorPlaces}
 
 module _ (v : View) where

@@ -11,9 +11,10 @@ use borrow.Author.Needs.{needs}
 use borrow.Author.Tests.{eq-eqb, ne-eqb, lt-ltb, le-ltb, not-true, not-false}
 use Rattle.base.specs.Bytes.{Bytes}
 use Rattle.sha256.specs.Sha256.{sha256}
+use Rattle.answer.specs.declared.Answer.{Answer}
+use Rattle.answer.specs.Checks.{refused, answerTo}
 use Rattle.block.specs.Layout.{siteOf}
 use Rattle.block.specs.Reading.{wellShaped, fieldsOf, reading, answerOf}
-use Rattle.block.specs.declared.Answer.{Answer}
 use Rattle.block.specs.declared.Fields.{Fields}
 use Rattle.block.specs.declared.Reading.{Reading}
 use Rattle.block.specs.declared.Reading.the-variants.{Block, Misshapen, BadRequest, RepeatedReference}
@@ -22,7 +23,6 @@ use Rattle.block.proofs.Shape.{shaped}
 use Rattle.block.proofs.Accepted.{reading-accepted}
 use Rattle.table.specs.Layout.{setupOf}
 use Rattle.table.specs.Form.{inForm}
-use Rattle.table.specs.Checks.{refused, answerTo}
 use Rattle.table.proofs.Formed.{formed-places}
 use Rattle.admission.specs.Admission.{admission, admitted}
 use Rattle.admission.specs.Steps.{heldAnswer, entered}
@@ -87,70 +87,82 @@ module _ (t b : Bytes) (verdict : ℕ) where
             unfolding admitted entered
             way-entered a t′ e e′ = (e ∙ sym through, rw through e′)
 
-formed : (c : tie.Else1) → inForm (c .before .before .before .before .before .args .table .now) ≡ true
+-- the places on the way, each from the next one
+abbrev start : tie.After-in-form → tie.Start
+start c = c .before .before .before .before
+
+abbrev first : tie.Else2 → tie.Else1
+first c = c .before .before
+
+abbrev second : tie.After-site-of → tie.Else2
+second c = c .before .before .before
+
+abbrev third : tie.Else4 → tie.Else3
+third c = c .before
+
+abbrev accepted : tie.After-reading → tie.After-read-block
+accepted c = c .before .before
+
+-- what each test shows
+formed : (c : tie.Else1) → inForm (start (c .before) .args .table .now) ≡ true
 formed c = sym (c .before .in-form .ensures) ∙ not-false _ (c .if1 .left)
 
-shape : (c : tie.Else2) → wellShaped (c .before .before .before .before .before .before .before .args .block .now) ≡ true
+shape : (c : tie.Else2) → wellShaped (start (first c .before) .args .block .now) ≡ true
 shape c = sym (c .before .well-shaped .ensures) ∙ not-false _ (c .if2 .left)
 
--- the tests before the third, and what it shows
-abbrev second : tie.Else3 → tie.Else2
-second c = c .before .before .before .before
-
-abbrev first : tie.Else3 → tie.Else1
-first c = second c .before .before
-
-abbrev start : tie.Else3 → tie.Start
-start c = first c .before .before .before .before .before
-
-site : (c : tie.Else3) → siteOf (start c .args .block .now) < setupOf (start c .args .table .now) .sites
-site c = rw (← c .before .before .sites-of .ensures) (c .if3 .left)
+site : (c : tie.Else3) → let a = start (first (second (c .before)) .before) .args in siteOf (a .block .now) < setupOf (a .table .now) .sites
+site c = rw (← c .before .before .sites-of .ensures, ← c .before .site-of .ensures) (c .if3 .left)
 
 returns : tie.Need-returns
-returns c = way2 _ _ _ (sym (c .before .in-form .ensures) ∙ not-true _ (c .if1 .taken))
+returns c = let b = c .before in rw (c .refused .ensures) (way2 _ _ _ (sym (b .before .in-form .ensures) ∙ not-true _ (b .if1 .taken)))
 
 returns-2 : tie.Need-returns-2
-returns-2 c = way3 _ _ _ (formed (c .before .before)) (sym (c .before .well-shaped .ensures) ∙ not-true _ (c .if2 .taken))
+returns-2 c =
+    let b = c .before in
+    rw (c .refused2 .ensures) (way3 _ _ _ (formed (b .before .before)) (sym (b .before .well-shaped .ensures) ∙ not-true _ (b .if2 .taken)))
 
 returns-3 : tie.Need-returns-3
 returns-3 c =
-    let n = c .before .before in
-    let s = n .before .before in
-    way4 _ _ _ (formed (s .before .before)) (shape s) (rw (← n .sites-of .ensures) (c .if3 .taken))
+    let b = c .before in
+    let n = b .before in
+    let s = second n in
+    rw (c .refused3 .ensures) (way4 _ _ _ (formed (first s)) (shape s) (rw (← n .before .sites-of .ensures, ← n .site-of .ensures) (b .if3 .taken)))
 
 returns-4 : tie.Need-returns-4
 returns-4 c =
-    let d = c .before in
-    way5 _ _ _ (formed (first d)) (shape (second d)) (site d) (c .if4 .taken)
+    let b = c .before in
+    let d = b .before in
+    let s = second (d .before) in
+    rw (c .refused4 .ensures) (way5 _ _ _ (formed (first s)) (shape s) (site d) (b .if4 .taken))
 
 returns-5 : tie.Need-returns-5
 returns-5 c =
     let m = c .before in
     let r = m .before in
     let v = r .before in
-    let d = v .before in
-    way-reader _ _ _ (formed (first d)) (shape (second d)) (site d) (v .if4 .left) _ (r .read-block .ensures) (m .match .keys2) _ (c .answer-of .ensures)
+    let s = second (third v .before) in
+    way-reader _ _ _ (formed (first s)) (shape s) (site (third v)) (v .if4 .left) _ (r .read-block .ensures) (m .match .keys2) _ (c .answer-of .ensures)
 
 enter-requires : tie.Need-enter-requires
 enter-requires c κs =
     let m = c .before .before in
-    let r = m .before .before in
+    let r = accepted m in
     let v = r .before in
-    let d = v .before in
-    let a = start d .args in (
-      formed (first d),
-      shaped _ (shape (second d)),
-      fields (a .table .now) (a .block .now) (a .verdict) (formed (first d)) (shape (second d)) (site d) (v .if4 .left) _ (r .read-block .ensures) _ (m .reading .given .1),
+    let s = second (third v .before) in
+    let a = start (first s .before) .args in (
+      formed (first s),
+      shaped _ (shape s),
+      fields (a .table .now) (a .block .now) (a .verdict) (formed (first s)) (shape s) (site (third v)) (v .if4 .left) _ (r .read-block .ensures) _ (m .reading .given .1),
     )
 
 returns-6 : tie.Need-returns-6
 returns-6 c =
     let e = c .before .before in
     let m = e .before .before .before in
-    let r = m .before .before in
+    let r = accepted m in
     let v = r .before in
-    let d = v .before in
-    way-entered _ _ _ (formed (first d)) (shape (second d)) (site d) (v .if4 .left) _ (r .read-block .ensures) _ (m .reading .given .1) _ _
+    let s = second (third v .before) in
+    way-entered _ _ _ (formed (first s)) (shape s) (site (third v)) (v .if4 .left) _ (r .read-block .ensures) _ (m .reading .given .1) _ _
     (e .enter .ensures .0) (e .enter .ensures .1)
 
 pub admit-spec : {M : Type 1} → statement M
@@ -158,15 +170,19 @@ admit-spec =
     tie.close
     (tie.spec
     (λ c κs. search needs)
+    (λ c κs. search needs)
     (λ c. search needs)
     returns
     (λ c κs. search needs)
+    (λ c κs. search needs)
     (λ c. search needs)
     returns-2
-    (λ c κs. let f = formed-places _ (formed (c .before .before .before)) in search needs)
-    (λ c. let f = shaped _ (shape (c .before .before .before)) in search needs)
+    (λ c κs. let f = formed-places _ (formed (first (c .before))) in search needs)
+    (λ c κs. shaped _ (shape (c .before .before)))
+    (λ c κs. search needs)
     (λ c. search needs)
     returns-3
+    (λ c κs. search needs)
     (λ c. search needs)
     returns-4
     (λ c κs. search needs)

@@ -6,8 +6,9 @@ use Rattle.base.proofs.put.Tie as tie
 
 returns : tie.Need-returns
 returns c =
-    let a = c .before .before .before .before .before .before .args in
-    splice-of-copy (a .bytes .now) (a .part .now) _ (a .at) (c .before .before .copy .ensures .1)
+    let copied = c .before .before in
+    let known = copied .before .before in let a = known .before .before .args in
+    splice-of-copy (a .bytes .now) (a .part .now) _ (a .at) (copied .copy .ensures .1)
 
 pub put-spec : {M : Type 1} → statement M
 put-spec =

@@ -34,16 +34,15 @@ returns c = sym (other-same _ _ (λ e. c .if1 .taken (ap length e)))
 returns-2 : tie.Need-returns-2 Inv-loop μ-loop
 returns-2 c = sym (agree _ _ (search needs) (λ j h. absurd (omega arith)))
 
-returns-3 : tie.Need-returns-3 Inv-loop μ-loop
-returns-3 c = sym (differ _ _ 0 (c .if3 .taken))
-
 loop-holds : tie.Need-loop-holds Inv-loop μ-loop
 loop-holds c = (omega arith, search needs, λ y j h. absurd (omega arith), λ n. true-not-false {t = true} refl n)
 
 loop-again : tie.Need-loop-again Inv-loop μ-loop
 loop-again c =
-    let l = c .before .before .before .before .loop in
-    let a = c .before .before .before .before .before .before .before .before .before .before .args in (
+    let turn = c .before .before .before in
+    let l = turn .before .loop in
+    let third = turn .before .before in let second = third .before .before .before in
+    let a = second .before .before .args in (
       omega arith,
       search needs,
       λ y. ⊎-elim
@@ -68,7 +67,7 @@ same-spec =
     returns-2
     (λ c. search needs)
     (λ c. search needs)
-    returns-3
+    (λ c. sym (differ _ _ 0 (c .if3 .taken)))
     loop-holds
     (λ c. search needs)
     (λ c. search needs)

@@ -1,101 +1,94 @@
--- `read_shaped` meets its contract: one law for each way out, over the parts that the code hands on. Assumes nothing.
+-- `read_shaped` meets its contract: one law for each way out. Assumes nothing.
 use mathlib.Core.Path.{_≡_, ap, _∙_}
-use Prim.Native.Nat.{ℕ, _-_, _≤_, _<_}
+use Prim.Native.Nat.{ℕ, _≤_, _<_}
 use native.Mathlib.Omega.{arith}
-use lib.ListN.{length, getD, take, drop}
 use borrow.Author.Needs.{needs}
 use borrow.Author.Tests.{lt-ltb, le-ltb}
 use Rattle.base.specs.Search.{firstBelow, anyBelow}
 use Rattle.base.specs.Bytes.{Bytes}
-use Rattle.base.specs.Number.{numberAt}
-use Rattle.block.specs.Limits.{headerSize}
-use Rattle.block.specs.Layout.{referenceCount, requestCount, referenceList, requestList}
+use Rattle.block.specs.Layout.{siteOf, sequenceOf, referenceCount, requestCount, referenceList, requestList}
 use Rattle.block.specs.Reading.{badRequestAt, repeatedAt, reading}
 use Rattle.block.specs.Promises.{Shaped}
 use Rattle.block.specs.Steps.{firstBad, firstRepeated}
 use Rattle.block.specs.declared.Reading.the-variants.{Block, BadRequest, RepeatedReference}
-use Rattle.block.proofs.Shape.{well-shaped, middle, reference-part, request-part, references-counted, requests-counted}
+use Rattle.block.proofs.Shape.{well-shaped, references-counted, requests-counted}
 use Rattle.block.proofs.read_shaped.Statement.{statement}
 use Rattle.block.proofs.read_shaped.Tie as tie
 
-module _ (b : Bytes) (s : Shaped b) (p r : ℕ) (ep : p ≡ referenceCount b) (er : r ≡ requestCount b) where
-  -- the two searches, over the parts as the code makes them
-  abbrev bad : ℕ
-  bad = firstBad (take (length b - middle b p ep) (drop (middle b p ep) b))
+module _ (b : Bytes) (s : Shaped b) where
+  -- the two searches, over the lists by their own length
+  bad-is : (list : Bytes) (i : ℕ) → list ≡ requestList b → i ≡ firstBad list → i ≡ firstBelow (badRequestAt (requestList b)) (requestCount b)
+  bad-is list i l e = e ∙ ap firstBad l ∙ ap (firstBelow (badRequestAt (requestList b))) (requests-counted b s)
 
-  abbrev repeated : ℕ
-  repeated = firstRepeated (take (middle b p ep - headerSize) (drop headerSize b))
+  repeated-is : (list : Bytes) (j : ℕ) → list ≡ referenceList b → j ≡ firstRepeated list → j ≡ firstBelow (repeatedAt (referenceList b)) (referenceCount b)
+  repeated-is list j l e = e ∙ ap firstRepeated l ∙ ap (firstBelow (repeatedAt (referenceList b))) (references-counted b s)
 
-  bad-is : bad ≡ firstBelow (badRequestAt (requestList b)) (requestCount b)
-  bad-is = ap firstBad (request-part b p ep) ∙ ap (firstBelow (badRequestAt (requestList b))) (requests-counted b s)
+  module _ (p r i : ℕ) (ep : p ≡ referenceCount b) (er : r ≡ requestCount b) (ei : i ≡ firstBelow (badRequestAt (requestList b)) (requestCount b)) where
+    way-bad : i < r → BadRequest i ≡ reading b
+    unfolding reading anyBelow
+    way-bad l = rw (well-shaped b s, ← ei, lt-ltb i (requestCount b) (omega arith))
 
-  repeated-is : repeated ≡ firstBelow (repeatedAt (referenceList b)) (referenceCount b)
-  repeated-is = ap firstRepeated (reference-part b p ep) ∙ ap (firstBelow (repeatedAt (referenceList b))) (references-counted b s)
+    module _ (good : r ≤ i) (j : ℕ) (ej : j ≡ firstBelow (repeatedAt (referenceList b)) (referenceCount b)) where
+      way-repeated : j < p → RepeatedReference j ≡ reading b
+      unfolding reading anyBelow
+      way-repeated l = rw (well-shaped b s, ← ei, le-ltb i (requestCount b) (omega arith), ← ej, lt-ltb j (referenceCount b) (omega arith))
 
-  way-bad : (i : ℕ) → i ≡ bad → i < r → BadRequest i ≡ reading b
-  unfolding reading anyBelow
-  way-bad i e l = let f = e ∙ bad-is in rw (well-shaped b s, ← f, lt-ltb i (requestCount b) (omega arith))
+      way-block : p ≤ j → (site n : ℕ) → site ≡ siteOf b → n ≡ sequenceOf b
+          → Block (record { site = site; sequence = n; references = p; requests = r }) ≡ reading b
+      unfolding reading anyBelow
+      way-block l site n es en =
+          rw (well-shaped b s, ← ei, le-ltb i (requestCount b) (omega arith), ← ej, le-ltb j (referenceCount b) (omega arith), ep, er, es, en)
 
-  way-repeated : (i j : ℕ) → i ≡ bad → r ≤ i → j ≡ repeated → j < p → RepeatedReference j ≡ reading b
-  unfolding reading anyBelow
-  way-repeated i j e l g m =
-      let f = e ∙ bad-is in
-      let h = g ∙ repeated-is in
-      rw (well-shaped b s, ← f, le-ltb i (requestCount b) (omega arith), ← h, lt-ltb j (referenceCount b) (omega arith))
+-- the places on the way, from the end of each search back
+abbrev counted : tie.After-first-bad → tie.After-reference-count
+counted c = c .before .before .before
 
-  way-block : (i j n : ℕ) → i ≡ bad → r ≤ i → j ≡ repeated → p ≤ j → n ≡ numberAt b 1
-      → Block (record { site = getD b 0 0; sequence = n; references = p; requests = r }) ≡ reading b
-  unfolding reading anyBelow
-  way-block i j n e l g m en =
-      let f = e ∙ bad-is in
-      let h = g ∙ repeated-is in
-      rw (well-shaped b s, ← f, le-ltb i (requestCount b) (omega arith), ← h, le-ltb j (referenceCount b) (omega arith), ep, er, en)
+abbrev start : tie.After-first-bad → tie.Start
+start c = counted c .before .before
+
+abbrev searched : tie.After-first-repeated → tie.Else1
+searched c = c .before .before
+
+-- what each search found
+bad : (c : tie.After-first-bad) → c .first-bad .result ≡ firstBelow (badRequestAt (requestList (start c .args .block .now))) (requestCount (start c .args .block .now))
+bad c = bad-is _ (start c .pre) _ _ (c .before .request-list .ensures) (c .first-bad .ensures)
+
+repeated : (c : tie.After-first-repeated) → let b = start (searched c .before) .args .block .now in
+    c .first-repeated .result ≡ firstBelow (repeatedAt (referenceList b)) (referenceCount b)
+repeated c = repeated-is _ (start (searched c .before) .pre) _ _ (c .before .reference-list .ensures) (c .first-repeated .ensures)
 
 returns : tie.Need-returns
 returns c =
-    let d = c .before .before .before in
-    let start = d .before .before .before .before .before in
-    way-bad (start .args .block .now) (start .pre) _ _ (d .before .before .wide .ensures) (d .wide2 .ensures) _ (c .before .first-bad .ensures) (c .if1 .taken)
+    let q = c .before in
+    way-bad _ (start q .pre) _ _ _ (counted q .reference-count .ensures) (q .before .before .request-count .ensures) (bad q) (c .if1 .taken)
 
 returns-2 : tie.Need-returns-2
 returns-2 c =
-    let k = c .before .before .before in
-    let d = k .before .before .before in
-    let start = d .before .before .before .before .before in
-    way-repeated (start .args .block .now) (start .pre) _ _ (d .before .before .wide .ensures) (d .wide2 .ensures) _ _ (k .before .first-bad .ensures) (k .if1 .left)
-    (c .before .first-repeated .ensures) (c .if2 .taken)
+    let k = searched (c .before) in
+    let q = k .before in
+    way-repeated _ (start q .pre) _ _ _ (counted q .reference-count .ensures) (q .before .before .request-count .ensures) (bad q) (k .if1 .left)
+    _ (repeated (c .before)) (c .if2 .taken)
 
 returns-3 : tie.Need-returns-3
 returns-3 c =
-    let h = c .before .before .before .before in
-    let k = h .before .before .before in
-    let d = k .before .before .before in
-    let start = d .before .before .before .before .before in
-    way-block (start .args .block .now) (start .pre) _ _ (d .before .before .wide .ensures) (d .wide2 .ensures) _ _ _ (k .before .first-bad .ensures) (k .if1 .left)
-    (h .before .first-repeated .ensures) (h .if2 .left) (c .number-of .ensures)
+    let g = c .before .before in
+    let k = searched (g .before) in
+    let q = k .before in
+    way-block _ (start q .pre) _ _ _ (counted q .reference-count .ensures) (q .before .before .request-count .ensures) (bad q) (k .if1 .left)
+    _ (repeated (g .before)) (g .if2 .left) _ _ (c .before .site-of .ensures) (c .sequence-of .ensures)
 
 pub read-shaped-spec : {M : Type 1} → statement M
 read-shaped-spec =
     tie.close
     (tie.spec
-    (λ c. search needs)
     (λ c κs. search needs)
-    (λ c. search needs)
     (λ c κs. search needs)
-    (λ c. search needs)
-    (λ c. search needs)
-    (λ c. search needs)
-    (λ c. search needs)
-    (λ c. search needs)
+    (λ c κs. search needs)
     (λ c κs. search needs)
     returns
-    (λ c. search needs)
-    (λ c. search needs)
-    (λ c. search needs)
+    (λ c κs. search needs)
     (λ c κs. search needs)
     returns-2
-    (λ c. search needs)
-    (λ c. search needs)
-    (λ c. search needs)
+    (λ c κs. search needs)
     (λ c κs. search needs)
     returns-3)

@@ -11,8 +11,8 @@ use Rattle.broadcast.proofs.step.Statement.{statement}
 use Rattle.broadcast.proofs.step.Tie as tie
 
 -- where the code comes to the match, the test passes
-passes : (c : tie.Else3) → let a = c .before .before .before .before .args in (not (eqb (a .number) 0) && (ltb (a .sender) (a .n) && leb (a .n) maxSites)) ≡ true
-passes c = let a = c .before .before .before .before .args in rw (ne-eqb _ _ (c .before .before .before .if1 .left), lt-ltb _ _ (c .before .before .if2 .left), le-leb (a .n) maxSites (omega (arith, c .if3 .left, c .before .wide .ensures)))
+passes : (c : tie.Else3) → let s = c .before .before in let a = s .before .before .args in (not (eqb (a .number) 0) && (ltb (a .sender) (a .n) && leb (a .n) maxSites)) ≡ true
+passes c = let s = c .before .before in rw (ne-eqb _ _ (s .before .if1 .left), lt-ltb _ _ (s .if2 .left), le-leb (s .before .before .args .n) maxSites (omega (arith, c .if3 .left, c .before .wide .ensures)))
 
 returns : tie.Need-returns
 unfolding receive onlyIf

@@ -8,10 +8,13 @@ use Rattle.build.specs.Building.{buildingFrom, builtFrom}
 use Rattle.build.proofs.build.Statement.{statement}
 use Rattle.build.proofs.build.Tie as tie
 
+abbrev start : tie.After-build-from → tie.Start
+start c = c .before .before .before .before .before
+
 returns : tie.Need-returns
 returns c =
     let b = c .before .before in
-    let a = b .before .before .before .before .before .args in (
+    let a = start b .args in (
       b .build-from .ensures .0 ∙ ap (λ (seen : ℕ → Bool). buildingFrom seen (a .table .now) (a .site) (a .requests .now) (a .output .now)) everywhere-mask,
       b .build-from .ensures .1 ∙ ap (λ (seen : ℕ → Bool). builtFrom seen (a .table .now) (a .site) (a .requests .now) (a .output .now)) everywhere-mask,
     )

@@ -1,7 +1,8 @@
--- `build_from` meets its contract: one law for each way out. Assumes nothing.
-use mathlib.Core.Path.{_≡_, sym, _∙_}
-use mathlib.Core.Bool.{true, false}
+-- `build_from` meets its contract: what each check shows, and one law for all refusals. Assumes nothing.
+use mathlib.Core.Path.{_≡_, sym, ap, _∙_}
+use mathlib.Core.Bool.{true, false, not}
 use mathlib.Core.Logic.{_≢_}
+use mathlib.Core.List.{List}
 use Prim.Native.Nat.{ℕ, _/_, _≤_, _<_}
 use native.Mathlib.Omega.{arith}
 use lib.ListN.{length}
@@ -10,33 +11,41 @@ use borrow.Author.Tests.{ne-eqb, lt-ltb, le-ltb, not-true, not-false}
 use Rattle.base.specs.Search.{anyBelow}
 use Rattle.base.specs.Mask.{inMask}
 use Rattle.base.specs.Bytes.{Bytes}
+use Rattle.answer.specs.declared.Answer.{Answer}
+use Rattle.answer.specs.Checks.{Check, refused}
+use Rattle.answer.specs.Promises.{checkAt, Passed}
+use Rattle.answer.proofs.Checks.{number-of}
+use Rattle.answer.proofs.Promises.{decides, past}
 use Rattle.block.specs.Limits.{requestSize}
+use Rattle.block.specs.Reading.{badRequestAt}
 use Rattle.block.specs.Steps.{firstBad}
-use Rattle.block.specs.declared.Answer.{Answer}
 use Rattle.table.specs.Layout.{setupOf, viewOf}
 use Rattle.table.specs.Form.{inForm}
-use Rattle.table.specs.Checks.{refused, answerTo}
 use Rattle.table.proofs.Formed.{formed-of, formed-places}
-use Rattle.watch.specs.Forks.{forkedIn}
-use Rattle.build.specs.Building.{wellListed, buildingFrom, builtFrom}
-use Rattle.build.specs.Steps.{Ready, Listed, nextAnswer, nextOutput}
+use Rattle.build.specs.Building.{wellListed, nextBlock, buildingChecks, buildingFrom, builtFrom}
+use Rattle.build.specs.Steps.{Listed, nextAnswer, nextOutput}
 use Rattle.build.proofs.Causes.{well-listed}
 use Rattle.build.proofs.build_from.Statement.{statement}
 use Rattle.build.proofs.build_from.Tie as tie
 
--- what the tests before check 17 show
-ready : (t : Bytes) (seen p : ℕ) → inForm t ≡ true → forkedIn (viewOf t) (inMask seen) p ≡ false → Ready t seen p
-ready t seen p e n =
-    record {
-      formed = e;
-      sized = formed-places t e;
-      unforked = n;
-    }
-
 listed : (requests : Bytes) → wellListed requests ≡ true → Listed requests
 listed requests e = let w = well-listed requests .0 e in record { fits = w .0; whole = omega (arith, w .1) }
 
+-- the test of check 6, by the first bad request
+some-bad : (requests : Bytes) (i : ℕ) → i ≡ firstBad requests → i < length requests / requestSize
+    → not (anyBelow (badRequestAt requests) (length requests / requestSize)) ≡ false
+unfolding anyBelow
+some-bad requests i e h = rw (← e, lt-ltb i (length requests / requestSize) h)
+
+none-bad : (requests : Bytes) (i : ℕ) → i ≡ firstBad requests → length requests / requestSize ≤ i
+    → not (anyBelow (badRequestAt requests) (length requests / requestSize)) ≡ true
+unfolding anyBelow
+none-bad requests i e h = rw (← e, le-ltb i (length requests / requestSize) h)
+
 module _ (seen : ℕ) (t : Bytes) (p : ℕ) (requests output : Bytes) where
+  abbrev checks : List Check
+  checks = buildingChecks (inMask seen) (inForm t) (setupOf t) (viewOf t) p requests (length output)
+
   -- what a call promises
   abbrev Promised : Answer → Bytes → Type 0
   Promised a output′ = (a ≡ buildingFrom (inMask seen) t p requests output) × (output′ ≡ builtFrom (inMask seen) t p requests output)
@@ -45,126 +54,79 @@ module _ (seen : ℕ) (t : Bytes) (p : ℕ) (requests output : Bytes) where
   unfolding builtFrom
   refusing a e n = (e, rw (← e, ne-eqb (a .refusal) 0 n))
 
-  way2 : inForm t ≡ false → Promised (refused 2 0) output
-  unfolding buildingFrom answerTo
-  way2 e = refusing (refused 2 0) (rw e) (λ z. omega arith)
+  -- check k is the first that does not hold
+  way-refused : (k : ℕ) → k < length checks → checkAt checks k .number ≢ 0 → Passed checks k → checkAt checks k .holds ≡ false
+      → (a : Answer) → a ≡ refused (checkAt checks k .number) (checkAt checks k .value) → Promised a output
+  unfolding buildingFrom
+  way-refused k h n passed fails a e =
+      refusing a (e ∙ sym (decides checks (length (nextBlock (inMask seen) (viewOf t) p requests)) k h passed fails)) (λ z. n (sym (number-of e) ∙ z))
 
-  module _ (formed : inForm t ≡ true) where
-    way4 : setupOf t .sites ≤ p → Promised (refused 4 0) output
-    unfolding buildingFrom answerTo
-    way4 h = refusing (refused 4 0) (rw (formed, le-ltb p (setupOf t .sites) h)) (λ z. omega arith)
+  through : Passed checks 5 → buildingFrom (inMask seen) t p requests output ≡ nextAnswer (inMask seen) t p requests output
+  unfolding buildingFrom nextAnswer
+  through e = past checks _ 5 e
 
-    module _ (site : p < setupOf t .sites) where
-      way3 : wellListed requests ≡ false → Promised (refused 3 0) output
-      unfolding buildingFrom answerTo
-      way3 e = refusing (refused 3 0) (rw (formed, lt-ltb p (setupOf t .sites) site, e)) (λ z. omega arith)
+  way-written : Passed checks 5 → (a : Answer) (output′ : Bytes) → a ≡ nextAnswer (inMask seen) t p requests output → output′ ≡ nextOutput (inMask seen) t p requests output
+      → Promised a output′
+  unfolding builtFrom nextOutput
+  way-written passed a output′ e e′ = (e ∙ sym (through passed), rw (through passed) e′)
 
-      module _ (list : wellListed requests ≡ true) where
-        way6 : (i : ℕ) → i ≡ firstBad requests → i < length requests / requestSize → Promised (refused 6 i) output
-        unfolding buildingFrom answerTo anyBelow
-        way6 i e h = refusing (refused 6 i) (rw (formed, lt-ltb p (setupOf t .sites) site, list, ← e, lt-ltb i (length requests / requestSize) h)) (λ z. omega arith)
+-- ---- the places of the walk, and the checks that hold there
 
-        module _ (i : ℕ) (bad : i ≡ firstBad requests) (none : length requests / requestSize ≤ i) where
-          way16 : forkedIn (viewOf t) (inMask seen) p ≡ true → Promised (refused 16 0) output
-          unfolding buildingFrom answerTo anyBelow
-          way16 e = refusing (refused 16 0)
-              (rw (formed, lt-ltb p (setupOf t .sites) site, list, ← bad, le-ltb i (length requests / requestSize) none, e)) (λ z. omega arith)
+abbrev Holding : tie.Start → ℕ → Type 0
+Holding s k = let a = s .args in Passed (checks (a .seen) (a .table .now) (a .site) (a .requests .now) (a .output .now)) k
 
-          module _ (unforked : forkedIn (viewOf t) (inMask seen) p ≡ false) where
-            through : buildingFrom (inMask seen) t p requests output ≡ nextAnswer (inMask seen) t p requests output
-            unfolding buildingFrom nextAnswer answerTo anyBelow
-            through = rw (formed, lt-ltb p (setupOf t .sites) site, list, ← bad, le-ltb i (length requests / requestSize) none, unforked)
+abbrev start : tie.Else1 → tie.Start
+start c = c .before .before .before .before .before
 
-            way-written : (a : Answer) (output′ : Bytes) → a ≡ nextAnswer (inMask seen) t p requests output → output′ ≡ nextOutput (inMask seen) t p requests output
-                → Promised a output′
-            unfolding builtFrom nextOutput
-            way-written a output′ e e′ = (e ∙ sym through, rw through e′)
+formed : (c : tie.Else1) → Holding (start c) 1
+formed c = (tt, sym (c .before .in-form .ensures) ∙ not-false _ (c .if1 .left))
 
-formed : (c : tie.Else1) → inForm (c .before .before .before .before .before .args .table .now) ≡ true
-formed c = sym (c .before .in-form .ensures) ∙ not-false _ (c .if1 .left)
+abbrev in-form : tie.Else2 → tie.Else1
+in-form c = c .before .before
 
--- the tests before, and what each shows
-abbrev first : tie.Else2 → tie.Else1
-first c = c .before .before
+site : (c : tie.Else2) → Holding (start (in-form c)) 2
+site c = (formed (in-form c), rw (← c .before .sites-of .ensures) (lt-ltb _ _ (c .if2 .left)))
 
-abbrev start : tie.Else2 → tie.Start
-start c = first c .before .before .before .before .before
+abbrev of-site : tie.Else3 → tie.Else2
+of-site c = c .before .before
 
-site : (c : tie.Else2) → start c .args .site < setupOf (start c .args .table .now) .sites
-site c = rw (← c .before .sites-of .ensures) (c .if2 .left)
+list : (c : tie.Else3) → Holding (start (in-form (of-site c))) 3
+list c = (site (of-site c), sym (c .before .well-listed .ensures) ∙ not-false _ (c .if3 .left))
 
-abbrev second : tie.Else3 → tie.Else2
-second c = c .before .before
+abbrev with-list : tie.Else4 → tie.Else3
+with-list c = c .before .before
 
-list : (c : tie.Else3) → wellListed (start (second c) .args .requests .now) ≡ true
-list c = sym (c .before .well-listed .ensures) ∙ not-false _ (c .if3 .left)
+good : (c : tie.Else4) → Holding (start (in-form (of-site (with-list c)))) 4
+good c = (list (with-list c), none-bad _ _ (c .before .first-bad .ensures) (c .if4 .left))
 
-abbrev third : tie.Else4 → tie.Else3
-third c = c .before .before
+abbrev with-good : tie.Else5 → tie.Else4
+with-good c = c .before .before
 
-abbrev fourth : tie.Else5 → tie.Else4
-fourth c = c .before .before
-
-unforked : (c : tie.Else5) → let a = start (second (third (fourth c))) .args in forkedIn (viewOf (a .table .now)) (inMask (a .seen)) (a .site) ≡ false
-unforked c = sym (c .before .forked .ensures) ∙ c .if5 .left
-
-returns : tie.Need-returns
-returns c = way2 _ _ _ _ _ (sym (c .before .in-form .ensures) ∙ not-true _ (c .if1 .taken))
-
-returns-2 : tie.Need-returns-2
-returns-2 c = way4 _ _ _ _ _ (formed (c .before .before)) (rw (← c .before .sites-of .ensures) (c .if2 .taken))
-
-returns-3 : tie.Need-returns-3
-returns-3 c = let s = c .before .before in way3 _ _ _ _ _ (formed (first s)) (site s) (sym (c .before .well-listed .ensures) ∙ not-true _ (c .if3 .taken))
-
-returns-4 : tie.Need-returns-4
-returns-4 c =
-    let l = c .before .before in
-    let s = second l in
-    way6 _ _ _ _ _ (formed (first s)) (site s) (list l) _ (c .before .first-bad .ensures) (c .if4 .taken)
-
-returns-5 : tie.Need-returns-5
-returns-5 c =
-    let b = c .before .before in
-    let l = third b in
-    let s = second l in
-    way16 _ _ _ _ _ (formed (first s)) (site s) (list l) _ (b .before .first-bad .ensures) (b .if4 .left) (sym (c .before .forked .ensures) ∙ c .if5 .taken)
-
-forked-requires : tie.Need-forked-requires
-forked-requires c κs = formed-places _ (formed (first (second (third c))))
-
-write-next-requires : tie.Need-write-next-requires
-write-next-requires c κs =
-    let f = c .before in
-    let l = third (fourth f) in
-    (ready _ _ _ (formed (first (second l))) (unforked f), listed _ (list l))
-
-returns-6 : tie.Need-returns-6
-returns-6 c =
-    let w = c .before .before in
-    let f = w .before .before in
-    let b = fourth f in
-    let l = third b in
-    let s = second l in
-    way-written _ _ _ _ _ (formed (first s)) (site s) (list l) _ (b .before .first-bad .ensures) (b .if4 .left) (unforked f) _ _ (w .write-next .ensures .0) (w .write-next .ensures .1)
-
-sites-of-requires : tie.Need-sites-of-requires
-sites-of-requires c κs = formed-of _ (formed c) .size
+unforked : (c : tie.Else5) → Holding (start (in-form (of-site (with-list (with-good c))))) 5
+unforked c = (good (with-good c), ap not (sym (c .before .forked .ensures) ∙ c .if5 .left))
 
 pub build-from-spec : {M : Type 1} → statement M
 build-from-spec =
     tie.close
     (tie.spec
     (λ c κs. search needs)
-    returns
-    sites-of-requires
-    returns-2
     (λ c κs. search needs)
-    returns-3
+    (λ c. let d = c .before in way-refused _ _ _ _ _ 0 (omega arith) (λ z. omega arith) tt (sym (d .before .in-form .ensures) ∙ not-true _ (d .if1 .taken)) _ (c .refused .ensures))
+    (λ c κs. formed-of _ (formed c .1) .size)
     (λ c κs. search needs)
-    returns-4
-    forked-requires
-    returns-5
-    write-next-requires
+    (λ c. let d = c .before in way-refused _ _ _ _ _ 1 (omega arith) (λ z. omega arith) (formed (d .before .before)) (rw (← d .before .sites-of .ensures) (le-ltb _ _ (d .if2 .taken))) _ (c .refused2 .ensures))
+    (λ c κs. search needs)
+    (λ c κs. search needs)
+    (λ c. let d = c .before in way-refused _ _ _ _ _ 2 (omega arith) (λ z. omega arith) (site (d .before .before)) (sym (d .before .well-listed .ensures) ∙ not-true _ (d .if3 .taken)) _ (c .refused3 .ensures))
+    (λ c κs. search needs)
+    (λ c κs. search needs)
+    (λ c. let d = c .before in way-refused _ _ _ _ _ 3 (omega arith) (λ z. omega arith) (list (d .before .before)) (some-bad _ _ (d .before .first-bad .ensures) (d .if4 .taken)) _ (c .refused4 .ensures ∙ ap (refused 6) (d .before .first-bad .ensures)))
+    (λ c κs. formed-places _ (formed (in-form (of-site (with-list c))) .1))
+    (λ c κs. search needs)
+    (λ c. let d = c .before in way-refused _ _ _ _ _ 4 (omega arith) (λ z. omega arith) (good (d .before .before)) (ap not (sym (d .before .forked .ensures) ∙ d .if5 .taken)) _ (c .refused5 .ensures))
+    (λ c κs.
+    let u = c .before in
+    let h = unforked u in
+    (record { formed = h .0 .0 .0 .0 .1; sized = formed-places _ (h .0 .0 .0 .0 .1); unforked = sym (u .before .forked .ensures) ∙ u .if5 .left }, listed _ (h .0 .0 .1)))
     (λ c. search needs)
-    returns-6)
+    (λ c. let w = c .before .before in way-written _ _ _ _ _ (unforked (w .before .before)) _ _ (w .write-next .ensures .0) (w .write-next .ensures .1)))

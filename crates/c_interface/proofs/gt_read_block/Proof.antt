@@ -5,8 +5,8 @@ use types.Run.{OneOf}
 use denote.Enum.Declared.{tagOf}
 use borrow.Author.Needs.{needs}
 use Rattle.base.specs.Bytes.{Bytes}
+use Rattle.answer.specs.declared.Answer.{Answer}
 use Rattle.block.specs.Reading.{reading, answerOf}
-use Rattle.block.specs.declared.Answer.{Answer}
 use Rattle.block.specs.declared.Fields.{Fields}
 use Rattle.block.specs.declared.Reading.{Reading}
 use Rattle.block.specs.declared.Reading.the-variants.{Block}
@@ -33,9 +33,9 @@ returns c =
 
 returns-2 : tie.Need-returns-2
 returns-2 c =
-    let m = c .before in
-    way-accepted _ _ _ (m .before .before .read-block .ensures) (m .reading .given .1)
+    let m = c .before .before in
+    rw (c .success .ensures) (way-accepted _ _ _ (m .before .before .read-block .ensures) (m .reading .given .1))
 
 pub gt-read-block-spec : {M : Type 1} → statement M
 gt-read-block-spec =
-    tie.close (tie.spec (λ c κs. search needs) (λ c. search needs) (λ c κs. search needs) returns returns-2)
+    tie.close (tie.spec (λ c κs. search needs) (λ c. search needs) (λ c κs. search needs) returns (λ c κs. search needs) returns-2)

@@ -11,15 +11,15 @@ use borrow.Author.Needs.{needs}
 use borrow.Author.Tests.{eq-eqb, ne-eqb, le-leb, lt-leb, not-true, not-false}
 use Rattle.base.specs.Bytes.{Bytes}
 use Rattle.sha256.specs.Sha256.{sha256}
-use Rattle.block.specs.Answers.{putAnswers}
-use Rattle.block.specs.declared.Answer.{Answer}
-use Rattle.table.specs.Checks.{refused, answerTo}
-use Rattle.admission.specs.Admission.{admission, admitted}
-use Rattle.admission.proofs.Kept.{refused-table}
+use Rattle.answer.specs.Buffer.{putAnswers}
+use Rattle.answer.specs.declared.Answer.{Answer}
+use Rattle.answer.specs.Checks.{refused, answerTo}
 use Rattle.shelf.specs.Layout.{Waiting, waitingIn, shelfBytes}
 use Rattle.shelf.specs.Rules.{campaignCount, maxCampaign, hasPlace}
 use Rattle.shelf.specs.Form.{inForm}
 use Rattle.shelf.proofs.Formed.{formed-of}
+use Rattle.admission.specs.Admission.{admission, admitted}
+use Rattle.admission.proofs.Kept.{refused-table}
 use Rattle.campaigns.specs.Passes.{Try, outcomesOf, settled}
 use Rattle.campaigns.specs.Arriving.{Arrived, Called, outcomesSize, listed, arrived, arrival}
 use Rattle.campaigns.specs.Steps.{shelvedAt}
@@ -127,8 +127,8 @@ module _ (t s : Bytes) (c : ℕ) (b : Bytes) (verdict : ℕ) (o : List ℕ) wher
 
 -- ---- the places of the walk
 
-abbrev start-of : tie.Else1 → tie.Start
-start-of c = c .before .before .before .before .before
+abbrev start-of : tie.After-slice-known3 → tie.Start
+start-of c = c .before .before .before .before
 
 abbrev form-of : tie.After-admit → tie.Else3
 form-of c = c .before .before
@@ -137,42 +137,49 @@ abbrev room-of : tie.Else3 → tie.Else2
 room-of c = c .before .before .before
 
 abbrev start : tie.After-admit → tie.Start
-start c = start-of (room-of (form-of c) .before)
+start c = start-of (room-of (form-of c) .before .before)
+
+-- admission has answered, by 9 or by another number
+abbrev answered-of : tie.After-struct-known → tie.After-admit
+answered-of c = c .before .before .before
 
 abbrev shelved-of : tie.After-shelve-arg → tie.After-admit
-shelved-of c = c .before .before .before .before .before
+shelved-of c = answered-of (c .before .before)
 
 abbrev other-of : tie.Else4 → tie.After-admit
-other-of c = c .before .before .before .before
+other-of c = answered-of (c .before)
 
 abbrev taken-of : tie.Else5 → tie.Else4
 taken-of c = c .before .before
 
-abbrev settle-of : tie.After-settle → tie.Else5
-settle-of c = c .before .before .before .before
+abbrev settle-of : tie.After-settle-arg3 → tie.Else5
+settle-of c = c .before .before .before
+
+abbrev settled-of : tie.After-slice-known8 → tie.After-settle
+settled-of c = c .before .before .before .before .before .before
 
 -- the shelf is in form
-formed : (c : tie.Else3) → inForm (start-of (room-of c .before) .args .shelf .now) ≡ true
+formed : (c : tie.Else3) → inForm (start-of (room-of c .before .before) .args .shelf .now) ≡ true
 formed c = sym (c .before .in-form .ensures) ∙ not-false _ (c .if3 .left)
 
 returns : tie.Need-returns
 returns c =
     let d = c .before in
-    let q = d .before .before .before .before .before .args in
+    let q = start-of (d .before) .args in
     way21 (q .table .now) (q .shelf .now) (q .campaign) (q .block .now) (q .verdict) (q .outcomes .now) (d .if1 .taken) _ (c .plain .ensures)
 
 returns-2 : tie.Need-returns-2
 returns-2 c =
     let d = c .before in
     let e = d .before in
-    let q = start-of e .args in
+    let q = start-of (e .before) .args in
     way17 (q .table .now) (q .shelf .now) (q .campaign) (q .block .now) (q .verdict) (q .outcomes .now) (e .if1 .left) (d .if2 .taken) _ (c .plain2 .ensures)
 
 returns-3 : tie.Need-returns-3
 returns-3 c =
     let d = c .before in
     let f = d .before .before .before in
-    let q = start-of (f .before) .args in
+    let q = start-of (f .before .before) .args in
     way2 (q .table .now) (q .shelf .now) (q .campaign) (q .block .now) (q .verdict) (q .outcomes .now) (f .before .if1 .left) (f .if2 .left)
     (sym (d .before .in-form .ensures) ∙ not-true _ (d .if3 .taken)) _ (c .plain3 .ensures)
 
@@ -203,13 +210,10 @@ returns-5 c =
     way-refused (q .table .now) (q .shelf .now) (q .campaign) (q .block .now) (q .verdict) (q .outcomes .now) (room-of f .before .if1 .left) (room-of f .if2 .left)
     (formed f) _ _ (d .admit .ensures .0) (d .admit .ensures .1) (e .if4 .left) (c .before .if5 .taken) _ (c .plain5 .ensures)
 
-settle-requires : tie.Need-settle-requires
-settle-requires c κs = formed-of _ (formed (form-of (other-of (taken-of (c .before .before .before))))) .laid
-
 returns-6 : tie.Need-returns-6
 returns-6 c =
-    let u = c .before .before .before .before .before .before in
-    let e = settle-of u in
+    let u = settled-of c in
+    let e = settle-of (u .before) in
     let d = other-of (taken-of e) in
     let f = form-of d in
     let q = start d .args in
@@ -240,7 +244,7 @@ arrive-spec =
     (λ c. search needs)
     (λ c. search needs)
     returns-5
-    settle-requires
+    (λ c κs. formed-of _ (formed (form-of (other-of (taken-of (settle-of c))))) .laid)
     (λ c. search needs)
     (λ c. search needs)
     (λ c. search needs)

@@ -7,7 +7,7 @@ use native.Mathlib.Omega.{arith}
 use lib.ListN.{length}
 use Rattle.base.specs.Bytes.{Bytes}
 use Rattle.sha256.specs.Sha256.{sha256}
-use Rattle.block.specs.Answers.{putAnswers}
+use Rattle.answer.specs.Buffer.{putAnswers}
 use Rattle.shelf.specs.Layout.{waitingIn, shelfBytes}
 use Rattle.campaigns.specs.Passes.{outcomesOf, settled}
 use Rattle.campaigns.proofs.Left.{Came, restOf}
@@ -36,18 +36,15 @@ loop-holds c =
     let q = c .before .before .before .pre in
     record { passable = record { laid = q; few = omega (arith, q .few) }; left = refl; table = refl; shelf = refl; outcomes = refl }
 
-pass-over-requires : tie.Need-pass-over-requires Inv-loop μ-loop
-pass-over-requires c κs = c .before .before .before .before .loop .inv .passable
-
 abbrev pass-of : tie.After-slice-known6 Inv-loop μ-loop → tie.After-pass-over Inv-loop μ-loop
 pass-of c = c .before .before .before .before .before .before
 
-abbrev loop-of : tie.After-pass-over Inv-loop μ-loop → tie.In-loop Inv-loop μ-loop
-loop-of c = c .before .before .before .before
+abbrev loop-of : tie.After-pass-over-arg3 Inv-loop μ-loop → tie.In-loop Inv-loop μ-loop
+loop-of c = c .before .before .before
 
 loop-less : tie.Need-loop-less Inv-loop μ-loop
 loop-less c =
-    let d = loop-of (pass-of c) in
+    let d = loop-of (pass-of c .before) in
     let l = d .before .loop in
     let u = pass-of c .pass-over in
     settles-down _ _ _ _ _ _ _ _ _ (l .inv) (d .loop-test .taken) (u .last .0) (u .last .1 .0) (u .last .1 .1 .1 .0) (u .result .ended) (u .result .admitted)
@@ -55,16 +52,11 @@ loop-less c =
 
 loop-again : tie.Need-loop-again Inv-loop μ-loop
 loop-again c =
-    let d = loop-of (pass-of c) in
+    let d = loop-of (pass-of c .before) in
     let l = d .before .loop in
     let u = pass-of c .pass-over in
     settles-on _ _ _ _ _ _ _ _ _ (l .inv) (d .loop-test .taken) (u .last .0) (u .last .1 .0) (u .last .1 .1 .1 .0) (u .result .ended) (u .result .admitted)
     (u .ensures .0) (u .ensures .1 .0) (u .ensures .1 .1 .0) (u .ensures .1 .1 .1 .0) (u .ensures .1 .1 .1 .1) (u .kept .0) (u .kept .1 .0) (u .kept .1 .1 .1 .0)
-
-returns : tie.Need-returns Inv-loop μ-loop
-returns c =
-    let l = c .before .loop in
-    done _ _ _ _ _ _ _ _ (rw (c .loop-test .left) at (l .inv))
 
 pub settle-spec : {M : Type 1} → statement M
 settle-spec =
@@ -73,10 +65,10 @@ settle-spec =
     Inv-loop
     μ-loop
     loop-holds
-    pass-over-requires
+    (λ c κs. loop-of c .before .loop .inv .passable)
     loop-less
     loop-again
     (λ c. c .before .loop .inv .table)
     (λ c. c .before .loop .inv .shelf)
     (λ c. c .before .loop .inv .outcomes)
-    returns)
+    (λ c. let l = c .before .loop in done _ _ _ _ _ _ _ _ (rw (c .loop-test .left) at (l .inv))))

@@ -8,8 +8,8 @@ use borrow.Author.Needs.{needs}
 use borrow.Author.Tests.{not-true, not-false}
 use mathlib.Core.List.{List}
 use Rattle.base.specs.Bytes.{Bytes}
-use Rattle.block.specs.declared.Answer.{Answer}
-use Rattle.table.specs.Checks.{refused}
+use Rattle.answer.specs.declared.Answer.{Answer}
+use Rattle.answer.specs.Checks.{refused}
 use Rattle.shelf.specs.Layout.{maxWaiting, Waiting, waitingIn, shelfBytes}
 use Rattle.shelf.specs.Rules.{hasPlace, waits}
 use Rattle.shelf.proofs.Laid.{laid-sized, laid-fits}
@@ -27,14 +27,14 @@ module _ (s : Bytes) (c : ℕ) (b : Bytes) (a : Answer) (h : Shelvable s b) wher
   abbrev Promised : Answer → Bytes → Type 0
   Promised r s′ = (r ≡ shelvedAt a s c b .answer) × (s′ ≡ shelfBytes (shelvedAt a s c b .waiting))
 
-  way20 : waits c b (waitingIn s) ≡ true → Promised (refused 20 0) s
+  way20 : waits c b (waitingIn s) ≡ true → (r : Answer) → r ≡ refused 20 0 → Promised r s
   unfolding shelved
-  way20 y = (rw y, rw y (h .laid .bytes))
+  way20 y r e = (rw y e, rw y (h .laid .bytes))
 
   module _ (new : waits c b (waitingIn s) ≡ false) where
-    way19 : hasPlace c (waitingIn s) ≡ false → Promised (refused 19 0) s
+    way19 : hasPlace c (waitingIn s) ≡ false → (r : Answer) → r ≡ refused 19 0 → Promised r s
     unfolding shelved
-    way19 n = (rw (new, n), rw (new, n) (h .laid .bytes))
+    way19 n r e = (rw (new, n) e, rw (new, n) (h .laid .bytes))
 
     way9 : hasPlace c (waitingIn s) ≡ true → (s′ : Bytes) → s′ ≡ shelfBytes (behind (waitingIn s) c b) → Promised a s′
     unfolding shelved
@@ -60,14 +60,16 @@ placed c = sym (c .before .has-place .ensures) ∙ not-false _ (c .if2 .left)
 
 returns : tie.Need-returns
 returns c =
-    let q = start-of (c .before) in
-    way20 (q .args .shelf .now) (q .args .campaign) (q .args .block .now) (q .args .missing) (q .pre) (sym (c .before .waits-from .ensures) ∙ c .if1 .taken)
+    let d = c .before in
+    let q = start-of (d .before) in
+    way20 (q .args .shelf .now) (q .args .campaign) (q .args .block .now) (q .args .missing) (q .pre) (sym (d .before .waits-from .ensures) ∙ d .if1 .taken) _ (c .refused .ensures)
 
 returns-2 : tie.Need-returns-2
 returns-2 c =
-    let q = start-of-place (c .before) in
-    way19 (q .args .shelf .now) (q .args .campaign) (q .args .block .now) (q .args .missing) (q .pre) (new (waits-of (c .before)))
-    (sym (c .before .has-place .ensures) ∙ not-true _ (c .if2 .taken))
+    let d = c .before in
+    let q = start-of-place (d .before) in
+    way19 (q .args .shelf .now) (q .args .campaign) (q .args .block .now) (q .args .missing) (q .pre) (new (waits-of (d .before)))
+    (sym (d .before .has-place .ensures) ∙ not-true _ (d .if2 .taken)) _ (c .refused2 .ensures)
 
 put-on-requires : tie.Need-put-on-requires
 put-on-requires c κs =
@@ -86,9 +88,11 @@ shelve-spec =
     tie.close
     (tie.spec
     (λ c κs. laid-fits _ _ (c .before .before .before .pre .laid))
+    (λ c κs. search needs)
     (λ c. search needs)
     returns
     (λ c κs. laid-sized _ _ (start-of (c .before .before) .pre .laid))
+    (λ c κs. search needs)
     (λ c. search needs)
     returns-2
     put-on-requires

@@ -23,16 +23,17 @@ loop-holds c = (omega arith, put-start _ _ (c .before .pre .1))
 has-room : (c : tie.Then1 Inv-loop μ-loop) → c .before .before .before .loop .count < maxReferences
 has-room c =
     let m = c .before in
-    let l = m .before .before .loop in
-    let s = m .before .before .before .before in
+    let d = m .before .before in
+    let l = d .loop in
+    let s = d .before .before in
     omega (arith, l .inv .1 .counted, room (inMask (s .args .references)) (l .j) maxPlaces maxReferences (omega arith) (sym (m .in-mask .ensures) ∙ c .if1 .taken) (s .pre .2))
 
 loop-again : tie.Need-loop-again Inv-loop μ-loop
 loop-again c =
     let m = c .before in
-    let l = m .before .before .loop in
-    let s = m .before .before .before .before in
-    let f = inMask (s .args .references) in (
+    let d = m .before .before in
+    let l = d .loop in
+    let f = inMask (d .before .before .args .references) in (
       omega arith,
       ⊎-elim
           (λ w.

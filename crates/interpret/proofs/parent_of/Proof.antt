@@ -26,6 +26,10 @@ loop-holds : tie.Need-loop-holds Inv-loop μ-loop
 unfolding parentFirst
 loop-holds c = (omega arith, refl)
 
+-- where the code starts
+abbrev start : tie.After-site-at Inv-loop μ-loop → tie.Start Inv-loop μ-loop
+start c = c .before .before .before
+
 -- of two tests the first of which passes
 both : (x y t : Bool) → x ≡ true → t ≡ (x && y) → y ≡ t
 both true y t e q = sym q
@@ -35,7 +39,7 @@ both false y t e q = true-not-false e refl
 held : (c : tie.After-wide Inv-loop μ-loop) → c .wide .result < maxPlaces
 held c =
     let i = c .before .before in
-    let s = i .before .before .before .before .before .before in
+    let s = start (i .before .before .before) in
     omega (arith, c .wide .ensures, place-listed (s .args .table .now) (s .args .place) (s .args .places .now) (s .pre .2) (i .before .loop .k) (i .loop-test .taken) .0)
 
 loop-again : tie.Need-loop-again Inv-loop μ-loop
@@ -45,7 +49,7 @@ loop-again c =
     let i = w .before .before in
     let l = i .before .loop in
     let n = i .before .before in
-    let s = n .before .before .before .before in
+    let s = start (n .before) in
     let a = s .args in
     let v = viewOf (a .table .now) in
     let r = rowAt (a .table .now) (a .place) in
@@ -58,12 +62,6 @@ loop-again c =
           (λ w₁. w₁ .1 ∙ l .inv .1 ∙ parent-out v r (a .places .now) (l .k) _ (w .wide .ensures) (e ∙ w₁ .0 .left))
           (c .if1 .came),
     )
-
-returns : tie.Need-returns Inv-loop μ-loop
-returns c =
-    let l = c .before .loop in
-    let e : l .k ≡ length (c .before .before .before .before .before .before .args .places .now) = omega arith in
-    rw e at (l .inv .1)
 
 pub parent-of-spec : {M : Type 1} → statement M
 parent-of-spec =
@@ -80,4 +78,4 @@ parent-of-spec =
     (λ c. search needs)
     (λ c. search needs)
     loop-again
-    returns)
+    (λ c. let l = c .before in let e : l .loop .k ≡ length (start (l .before .before) .args .places .now) = omega arith in rw e at (l .loop .inv .1)))

@@ -8,14 +8,14 @@ use lib.Seq.{length-take-le, take-all}
 use borrow.Author.Needs.{needs}
 use Rattle.base.specs.List.{listBelow}
 use Rattle.base.specs.Bytes.{Bytes, joined}
-use Rattle.block.specs.Limits.{slotCount}
-use Rattle.broadcast.specs.Record.{recordSize, flatten}
+use Rattle.setup.specs.Setup.{slotCount}
 use Rattle.table.specs.Layout.{setupOf, viewOf}
-use Rattle.interpret.specs.Buffer.{partSize, numbersOf}
+use Rattle.records.specs.Layout.{recordSize, flatten, partSize, numbersOf}
+use Rattle.records.proofs.Typed.{held-sized}
+use Rattle.records.proofs.Flattened.{flatten-length}
+use Rattle.records.proofs.Parts.{put-more}
 use Rattle.interpret.specs.Interpretation.{recordFor}
 use Rattle.interpret.specs.Steps.{referredBy}
-use Rattle.interpret.proofs.Parts.{flatten-length}
-use Rattle.interpret.proofs.Typed.{held-sized, put-more}
 use Rattle.interpret.proofs.place_records.Statement.{statement}
 use Rattle.interpret.proofs.place_records.Tie as tie
 
@@ -30,10 +30,15 @@ Inv-loop table place records references list count parent out₀ slot₀ out slo
 abbrev μ-loop : tie.MeasureT-loop
 μ-loop table place records references list count parent out₀ slot₀ out slot = slotCount - slot
 
-list-places-requires : tie.Need-list-places-requires Inv-loop μ-loop
-list-places-requires c κs =
-    let p = c .before .before .before .before .pre in
-    (omega (arith, p .place), refl, rw (c .before .references-at .ensures) (p .fewReferences))
+-- the places on the way, each from the next one
+abbrev start : tie.After-references-at Inv-loop μ-loop → tie.Start Inv-loop μ-loop
+start c = c .before .before .before
+
+abbrev references : tie.After-list-places Inv-loop μ-loop → tie.After-references-at Inv-loop μ-loop
+references c = c .before .before
+
+abbrev places-listed : tie.After-parent-of Inv-loop μ-loop → tie.After-list-places Inv-loop μ-loop
+places-listed c = c .before .before .before
 
 -- the list has room for the places referred to
 fits : (c : tie.After-list-places Inv-loop μ-loop) → c .list-places .result ≤ length (c .list-places .last .1 .1 .0)
@@ -43,21 +48,9 @@ counted : (c : tie.After-list-places Inv-loop μ-loop) → c .list-places .resul
 counted c = sym (length-take-le _ _ (fits c))
 
 -- its front has them
-are-listed : (c : tie.After-list-places Inv-loop μ-loop) → let s = c .before .before .before .before .before in
+are-listed : (c : tie.After-list-places Inv-loop μ-loop) → let s = start (references c) in
     take (c .list-places .result) (c .list-places .last .1 .1 .0) ≡ referredBy (s .args .table .now) (s .args .place)
-are-listed c = rw (c .before .before .references-at .ensures) at (c .list-places .ensures .1)
-
-parent-of-requires : tie.Need-parent-of-requires Inv-loop μ-loop
-parent-of-requires c κs = let r = c .before .before .before .before in
-    let p = r .before .before .before .pre in
-    (record { size = p .size; place = p .place }, r .references-at .ensures, are-listed (c .before .before))
-
-slot-record-requires : tie.Need-slot-record-requires Inv-loop μ-loop
-slot-record-requires c κs =
-    let o = c .before .before .before in
-    let m = o .before .before .before in
-    let p = m .before .before .before .before .before .pre in
-    (record { ready = p; listed = are-listed m; below = omega arith }, o .parent-of .ensures)
+are-listed c = rw (references c .references-at .ensures) at (c .list-places .ensures .1)
 
 loop-holds : tie.Need-loop-holds Inv-loop μ-loop
 unfolding joined listBelow
@@ -67,8 +60,9 @@ loop-again : tie.Need-loop-again Inv-loop μ-loop
 loop-again c =
     let p = c .before in
     let r = p .before .before in
-    let l = r .before .before .before .loop in
-    let a = r .before .before .before .before .before .before .before .before .before .before .before .before .args in (
+    let d = r .before .before .before in
+    let l = d .loop in
+    let a = start (references (places-listed (d .before))) .args in (
       omega arith,
       search needs,
       put-more (numbersIn (a .table .now) (a .place) (a .records .now)) (l .out) _ _ (l .slot) (omega arith) (l .inv .2) (ap flatten (r .slot-record .ensures))
@@ -77,10 +71,7 @@ loop-again c =
 
 returns : tie.Need-returns Inv-loop μ-loop
 unfolding numbersOf
-returns c =
-    let l = c .before .loop in
-    let e : l .slot ≡ slotCount = omega arith in
-    sym (take-all partSize (l .out) (omega arith)) ∙ (rw e at (l .inv .2))
+returns c = let l = c .before .loop in let e : l .slot ≡ slotCount = omega arith in sym (take-all partSize (l .out) (omega arith)) ∙ (rw e at (l .inv .2))
 
 pub place-records-spec : {M : Type 1} → statement M
 place-records-spec =
@@ -90,15 +81,14 @@ place-records-spec =
     μ-loop
     (λ c κs. search needs)
     (λ c. search needs)
-    list-places-requires
+    (λ c κs. let p = start (c .before) .pre in (omega (arith, p .place), refl, rw (c .before .references-at .ensures) (p .fewReferences)))
     (λ c. fits (c .before))
     (λ c. counted (c .before .before))
-    parent-of-requires
+    (λ c κs. let m = c .before .before in let p = start (references m) .pre in (record { size = p .size; place = p .place }, references m .references-at .ensures, are-listed m))
     loop-holds
-    (λ c. fits (c .before .before .before .before .before))
-    (λ c. counted (c .before .before .before .before .before .before))
-    slot-record-requires
-    (λ c. search needs)
+    (λ c. fits (places-listed (c .before .before)))
+    (λ c. counted (places-listed (c .before .before .before)))
+    (λ c κs. let o = c .before .before .before in let m = places-listed o in (record { ready = start (references m) .pre; listed = are-listed m; below = omega arith }, o .parent-of .ensures))
     (λ c. search needs)
     (λ c κs. search needs)
     (λ c. search needs)

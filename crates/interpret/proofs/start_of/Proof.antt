@@ -13,7 +13,7 @@ returns-2 : tie.Need-returns-2
 unfolding stateAt
 returns-2 c =
     let e = c .before .before in
-    rw (lt-ltb _ _ (e .if1 .left), c .before .record-at .ensures, e .before .empty .ensures)
+    rw (lt-ltb _ _ (e .if1 .left), c .before .record-in .ensures, e .before .empty .ensures)
 
 pub start-of-spec : {M : Type 1} → statement M
 start-of-spec =
@@ -21,8 +21,5 @@ start-of-spec =
     (tie.spec
     (λ c κs. search needs)
     returns
-    (λ c. search needs)
-    (λ c. search needs)
-    (λ c. search needs)
     (λ c κs. search needs)
     returns-2)

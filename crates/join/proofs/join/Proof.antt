@@ -26,7 +26,7 @@ join-blocks-requires c κs =
 
 returns-2 : tie.Need-returns-2
 returns-2 c =
-    let blocks = c .before .before .before .before in
+    let lent = c .before .before in let blocks = lent .before .before in
     let pass = pass-of blocks in
     let sides = pass .before .before in
     let a = start-of sides .args in

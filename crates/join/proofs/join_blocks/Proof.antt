@@ -7,73 +7,67 @@ use Rattle.join.proofs.join_blocks.Tie as tie
 
 -- ---- the blocks are looked up
 
-abbrev start-of : tie.After-place-all → tie.Start
-start-of c = c .before .before .before .before .before .before .before .before
+abbrev start : tie.After-in-right → tie.Start
+start c = c .before .before .before .before .before .before .before
 
 place-all-requires : tie.Need-place-all-requires
 place-all-requires c κs =
-    let p = c .before .before .before .before .before .before .before .pre .unretired .isWhole in
+    let p = start c .pre .unretired .isWhole in
     (record { leftFormed = p .rightFormed; rightFormed = p .leftFormed }, search needs)
 
-abbrev there-of : tie.After-place-all2 → tie.After-place-all
-there-of c = c .before .before .before .before
+abbrev there-of : tie.After-places → tie.After-place-all
+there-of c = c .before .before .before
 
 abbrev formed : (s : tie.Start) → BothFormed (s .args .left .now) (s .args .right .now)
 formed s = record { leftFormed = s .pre .unretired .isWhole .leftFormed; rightFormed = s .pre .unretired .isWhole .rightFormed }
 
-place-all-requires-2 : tie.Need-place-all-requires-2
-place-all-requires-2 c κs = (formed (start-of (c .before .before .before)), search needs)
-
 -- ---- their checks
 
-abbrev back-of : tie.After-blocks-answer → tie.After-place-all2
-back-of c = c .before .before .before .before .before
+abbrev back-of : tie.After-in-right3 → tie.After-place-all2
+back-of c = c .before .before .before
 
 blocks-answer-requires : tie.Need-blocks-answer-requires
 blocks-answer-requires c κs =
-    let back = c .before .before .before .before in
-    let there = there-of back in
-    (formed (start-of there), there .place-all .ensures, back .place-all2 .ensures)
+    let back = back-of (c .before) in
+    let there = there-of (back .before) in
+    (formed (start (there .before)), there .place-all .ensures, back .place-all2 .ensures)
 
 abbrev answer-of : tie.After-struct-known → tie.After-blocks-answer
 answer-of c = c .before .before
 
-abbrev start-at : tie.After-blocks-answer → tie.Start
-start-at c = start-of (there-of (back-of c))
+abbrev there-at : tie.After-blocks-answer → tie.After-place-all
+there-at c = there-of (back-of (c .before .before) .before)
 
 returns : tie.Need-returns
 returns c =
     let answer = answer-of (c .before) in
-    let s = start-at answer in
+    let s = start (there-at answer .before) in
     let a = s .args in
     as-was (a .left .now) (a .right .now) (a .left-records .now) (a .right-records .now) (a .third .now) (s .pre) _ (answer .blocks-answer .ensures .0) (c .if1 .taken)
 
 -- ---- what they allow
 
+abbrev pass-of : tie.After-places5 → tie.Else1
+pass-of c = c .before .before .before
+
 join-sides-requires : tie.Need-join-sides-requires
 join-sides-requires c κs =
-    let pass = c .before .before .before .before in
+    let pass = pass-of (c .before) in
     let answer = answer-of (pass .before) in
-    let s = start-at answer in
+    let s = start (there-at answer .before) in
     let a = s .args in
     let e = answer .blocks-answer .ensures in (
       passed (a .left .now) (a .right .now) (a .left-records .now) (a .right-records .now) (a .third .now) (s .pre) _ (e .0) (pass .if1 .left),
-      there-of (back-of answer) .place-all .ensures,
+      there-at answer .place-all .ensures,
       e .1 (pass .if1 .left),
     )
 
-abbrev sides-of : tie.After-slice-known4 → tie.After-join-sides
-sides-of c = c .before .before .before .before
-
-abbrev pass-of : tie.After-join-sides → tie.Else1
-pass-of c = c .before .before .before .before .before
-
 returns-2 : tie.Need-returns-2
 returns-2 c =
-    let sides = sides-of c in
-    let pass = pass-of sides in
+    let lent = c .before .before in let sides = lent .before .before in
+    let pass = pass-of (sides .before .before) in
     let answer = answer-of (pass .before) in
-    let s = start-at answer in
+    let s = start (there-at answer .before) in
     let a = s .args in
     as-joined (a .left .now) (a .right .now) (a .left-records .now) (a .right-records .now) (a .third .now) (s .pre) _ (answer .blocks-answer .ensures .0) (pass .if1 .left) _ _
     (sides .join-sides .ensures .0) (sides .join-sides .ensures .1)
@@ -85,7 +79,7 @@ join-blocks-spec =
     (λ c. search needs)
     place-all-requires
     (λ c. search needs)
-    place-all-requires-2
+    (λ c κs. (formed (start (there-of c .before)), search needs))
     (λ c. search needs)
     (λ c. search needs)
     blocks-answer-requires

@@ -4,42 +4,22 @@ use Rattle.join.proofs.Copied.{all-copied}
 use Rattle.join.proofs.join_sides.Statement.{statement}
 use Rattle.join.proofs.join_sides.Tie as tie
 
--- the three steps, and the start
-abbrev rows-of : tie.After-slice-known5 → tie.After-join-rows
-rows-of c = c .before .before
+-- the places on the way, each from the next one
+abbrev extras-of : tie.After-join-rows-arg → tie.After-copy-extras
+extras-of c = c .before .before .before
 
-abbrev extras-of : tie.After-join-rows → tie.After-copy-extras
-extras-of c = c .before .before .before .before
+abbrev left-of : tie.After-copy-extras-arg → tie.After-copy-left
+left-of c = c .before .before .before
 
-abbrev left-of : tie.After-copy-extras → tie.After-copy-left
-left-of c = c .before .before .before .before .before
-
-abbrev start-of : tie.After-copy-left → tie.Start
-start-of c = c .before .before .before .before .before .before .before .before .before .before
-
-copy-left-requires : tie.Need-copy-left-requires
-copy-left-requires c κs =
-    let p = c .before .before .before .before .before .before .before .before .before .pre in
-    (p .0 .joinable, p .0 .sides, p .1, search needs)
-
-copy-extras-requires : tie.Need-copy-extras-requires
-copy-extras-requires c κs =
-    let left = c .before .before .before .before in
-    let p = start-of left .pre in
-    (p .0 .joinable, p .0 .sides, p .2, search needs)
-
-join-rows-requires : tie.Need-join-rows-requires
-join-rows-requires c κs =
-    let left = left-of (c .before .before .before) in
-    let p = start-of left .pre in
-    (p .0 .joinable, p .2)
+abbrev start : tie.After-copy-left-arg2 → tie.Start
+start c = c .before .before .before .before .before .before .before .before .before
 
 returns : tie.Need-returns
 returns c =
-    let rows = rows-of c in
-    let extras = extras-of rows in
-    let left = left-of extras in
-    let s = start-of left in
+    let rows = c .before .before in
+    let extras = extras-of (rows .before) in
+    let left = left-of (extras .before .before) in
+    let s = start (left .before) in
     let a = s .args in (
       rows .join-rows .ensures,
       all-copied (a .left .now) (a .right .now) (a .left-records .now) (a .right-records .now) (a .third .now) (s .pre .0) _ _ (left .copy-left .ensures) (extras .copy-extras .ensures),
@@ -49,9 +29,9 @@ pub join-sides-spec : {M : Type 1} → statement M
 join-sides-spec =
     tie.close
     (tie.spec
-    copy-left-requires
-    copy-extras-requires
-    join-rows-requires
+    (λ c κs. let p = start c .pre in (p .0 .joinable, p .0 .sides, p .1, search needs))
+    (λ c κs. let p = start (left-of (c .before) .before) .pre in (p .0 .joinable, p .0 .sides, p .2, search needs))
+    (λ c κs. let p = start (left-of (extras-of c .before .before) .before) .pre in (p .0 .joinable, p .2))
     (λ c. search needs)
     (λ c. search needs)
     returns)

@@ -20,8 +20,9 @@ start-of c = c .before .before .before
 
 returns : tie.Need-returns
 returns c =
-    let a = start-of (c .before) .args in
-    way2 (a .left .now) (a .right .now) (a .left-size) (a .right-size) (a .size) (sym (c .before .in-form .ensures) ∙ not-true _ (c .if1 .taken))
+    let b = c .before in
+    let a = start-of (b .before) .args in
+    rw (c .refused .ensures) (way2 (a .left .now) (a .right .now) (a .left-size) (a .right-size) (a .size) (sym (b .before .in-form .ensures) ∙ not-true _ (b .if1 .taken)))
 
 left-formed : (c : tie.Else1) → inForm (start-of (c .before) .args .left .now) ≡ true
 left-formed c = sym (c .before .in-form .ensures) ∙ not-false _ (c .if1 .left)
@@ -31,9 +32,11 @@ left-of c = c .before
 
 returns-2 : tie.Need-returns-2
 returns-2 c =
-    let one = left-of (c .before) in
+    let b = c .before in
+    let one = left-of (b .before) in
     let a = start-of (one .before) .args in
-    way2-right (a .left .now) (a .right .now) (a .left-size) (a .right-size) (a .size) (left-formed one) (sym (c .before .in-form2 .ensures) ∙ not-true _ (c .if2 .taken))
+    rw (c .refused2 .ensures)
+    (way2-right (a .left .now) (a .right .now) (a .left-size) (a .right-size) (a .size) (left-formed one) (sym (b .before .in-form2 .ensures) ∙ not-true _ (b .if2 .taken)))
 
 abbrev start-at : tie.Else2 → tie.Start
 start-at c = start-of (left-of (c .before) .before)
@@ -45,21 +48,26 @@ formed c = record { leftFormed = left-formed (left-of (c .before)); rightFormed 
 
 returns-3 : tie.Need-returns-3
 returns-3 c =
-    let a = start-at (c .before) .args in
-    way12-left (a .left .now) (a .right .now) (a .left-size) (a .right-size) (a .size) (formed (c .before)) (c .if3 .taken)
+    let b = c .before in
+    let a = start-at (b .before) .args in
+    rw (c .refused3 .ensures) (way12-left (a .left .now) (a .right .now) (a .left-size) (a .right-size) (a .size) (formed (b .before)) (b .if3 .taken))
 
 returns-4 : tie.Need-returns-4
 returns-4 c =
-    let three = c .before in
+    let b = c .before in
+    let three = b .before in
     let a = start-at (three .before) .args in
-    way12-right (a .left .now) (a .right .now) (a .left-size) (a .right-size) (a .size) (formed (three .before)) (three .if3 .left) (c .if4 .taken)
+    rw (c .refused4 .ensures)
+    (way12-right (a .left .now) (a .right .now) (a .left-size) (a .right-size) (a .size) (formed (three .before)) (three .if3 .left) (b .if4 .taken))
 
 returns-5 : tie.Need-returns-5
 returns-5 c =
-    let four = c .before in
+    let b = c .before in
+    let four = b .before in
     let three = four .before in
     let a = start-at (three .before) .args in
-    way12 (a .left .now) (a .right .now) (a .left-size) (a .right-size) (a .size) (formed (three .before)) (three .if3 .left) (four .if4 .left) (c .if5 .taken)
+    rw (c .refused5 .ensures)
+    (way12 (a .left .now) (a .right .now) (a .left-size) (a .right-size) (a .size) (formed (three .before)) (three .if3 .left) (four .if4 .left) (b .if5 .taken))
 
 -- ---- what has been retired, and setups
 
@@ -71,11 +79,13 @@ lengths c = let f = formed (three-of c .before) in (formed-of _ (f .leftFormed) 
 
 returns-6 : tie.Need-returns-6
 returns-6 c =
-    let five = c .before .before in
+    let b = c .before in
+    let five = b .before .before in
     let three = three-of five in
     let a = start-at (three .before) .args in
-    way31 (a .left .now) (a .right .now) (a .left-size) (a .right-size) (a .size) (formed (three .before)) (three .if3 .left) (five .before .if4 .left) (five .if5 .left)
-    (sym (c .before .neither-retired .ensures) ∙ not-true _ (c .if6 .taken))
+    rw (c .refused6 .ensures)
+    (way31 (a .left .now) (a .right .now) (a .left-size) (a .right-size) (a .size) (formed (three .before)) (three .if3 .left) (five .before .if4 .left) (five .if5 .left)
+    (sym (b .before .neither-retired .ensures) ∙ not-true _ (b .if6 .taken)))
 
 abbrev five-of : tie.Else6 → tie.Else5
 five-of c = c .before .before
@@ -85,35 +95,47 @@ unretired c = sym (c .before .neither-retired .ensures) ∙ not-false _ (c .if6 
 
 returns-7 : tie.Need-returns-7
 returns-7 c =
-    let six = c .before .before in
+    let b = c .before in
+    let six = b .before .before in
     let five = five-of six in
     let three = three-of five in
     let a = start-at (three .before) .args in
-    way23 (a .left .now) (a .right .now) (a .left-size) (a .right-size) (a .size) (formed (three .before)) (three .if3 .left) (five .before .if4 .left) (five .if5 .left)
-    (unretired six) (sym (c .before .same-setup .ensures) ∙ not-true _ (c .if7 .taken))
+    rw (c .refused7 .ensures)
+    (way23 (a .left .now) (a .right .now) (a .left-size) (a .right-size) (a .size) (formed (three .before)) (three .if3 .left) (five .before .if4 .left) (five .if5 .left)
+    (unretired six) (sym (b .before .same-setup .ensures) ∙ not-true _ (b .if7 .taken)))
 
 returns-8 : tie.Need-returns-8
 returns-8 c =
-    let six = c .before .before in
+    let b = c .before in
+    let six = b .before .before in
     let five = five-of six in
     let three = three-of five in
     let a = start-at (three .before) .args in
-    way-on (a .left .now) (a .right .now) (a .left-size) (a .right-size) (a .size) (formed (three .before)) (three .if3 .left) (five .before .if4 .left) (five .if5 .left)
-    (unretired six) (sym (c .before .same-setup .ensures) ∙ not-false _ (c .if7 .left))
+    rw (c .success .ensures)
+    (way-on (a .left .now) (a .right .now) (a .left-size) (a .right-size) (a .size) (formed (three .before)) (three .if3 .left) (five .before .if4 .left) (five .if5 .left)
+    (unretired six) (sym (b .before .same-setup .ensures) ∙ not-false _ (b .if7 .left)))
 
 pub sides-answer-spec : {M : Type 1} → statement M
 sides-answer-spec =
     tie.close
     (tie.spec
     (λ c κs. search needs)
+    (λ c κs. search needs)
     returns
     (λ c κs. search needs)
+    (λ c κs. search needs)
     returns-2
+    (λ c κs. search needs)
     returns-3
+    (λ c κs. search needs)
     returns-4
+    (λ c κs. search needs)
     returns-5
     (λ c κs. lengths c)
+    (λ c κs. search needs)
     returns-6
     (λ c κs. lengths (five-of c))
+    (λ c κs. search needs)
     returns-7
+    (λ c κs. search needs)
     returns-8)

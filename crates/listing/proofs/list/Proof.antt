@@ -18,15 +18,20 @@ Inv-loop table₀ records₀ input₀ output₀ progress₀ turns₀ table recor
 abbrev μ-loop : tie.MeasureT-loop
 μ-loop table₀ records₀ input₀ output₀ progress₀ turns₀ table records input output progress turns = turns
 
-turn-requires : tie.Need-turn-requires Inv-loop μ-loop
-turn-requires c κs = (c .before .before .before .before .before .loop .inv .4, omega arith, omega arith)
+-- ---- the places of the walk
+
+abbrev loop-of : tie.After-turn-arg4 Inv-loop μ-loop → tie.At-loop Inv-loop μ-loop
+loop-of c = c .before .before .before .before .before
+
+abbrev turn-of : tie.After-turns-left Inv-loop μ-loop → tie.After-turn Inv-loop μ-loop
+turn-of c = c .before .before .before .before .before .before .before .before .before
 
 loop-again : tie.Need-loop-again Inv-loop μ-loop
 loop-again c =
-    let t = c .before .before .before .before .before .before .before .before .before .turn in
-    let l = c .before .before .before .before .before .before .before .before .before .before .before .before .before .before .before .loop in
-    let k = t .kept in
-    (k .1 .0 ∙ l .inv .0, k .1 .1 .0 ∙ l .inv .1, k .1 .1 .1 .0 ∙ l .inv .2, k .1 .1 .1 .1 .0 ∙ l .inv .3, t .ensures .1 .0)
+    let t = turn-of c .turn in
+    let v = loop-of (turn-of c .before) .loop .inv in
+    let k = t .kept .1 in
+    (k .0 ∙ v .0, k .1 .0 ∙ v .1, k .1 .1 .0 ∙ v .2, k .1 .1 .1 .0 ∙ v .3, t .ensures .1 .0)
 
 pub list-spec : {M : Type 1} → statement M
 list-spec =
@@ -36,7 +41,7 @@ list-spec =
     μ-loop
     (λ c κs. tt)
     (λ c. (refl, refl, refl, refl, omega arith))
-    turn-requires
+    (λ c κs. (loop-of c .loop .inv .4, omega arith, omega arith))
     (λ c κs. search needs)
     (λ c. c .turns-left .ensures)
     loop-again

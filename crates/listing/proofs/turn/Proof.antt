@@ -54,8 +54,17 @@ same-progress : (s : State) (table : Bytes) (records : List ℕ) (unread lines :
 same-progress s table records unread lines p e t r u l = rw (e, t, r, u, l)
 
 -- where the code was before
+abbrev start-at : tie.After-gather-arg3 → tie.Start
+start-at c = c .before .before .before .before .before .before .before .before
+
 abbrev start : tie.After-gather → tie.Start
-start c = c .before .before .before .before .before .before .before .before .before .before
+start c = start-at (c .before .before)
+
+abbrev gathered-before : tie.After-to-front-arg → tie.After-gather
+gathered-before c = c .before .before .before .before .before .before .before .before
+
+abbrev moved-before : tie.After-write-and-read-arg → tie.After-to-front
+moved-before c = c .before .before .before
 
 -- what the turn gathers
 abbrev gathered-at : tie.After-gather → Gathering
@@ -82,32 +91,18 @@ lines-fit c =
     let e : c .gather .result .length ≡ length (gathered-at c .lines) = ap (λ (r : Gathered). r .length) (c .gather .ensures .0) in
     omega (arith, e, front-fits (start c .args .output .now) (gathered-at c .lines) (sym (ap length (c .gather .ensures .1 .1 .1)) ∙ c .gather .kept .1 .1 .1 .1 .1 .0))
 
-front : tie.Need-slice-aggregate-gather
-front c = let s = c .before .before .before .before .before .before .before .before in sym (length-take-le (s .args .before .count) (s .args .input .now) (s .pre .0))
-
-abbrev gathered-before : tie.After-to-front → tie.After-gather
-gathered-before c = c .before .before .before .before .before .before .before .before .before
-
-to-front-requires : tie.Need-to-front-requires
-to-front-requires c κs = let g = c .before .before .before .before .before .before .before .before in (used-there g, start g .pre .0)
-
-sub-left : tie.Need-sub-write-and-read
-sub-left c = used-there (c .before .before .before .before .before .before .before .before .before .before .before .before)
-
 write-and-read-requires : tie.Need-write-and-read-requires
 write-and-read-requires c κs =
-    let g = gathered-before (c .before .before .before .before) in
-    let k = c .before .before .before .before .to-front .kept .0 in
+    let m = moved-before (c .before) in
+    let g = gathered-before (m .before) in
+    let k = m .to-front .kept .0 in
     (omega (arith, k, start g .pre .0), omega (arith, k, start g .pre .1), omega (arith, lines-fit g, g .gather .kept .1 .1 .1 .1 .1 .0))
-
-abbrev moved-before : tie.After-write-and-read → tie.After-to-front
-moved-before c = c .before .before .before .before .before
 
 returns : tie.Need-returns
 returns c =
     let w = c .before .before in
-    let m = moved-before w in
-    let g = gathered-before m in
+    let m = moved-before (w .before .before) in
+    let g = gathered-before (m .before) in
     let s = start g in
     let a = s .args in
     let used = g .gather .result .used in
@@ -136,10 +131,10 @@ turn-spec =
     tie.close
     (tie.spec
     (λ c. search needs)
-    front
+    (λ c. let s = start-at c in sym (length-take-le (s .args .before .count) (s .args .input .now) (s .pre .0)))
     (λ c κs. search needs)
-    to-front-requires
-    sub-left
+    (λ c κs. let g = gathered-before c in (used-there g, start g .pre .0))
+    (λ c. used-there (gathered-before (moved-before c .before)))
     write-and-read-requires
     (λ c. search needs)
     (λ c. search needs)

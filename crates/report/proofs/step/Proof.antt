@@ -5,9 +5,17 @@ use Rattle.report.specs.Framing.{stepBy, siteBy}
 use Rattle.report.proofs.step.Statement.{statement}
 use Rattle.report.proofs.step.Tie as tie
 
+abbrev stepped : tie.After-slice-known5 → tie.After-block-step
+stepped c = c .before .before .before .before
+
+abbrev told : tie.After-block-step → tie.After-expected
+told c = c .before .before .before .before
+
 returns : tie.Need-returns
 unfolding stepBy siteBy
-returns c = let s = c .before .before .setup-step in rw (c .before .before .before .before .enum-told .given .1) (s .ensures .0, (s .ensures .1, refl))
+returns c =
+    let s = c .before .before in
+    rw (s .before .before .enum-told .given .1) (s .setup-step .ensures .0, (s .setup-step .ensures .1, refl))
 
 returns-2 : tie.Need-returns-2
 unfolding stepBy siteBy
@@ -15,7 +23,7 @@ returns-2 c = rw (c .before .enum-told2 .given .1) (c .length-step .ensures, (re
 
 returns-3 : tie.Need-returns-3
 unfolding stepBy
-returns-3 c = rw (c .before .before .before .before .before .before .before .before .expected .given .1) (c .before .before .before .before .block-step .ensures)
+returns-3 c = rw (told (stepped c) .expected .given .1) (stepped c .block-step .ensures)
 
 returns-4 : tie.Need-returns-4
 unfolding stepBy siteBy

@@ -25,15 +25,15 @@ loop-holds c = (omega arith, λ j h. absurd (omega arith))
 returns : tie.Need-returns Inv-loop μ-loop
 unfolding ownersBelow
 returns c =
-    let l = c .before .before .before .loop in
-    let a = c .before .before .before .before .args in
-    sym (all-false (λ j. ltb (getD (a .owners .now) j 0) (a .sites)) (length (a .owners .now)) (l .i) (omega arith) (le-ltb _ _ (c .if1 .taken)))
+    let l = c .before .before .before in
+    let a = l .before .args in
+    sym (all-false (λ j. ltb (getD (a .owners .now) j 0) (a .sites)) (length (a .owners .now)) (l .loop .i) (omega arith) (le-ltb _ _ (c .if1 .taken)))
 
 loop-again : tie.Need-loop-again Inv-loop μ-loop
 loop-again c =
-    let l = c .before .before .before .loop in
-    let a = c .before .before .before .before .args in
-    (omega arith, one-more (λ j. ltb (getD (a .owners .now) j 0) (a .sites) ≡ true) (l .i) (lt-ltb _ _ (c .if1 .left)) (l .inv .1))
+    let l = c .before .before .before in
+    let a = l .before .args in
+    (omega arith, one-more (λ j. ltb (getD (a .owners .now) j 0) (a .sites) ≡ true) (l .loop .i) (lt-ltb _ _ (c .if1 .left)) (l .loop .inv .1))
 
 returns-2 : tie.Need-returns-2 Inv-loop μ-loop
 unfolding ownersBelow

@@ -7,9 +7,9 @@ use mathlib.Core.Path.{_≡_, refl, sym, _∙_}
 use mathlib.Core.List.{List, [], _∷_, _++_}
 use lib.ListN.{length, getD, take}
 use lib.Seq.{take-suc, take-all}
-use Rattle.sha256.specs.Sha256.{bytesOf, wordBytes, bytes}
 use Rattle.base.specs.Bytes.{splice}
 use Rattle.base.proofs.Splice.{take-splice}
+use Rattle.sha256.specs.Sha256.{bytesOf, wordBytes, bytes}
 use borrow.Author.Needs.{needs}
 use Rattle.sha256.proofs.bytes_of.Statement.{statement}
 use Rattle.sha256.proofs.bytes_of.Tie as tie
@@ -37,8 +37,9 @@ loop-holds c = (omega arith, refl, refl)
 
 loop-again : tie.Need-loop-again Inv-loop μ-loop
 loop-again c =
-    let l = c .before .before .before .before .loop in
-    (omega arith, search needs, step _ (l .out) _ (l .i) (omega arith) (omega arith) (l .inv .2) (c .before .put-word .ensures))
+    let put = c .before in
+    let l = put .before .before .before .loop in
+    (omega arith, search needs, step _ (l .out) _ (l .i) (omega arith) (omega arith) (l .inv .2) (put .put-word .ensures))
 
 returns : tie.Need-returns Inv-loop μ-loop
 unfolding bytes

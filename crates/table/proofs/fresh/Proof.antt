@@ -27,9 +27,10 @@ returns c =
 
 returns-2 : tie.Need-returns-2
 returns-2 c =
-    let k = c .before .before .before .before in
+    let put = c .before in
+    let k = put .before .before .before in
     let a = k .before .before .before .args in
-    way-made (record { sites = a .sites; owners = a .t2 }) _ (sym (k .before .lawful .ensures) ∙ not-false _ (k .if1 .left)) (c .before .put-setup .ensures)
+    way-made (record { sites = a .sites; owners = a .t2 }) _ (sym (k .before .lawful .ensures) ∙ not-false _ (k .if1 .left)) (put .put-setup .ensures)
 
 pub fresh-spec : {M : Type 1} → statement M
 fresh-spec =

@@ -13,7 +13,11 @@ use Rattle.table.proofs.Views.{held-of}
 use Rattle.table.proofs.in_form.Statement.{statement}
 use Rattle.table.proofs.in_form.Tie as tie
 
-held : (c : tie.Else2) → let t = c .before .before .before .before .args .table .now in heldInForm (setupOf t) (viewOf t) ≡ true
+-- where the table is read
+abbrev start : tie.After-held-in-form → tie.Start
+start c = c .before .before .before
+
+held : (c : tie.Else2) → let t = start (c .before) .args .table .now in heldInForm (setupOf t) (viewOf t) ≡ true
 held c = sym (c .before .held-in-form .ensures) ∙ not-false _ (c .if2 .left)
 
 -- so the rows end within the table
@@ -32,8 +36,9 @@ returns-3 : tie.Need-returns-3
 unfolding inForm
 returns-3 c =
     let k = c .before .before in
-    let t = k .before .before .before .before .before .args .table .now in
-    rw (eq-eqb _ _ (k .before .before .before .if1 .left), held (k .before), ← rest-part t (rowStart (countOf t)), ← k .count-of .ensures)
+    let h = k .before .before in
+    let t = start h .args .table .now in
+    rw (eq-eqb _ _ (h .before .if1 .left), held (k .before), ← rest-part t (rowStart (countOf t)), ← k .count-of .ensures)
     (c .all-zero .ensures)
 
 pub in-form-spec : {M : Type 1} → statement M

@@ -8,7 +8,7 @@ use borrow.Author.Needs.{needs}
 use Rattle.base.specs.List.{listBelow}
 use Rattle.base.specs.Bytes.{Bytes, joined, splice}
 use Rattle.base.proofs.Splice.{splice-append, length-splice}
-use Rattle.block.specs.Limits.{slotCount}
+use Rattle.setup.specs.Setup.{slotCount}
 use Rattle.table.specs.Layout.{ownersOffset, tableSize, layout}
 use Rattle.table.specs.Fresh.{emptyTable}
 use Rattle.table.proofs.put_setup.Statement.{statement}
@@ -29,21 +29,25 @@ module _ (sites : ℕ) (owners t₀ t₁ : Bytes) (eight : length owners ≡ slo
       ∙ splice-append (replicate tableSize 0) 0 (sites ∷ []) (omega arith) owners
       ∙ ap (λ (n : ℕ). (sites ∷ owners) ++ drop n (replicate tableSize 0)) nine
 
-put-requires : tie.Need-put-requires
-put-requires c κs = let l = size _ (c .before .before .before .before .pre .1) in search needs
+-- the places on the way, each from the next one
+abbrev start : tie.After-put-arg → tie.Start
+start c = c .before .before .before
+
+abbrev sites-put : tie.After-put-arg3 → tie.After-put
+sites-put c = c .before .before .before
 
 put-requires-2 : tie.Need-put-requires-2
 put-requires-2 c κs =
-    let first = c .before .before .before in
-    let s = first .before .before .before .before .before in
+    let first = sites-put c in
+    let s = start (first .before .before) in
     let l = first-size (s .args .sites) (s .args .owners .now) _ _ (s .pre .0) (s .pre .1) (first .put .ensures) in search needs
 
 returns : tie.Need-returns
 returns c =
     let second = c .before .before in
-    let first = second .before .before .before .before in
-    let s = first .before .before .before .before .before in
+    let first = sites-put (second .before) in
+    let s = start (first .before .before) in
     empty (s .args .sites) (s .args .owners .now) _ _ (s .pre .0) (s .pre .1) (first .put .ensures) _ (second .put2 .ensures)
 
 pub put-setup-spec : {M : Type 1} → statement M
-put-setup-spec = tie.close (tie.spec (λ c. search needs) put-requires put-requires-2 (λ c. search needs) returns)
+put-setup-spec = tie.close (tie.spec (λ c. search needs) (λ c κs. let l = size _ (start (c .before) .pre .1) in search needs) put-requires-2 (λ c. search needs) returns)

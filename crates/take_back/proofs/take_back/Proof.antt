@@ -13,53 +13,71 @@ use Rattle.take_back.proofs.Turns.{out2, out32, out33, out0}
 use Rattle.take_back.proofs.take_back.Statement.{statement}
 use Rattle.take_back.proofs.take_back.Tie as tie
 
-abbrev start : tie.Else1 → tie.Start
-start c = c .before .before .before .before
+-- the places on the way, each from the next one
+abbrev start : tie.After-in-form → tie.Start
+start c = c .before .before .before
 
-formed : (c : tie.Else1) → inForm (start c .args .table .now) ≡ true
+abbrev first : tie.After-count-of → tie.Else1
+first c = c .before .before
+
+abbrev second : tie.After-mark-at → tie.Else2
+second c = c .before .before
+
+abbrev cleared : tie.After-success → tie.After-clear-last
+cleared c = c .before .before .before
+
+-- what each test shows
+formed : (c : tie.Else1) → inForm (start (c .before) .args .table .now) ≡ true
 formed c = sym (c .before .in-form .ensures) ∙ not-false _ (c .if1 .left)
 
-abbrev first : tie.Else2 → tie.Else1
-first c = c .before .before .before
-
-counted : (c : tie.Else2) → countOf (start (first c) .args .table .now) ≡ suc (c .before .count-of .result - 1)
+counted : (c : tie.Else2) → countOf (start (first (c .before) .before) .args .table .now) ≡ suc (c .before .count-of .result - 1)
 counted c = omega (arith, c .before .count-of .ensures, c .if2 .left)
 
-place : (c : tie.Else2) → LastPlace (start (first c) .args .table .now) (c .before .count-of .result - 1)
-place c = last-place _ (formed (first c)) _ (counted c)
+place : (c : tie.Else2) → LastPlace (start (first (c .before) .before) .args .table .now) (c .before .count-of .result - 1)
+place c = last-place _ (formed (first (c .before))) _ (counted c)
 
 returns : tie.Need-returns
-returns c = out2 _ (sym (c .before .in-form .ensures) ∙ not-true _ (c .if1 .taken))
+returns c = let b = c .before in rw (c .refused .ensures) (out2 _ (sym (b .before .in-form .ensures) ∙ not-true _ (b .if1 .taken)))
 
 returns-2 : tie.Need-returns-2
-returns-2 c = out32 _ (formed (c .before .before .before)) (sym (c .before .count-of .ensures) ∙ c .if2 .taken)
+returns-2 c =
+    let b = c .before in
+    let n = b .before in
+    rw (c .refused2 .ensures) (out32 _ (formed (first n)) (sym (n .count-of .ensures) ∙ b .if2 .taken))
 
 returns-3 : tie.Need-returns-3
 returns-3 c =
-    let e = c .before .before .before in
-    out33 _ (formed (first e)) _ (counted e) (sym (c .before .mark-at .ensures) ∙ c .if3 .taken)
+    let b = c .before in
+    let m = b .before in
+    let e = second m in
+    rw (c .refused3 .ensures) (out33 _ (formed (first (e .before))) _ (counted e) (sym (m .mark-at .ensures) ∙ b .if3 .taken))
 
 returns-4 : tie.Need-returns-4
 returns-4 c =
-    let l = c .before .before in
-    let m = l .before .before in
-    let e = m .before .before .before in
-    out0 _ (formed (first e)) _ (counted e) (λ q. m .if3 .left (m .before .mark-at .ensures ∙ q)) _ (l .clear-last .ensures)
+    let l = cleared c in
+    let b = l .before .before in
+    let m = b .before in
+    let e = second m in
+    rw (c .success .ensures) (out0 _ (formed (first (e .before))) _ (counted e) (λ q. b .if3 .left (m .mark-at .ensures ∙ q)) _ (l .clear-last .ensures))
 
 pub take-back-spec : {M : Type 1} → statement M
 take-back-spec =
     tie.close
     (tie.spec
     (λ c κs. search needs)
+    (λ c κs. search needs)
     (λ c. search needs)
     returns
     (λ c κs. formed-of _ (formed (c .before)) .size)
+    (λ c κs. search needs)
     (λ c. search needs)
     returns-2
     (λ c. search needs)
     (λ c κs. let p = place (c .before) in record { size = p .size; place = p .few })
+    (λ c κs. search needs)
     (λ c. search needs)
     returns-3
-    (λ c κs. place (c .before .before .before .before))
+    (λ c κs. place (second (c .before .before)))
+    (λ c κs. search needs)
     (λ c. search needs)
     returns-4)

@@ -4,10 +4,10 @@ use mathlib.Core.Bool.{true}
 use Prim.Native.Nat.{_^_, _<_}
 use borrow.Author.Needs.{needs}
 use borrow.Author.Tests.{lt-ltb, le-ltb, not-true, not-false}
+use Rattle.answer.specs.Checks.{answerTo}
 use Rattle.table.specs.View.{maxPlaces}
 use Rattle.table.specs.Layout.{countOf, viewOf}
 use Rattle.table.specs.Form.{inForm}
-use Rattle.table.specs.Checks.{answerTo}
 use Rattle.watch.specs.Ancestors.{ancestorMask, ancestors}
 use Rattle.watch.proofs.Ready.{ready, held-place, places-fit, refers-lower}
 use Rattle.watch.proofs.Gathered.{gathered-ancestors}

@@ -29,23 +29,28 @@ Inv-loop table index list k p places₀ missing₀ i₀ places missing i =
 abbrev μ-loop : tie.MeasureT-loop
 μ-loop table index list k p places₀ missing₀ i₀ places missing i = p - i
 
+-- the places on the way, each from the next one
+abbrev start : tie.After-count-of Inv-loop μ-loop → tie.Start Inv-loop μ-loop
+start c = c .before .before .before .before
+
+abbrev loop-of : tie.After-find Inv-loop μ-loop → tie.At-loop Inv-loop μ-loop
+loop-of c = c .before .before .before
+
 loop-holds : tie.Need-loop-holds Inv-loop μ-loop
-loop-holds c = (omega arith, c .count-of .ensures, refl, search needs, some-none (names (c .before .before .before .before .args .table .now) (c .before .before .before .before .args .list .now)) _, sym (first-none _))
+loop-holds c = (omega arith, c .count-of .ensures, refl, search needs, some-none (names (start c .args .table .now) (start c .args .list .now)) _, sym (first-none _))
 
 -- the place found for the reference
-place : (c : tie.After-find Inv-loop μ-loop) → let l = c .before .before .before in let a = l .before .before .before .before .before .args in
+place : (c : tie.After-find Inv-loop μ-loop) → let l = loop-of c in let a = start (l .before) .args in
     c .find .result ≡ placeOf (viewOf (a .table .now)) (countOf (a .table .now)) (referenceAt (a .list .now) (l .loop .i))
 place c =
-    let l = c .before .before .before in
-    let a = l .before .before .before .before .before .args in
+    let a = start (loop-of c .before) .args in
     c .find .ensures ∙ ap (placeOf (viewOf (a .table .now)) (countOf (a .table .now))) (c .before .reference .ensures)
 
 loop-again : tie.Need-loop-again Inv-loop μ-loop
 loop-again c =
     let f = c .before .before in
-    let d = f .before .before .before in
-    let l = d .loop in
-    let a = d .before .before .before .before .before .args in
+    let l = loop-of f .loop in
+    let a = start (loop-of f .before) .args in
     let t = a .table .now in
     let h : f .find .result < countOf t = omega (arith, c .before .if1 .taken, l .inv .1) in (
       omega arith,
@@ -60,9 +65,8 @@ loop-again c =
 loop-again-2 : tie.Need-loop-again-2 Inv-loop μ-loop
 loop-again-2 c =
     let f = c .before in
-    let d = f .before .before .before in
-    let l = d .loop in
-    let a = d .before .before .before .before .before .args in
+    let l = loop-of f .loop in
+    let a = start (loop-of f .before) .args in
     let t = a .table .now in
     let h : countOf t ≤ f .find .result = omega (arith, c .if1 .left, l .inv .1) in (
       omega arith,
@@ -72,12 +76,6 @@ loop-again-2 c =
       l .inv .4 ∙ named-skip t (a .list .now) (l .i) _ (l .inv .3 .formed) (place f) h,
       l .inv .5 ∙ first-more-passing (absent t (countOf t) (a .list .now)) (l .i) (is-absent t (countOf t) (a .list .now) (l .i) _ (place f) h),
     )
-
-returns : tie.Need-returns Inv-loop μ-loop
-returns c =
-    let l = c .before .loop in
-    let e : l .i ≡ length (c .before .before .before .before .before .before .args .list .now) / referenceSize = omega arith in
-    (rw e at (l .inv .4), rw e at (l .inv .5))
 
 pub look-up-spec : {M : Type 1} → statement M
 look-up-spec =
@@ -90,10 +88,10 @@ look-up-spec =
     (λ c κs. search needs)
     (λ c κs. c .before .before .loop .inv .3)
     (λ c. search needs)
-    (λ c. let h = formed-places _ (c .before .before .before .before .loop .inv .3 .formed) .bound in search needs)
+    (λ c. let h = formed-places _ (loop-of (c .before) .loop .inv .3 .formed) .bound in search needs)
     (λ c κs. search needs)
     (λ c. search needs)
     loop-again
     (λ c. search needs)
     loop-again-2
-    returns)
+    (λ c. let l = c .before in let e : l .loop .i ≡ length (start (l .before) .args .list .now) / referenceSize = omega arith in (rw e at (l .loop .inv .4), rw e at (l .loop .inv .5))))

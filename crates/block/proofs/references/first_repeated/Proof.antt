@@ -8,7 +8,7 @@ use borrow.Author.Needs.{needs}
 use borrow.Author.Tests.{lt-ltb, le-ltb}
 use Rattle.base.specs.Search.{firstBelow, anyBelow}
 use Rattle.base.specs.Bytes.{Bytes}
-use Rattle.base.proofs.Search.{first-none, first-past, first-hit}
+use Rattle.base.proofs.Search.{first-none, first-past, first-hit, first-end}
 use Rattle.block.specs.Limits.{referenceSize}
 use Rattle.block.specs.Layout.{referenceAt}
 use Rattle.block.specs.Reading.{repeatedAt}
@@ -37,27 +37,21 @@ loop-holds c = (omega arith, search needs, first-none _)
 returns : tie.Need-returns Inv-loop μ-loop
 returns c =
     let m = c .before .before in
-    let l = m .before .before .loop in
-    let list = m .before .before .before .before .args .list .now in
-    sym (first-hit (repeatedAt list) (l .i) (length list / referenceSize) (omega arith) (l .inv .2)
-    (found list _ (l .i) _ (m .reference .ensures) (c .before .first-same .ensures) (c .if1 .taken)))
+    let l = m .before .before in
+    let list = l .before .before .args .list .now in
+    sym (first-hit (repeatedAt list) (l .loop .i) (length list / referenceSize) (omega arith) (l .loop .inv .2)
+    (found list _ (l .loop .i) _ (m .reference .ensures) (c .before .first-same .ensures) (c .if1 .taken)))
 
 loop-again : tie.Need-loop-again Inv-loop μ-loop
 loop-again c =
     let m = c .before .before in
-    let l = m .before .before .loop in
-    let list = m .before .before .before .before .args .list .now in (
+    let l = m .before .before in
+    let list = l .before .before .args .list .now in (
       omega arith,
       search needs,
-      first-past (repeatedAt list) (l .i) (l .inv .2)
-          (unfound list _ (l .i) _ (m .reference .ensures) (c .before .first-same .ensures) (c .if1 .left)),
+      first-past (repeatedAt list) (l .loop .i) (l .loop .inv .2)
+          (unfound list _ (l .loop .i) _ (m .reference .ensures) (c .before .first-same .ensures) (c .if1 .left)),
     )
-
-returns-2 : tie.Need-returns-2 Inv-loop μ-loop
-returns-2 c =
-    let l = c .before .loop in
-    let e : l .i ≡ length (c .before .before .before .args .list .now) / referenceSize = omega arith in
-    sym (rw e at (l .inv .2))
 
 pub first-repeated-spec : {M : Type 1} → statement M
 first-repeated-spec =
@@ -72,4 +66,4 @@ first-repeated-spec =
     (λ c. search needs)
     (λ c. search needs)
     loop-again
-    returns-2)
+    (λ c. let l = c .before .loop in first-end _ (l .i) _ (omega arith) (l .inv .2)))

@@ -7,7 +7,7 @@ use lib.ListN.{length}
 use borrow.Author.Needs.{needs}
 use Rattle.base.specs.Search.{firstBelow}
 use Rattle.base.specs.Bytes.{Bytes, sameBytes}
-use Rattle.base.proofs.Search.{first-none, first-past, first-hit}
+use Rattle.base.proofs.Search.{first-none, first-past, first-hit, first-end}
 use Rattle.block.specs.Limits.{referenceSize}
 use Rattle.block.specs.Layout.{referenceAt}
 use Rattle.block.proofs.references.first_same.Statement.{statement}
@@ -29,27 +29,21 @@ loop-holds c = (omega arith, search needs, first-none _)
 returns : tie.Need-returns Inv-loop μ-loop
 returns c =
     let m = c .before .before in
-    let l = m .before .before .loop in
-    let a = m .before .before .before .before .before .args in
-    sym (first-hit (is (a .list .now) (a .key .now)) (l .j) (a .k) (omega arith) (l .inv .2)
+    let l = m .before .before in
+    let a = l .before .before .before .args in
+    sym (first-hit (is (a .list .now) (a .key .now)) (l .loop .j) (a .k) (omega arith) (l .loop .inv .2)
     (ap (λ (x : Bytes). sameBytes x (a .key .now)) (sym (m .reference .ensures)) ∙ sym (c .before .same .ensures) ∙ c .if1 .taken))
 
 loop-again : tie.Need-loop-again Inv-loop μ-loop
 loop-again c =
     let m = c .before .before in
-    let l = m .before .before .loop in
-    let a = m .before .before .before .before .before .args in (
+    let l = m .before .before in
+    let a = l .before .before .before .args in (
       omega arith,
       search needs,
-      first-past (is (a .list .now) (a .key .now)) (l .j) (l .inv .2)
+      first-past (is (a .list .now) (a .key .now)) (l .loop .j) (l .loop .inv .2)
           (ap (λ (x : Bytes). sameBytes x (a .key .now)) (sym (m .reference .ensures)) ∙ sym (c .before .same .ensures) ∙ c .if1 .left),
     )
-
-returns-2 : tie.Need-returns-2 Inv-loop μ-loop
-returns-2 c =
-    let l = c .before .loop in
-    let e : l .j ≡ c .before .before .before .before .args .k = omega arith in
-    sym (rw e at (l .inv .2))
 
 pub first-same-spec : {M : Type 1} → statement M
 first-same-spec =
@@ -64,4 +58,4 @@ first-same-spec =
     (λ c. search needs)
     (λ c. search needs)
     loop-again
-    returns-2)
+    (λ c. let l = c .before .loop in first-end _ (l .j) _ (omega arith) (l .inv .2)))

@@ -44,8 +44,9 @@ loop-holds c = (omega arith, search needs, refl)
 returns : tie.Need-returns Inv-loop μ-loop
 returns c =
     let m = c .before .before in
-    let l = m .before .before .loop in
-    let a = m .before .before .before .before .args in
+    let d = m .before .before in
+    let l = d .loop in
+    let a = d .before .before .args in
     let e = m .request .ensures in
     ap (λ (q : Request). q .number) e
     ∙ sym (l .inv .2 ∙ here (a .list .now) (a .slot) (l .i) (omega arith) (ap (λ (q : Request). q .slot) (sym e) ∙ c .if1 .taken))
@@ -53,16 +54,11 @@ returns c =
 loop-again : tie.Need-loop-again Inv-loop μ-loop
 loop-again c =
     let m = c .before .before in
-    let l = m .before .before .loop in
-    let a = m .before .before .before .before .args in
+    let d = m .before .before in
+    let l = d .loop in
+    let a = d .before .before .args in
     let e = m .request .ensures in
     (omega arith, search needs, l .inv .2 ∙ past (a .list .now) (a .slot) (l .i) (omega arith) (λ q. c .if1 .left (ap (λ (x : Request). x .slot) e ∙ q)))
-
-returns-2 : tie.Need-returns-2 Inv-loop μ-loop
-returns-2 c =
-    let l = c .before .loop in
-    let a = c .before .before .before .args in
-    sym (l .inv .2 ∙ none (a .list .now) (a .slot) (l .i) (omega arith))
 
 pub counted-request-spec : {M : Type 1} → statement M
 counted-request-spec =
@@ -76,4 +72,4 @@ counted-request-spec =
     (λ c. search needs)
     (λ c. search needs)
     loop-again
-    returns-2)
+    (λ c. let l = c .before .loop in let a = c .before .before .before .args in sym (l .inv .2 ∙ none (a .list .now) (a .slot) (l .i) (omega arith))))

@@ -5,7 +5,7 @@ use Prim.Native.Nat.{_≤_, _-_, _/_}
 use lib.ListN.{length}
 use borrow.Author.Needs.{needs}
 use Rattle.base.specs.Search.{firstBelow}
-use Rattle.base.proofs.Search.{first-none, first-past, first-hit}
+use Rattle.base.proofs.Search.{first-none, first-past, first-hit, first-end}
 use Rattle.block.specs.Limits.{requestSize}
 use Rattle.block.specs.Reading.{badRequest, badRequestAt}
 use Rattle.block.proofs.requests.first_bad.Statement.{statement}
@@ -23,27 +23,21 @@ loop-holds c = (omega arith, search needs, first-none _)
 returns : tie.Need-returns Inv-loop μ-loop
 returns c =
     let m = c .before .before in
-    let l = m .before .before .loop in
-    let list = m .before .before .before .before .args .list .now in
-    sym (first-hit (badRequestAt list) (l .i) (length list / requestSize) (omega arith) (l .inv .2)
+    let l = m .before .before in
+    let list = l .before .before .args .list .now in
+    sym (first-hit (badRequestAt list) (l .loop .i) (length list / requestSize) (omega arith) (l .loop .inv .2)
     (ap badRequest (sym (m .request .ensures)) ∙ sym (c .before .is-bad .ensures) ∙ c .if1 .taken))
 
 loop-again : tie.Need-loop-again Inv-loop μ-loop
 loop-again c =
     let m = c .before .before in
-    let l = m .before .before .loop in
-    let list = m .before .before .before .before .args .list .now in (
+    let l = m .before .before in
+    let list = l .before .before .args .list .now in (
       omega arith,
       search needs,
-      first-past (badRequestAt list) (l .i) (l .inv .2)
+      first-past (badRequestAt list) (l .loop .i) (l .loop .inv .2)
           (ap badRequest (sym (m .request .ensures)) ∙ sym (c .before .is-bad .ensures) ∙ c .if1 .left),
     )
-
-returns-2 : tie.Need-returns-2 Inv-loop μ-loop
-returns-2 c =
-    let l = c .before .loop in
-    let e : l .i ≡ length (c .before .before .before .args .list .now) / requestSize = omega arith in
-    sym (rw e at (l .inv .2))
 
 pub first-bad-spec : {M : Type 1} → statement M
 first-bad-spec =
@@ -58,4 +52,4 @@ first-bad-spec =
     (λ c. search needs)
     (λ c. search needs)
     loop-again
-    returns-2)
+    (λ c. let l = c .before .loop in first-end _ (l .i) _ (omega arith) (l .inv .2)))

@@ -24,7 +24,7 @@ made list i n e =
     rw (e, s, byte list i 1 (omega arith), byte list i 2 (omega arith))
 
 returns : tie.Need-returns
-returns c = let a = c .before .before .before .before .before .args in made (a .list .now) (a .i) _ (c .number-of .ensures)
+returns c = let known = c .before .before .before in let a = known .before .before .args in made (a .list .now) (a .i) _ (c .number-of .ensures)
 
 pub request-spec : {M : Type 1} → statement M
 request-spec =

@@ -30,8 +30,8 @@ module _ (site sequence : ℕ) (references requests output : Bytes) (w : Writabl
 returns : tie.Need-returns
 returns c =
     let third = c .before .before in
-    let second = third .before .before .before .before in
-    let first = second .before .before .before .before in
+    let lent2 = third .before .before in let second = lent2 .before .before in
+    let lent1 = second .before .before in let first = lent1 .before .before in
     let known = first .before .before .before in
     let a = known .before .before .before .args in
     put-all (a .site) (a .sequence) (a .references .now) (a .requests .now) (a .output .now) (known .before .before .before .pre) (λ i. known .before .shared-slice-known2 .given i .fits)

@@ -29,8 +29,9 @@ loop-holds c = (search needs, search needs, search needs, refl)
 loop-again : tie.Need-loop-again Inv-loop μ-loop
 loop-again c =
     let w = c .before .before in
-    let l = w .before .before .loop in
-    let a = w .before .before .before .before .args in
+    let d = w .before .before in
+    let l = d .loop in
+    let a = d .before .before .args in
     let f : ℕ → Bool = λ p. eqb (getD (a .heard .now) p 0) (a .number) in
     let at = ap (λ (p : ℕ). eqb (getD (a .heard .now) p 0) (a .number)) (sym (w .wide .ensures)) in (
       omega arith,
@@ -41,12 +42,6 @@ loop-again c =
           (λ w. w .1 ∙ l .inv .3 ∙ mask-skip f (l .p) (at ∙ ne-eqb _ _ (w .0 .left)))
           (c .if1 .came),
     )
-
-returns : tie.Need-returns Inv-loop μ-loop
-returns c =
-    let l = c .before .loop in
-    let e : l .p ≡ c .before .before .before .args .n = omega arith in
-    rw e at (l .inv .3)
 
 pub supporters-spec : {M : Type 1} → statement M
 supporters-spec =
@@ -63,4 +58,4 @@ supporters-spec =
     (λ c. search needs)
     (λ c. search needs)
     loop-again
-    returns)
+    (λ c. let l = c .before .loop in let e : l .p ≡ c .before .before .before .args .n = omega arith in rw e at (l .inv .3)))

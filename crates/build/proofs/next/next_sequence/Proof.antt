@@ -19,6 +19,9 @@ Inv-loop table seen site k next₀ i₀ next i =
 abbrev μ-loop : tie.MeasureT-loop
 μ-loop table seen site k next₀ i₀ next i = k - i
 
+abbrev start : tie.At-loop Inv-loop μ-loop → tie.Start Inv-loop μ-loop
+start c = c .before .before .before
+
 loop-holds : tie.Need-loop-holds Inv-loop μ-loop
 unfolding greatestBelow
 loop-holds c = (omega arith, c .count-of .ensures, search needs, refl)
@@ -27,7 +30,7 @@ loop-again : tie.Need-loop-again Inv-loop μ-loop
 loop-again c =
     let s = c .before in
     let l = s .before .before .loop in
-    let a = s .before .before .before .before .before .args in
+    let a = start (s .before .before) .args in
     let f : ℕ → ℕ = sequenceAfter (inMask (a .seen)) (viewOf (a .table .now)) (a .site) in
     let e : s .sequence-after .result ≡ f (l .i) = s .sequence-after .ensures in (
       omega arith,
@@ -43,7 +46,7 @@ returns : tie.Need-returns Inv-loop μ-loop
 unfolding nextSequence
 returns c =
     let l = c .before .loop in
-    let e : l .i ≡ countOf (c .before .before .before .before .args .table .now) = omega arith in
+    let e : l .i ≡ countOf (start (c .before) .args .table .now) = omega arith in
     rw e at (l .inv .3)
 
 pub next-sequence-spec : {M : Type 1} → statement M

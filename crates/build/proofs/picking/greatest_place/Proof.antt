@@ -5,7 +5,7 @@ use native.Mathlib.Omega.{arith}
 use borrow.Author.Needs.{needs}
 use Rattle.base.specs.Search.{firstBelow}
 use Rattle.base.specs.Mask.{inMask}
-use Rattle.base.proofs.Search.{first-none, first-past, first-hit}
+use Rattle.base.proofs.Search.{first-none, first-past, first-hit, first-end}
 use Rattle.table.specs.Layout.{countOf, viewOf}
 use Rattle.table.specs.Steps.{Places}
 use Rattle.build.specs.Building.{nextSequence, isGreatest}
@@ -20,32 +20,26 @@ Inv-loop table seen site next k i₀ i =
 abbrev μ-loop : tie.MeasureT-loop
 μ-loop table seen site next k i₀ i = k - i
 
-loop-holds : tie.Need-loop-holds Inv-loop μ-loop
-loop-holds c = (omega arith, c .count-of .ensures, search needs, search needs, first-none _)
+abbrev start : tie.At-loop Inv-loop μ-loop → tie.Start Inv-loop μ-loop
+start c = c .before .before .before
 
 returns : tie.Need-returns Inv-loop μ-loop
 returns c =
     let l = c .before .before .before .loop in
-    let a = c .before .before .before .before .before .before .args in
+    let a = start (c .before .before .before) .args in
     sym (first-hit (isGreatest (inMask (a .seen)) (viewOf (a .table .now)) (a .site)) (l .i) (countOf (a .table .now)) (omega arith) (l .inv .4)
     (sym (c .before .is-greatest .ensures) ∙ c .if1 .taken))
 
 loop-again : tie.Need-loop-again Inv-loop μ-loop
 loop-again c =
     let l = c .before .before .before .loop in
-    let a = c .before .before .before .before .before .before .args in (
+    let a = start (c .before .before .before) .args in (
       omega arith,
       search needs,
       search needs,
       search needs,
       first-past (isGreatest (inMask (a .seen)) (viewOf (a .table .now)) (a .site)) (l .i) (l .inv .4) (sym (c .before .is-greatest .ensures) ∙ c .if1 .left),
     )
-
-returns-2 : tie.Need-returns-2 Inv-loop μ-loop
-returns-2 c =
-    let l = c .before .loop in
-    let e : l .i ≡ countOf (c .before .before .before .before .args .table .now) = omega arith in
-    l .inv .1 ∙ sym (rw e at (l .inv .4))
 
 pub greatest-place-spec : {M : Type 1} → statement M
 greatest-place-spec =
@@ -54,10 +48,10 @@ greatest-place-spec =
     Inv-loop
     μ-loop
     (λ c κs. search needs)
-    loop-holds
+    (λ c. (omega arith, c .count-of .ensures, search needs, search needs, first-none _))
     (λ c κs. search needs)
     returns
     (λ c. search needs)
     (λ c. search needs)
     loop-again
-    returns-2)
+    (λ c. let l = c .before .loop in l .inv .1 ∙ first-end _ (l .i) _ (omega arith) (l .inv .4)))

@@ -10,21 +10,27 @@ use Rattle.table.specs.View.{maxPlaces}
 use Rattle.build.proofs.picking.is_other.Statement.{statement}
 use Rattle.build.proofs.picking.is_other.Tie as tie
 
-looked-at : (c : tie.Else1) → let a = c .before .before .before .args in inMask (a .seen) (a .i) ≡ true
+abbrev start : tie.Else1 → tie.Start
+start c = c .before .before .before
+
+looked-at : (c : tie.Else1) → let a = start c .args in inMask (a .seen) (a .i) ≡ true
 looked-at c = sym (c .before .in-mask .ensures) ∙ not-false _ (c .if1 .left)
-
-returns : tie.Need-returns
-returns c = rw (sym (c .before .in-mask .ensures) ∙ not-true _ (c .if1 .taken))
-
-returns-2 : tie.Need-returns-2
-returns-2 c = rw (looked-at (c .before .before), ← c .before .site-at .ensures, eq-eqb _ _ (c .if2 .taken))
 
 returns-3 : tie.Need-returns-3
 returns-3 c =
-    let start = c .before .before .before .before .before .before in
-    let i = start .args .i in
-    rw (looked-at (c .before .before .before), ← c .before .before .site-at .ensures, ne-eqb _ _ (c .before .if2 .left))
-    (ap not (c .in-mask2 .ensures ∙ ap (λ (m : ℕ). inMask m i) (start .pre .1) ∙ mask-has _ maxPlaces i (start .pre .0 .place)))
+    let n = c .before .before in
+    let s = start (n .before) in
+    let i = s .args .i in
+    rw (looked-at (n .before), ← n .site-at .ensures, ne-eqb _ _ (c .before .if2 .left))
+    (ap not (c .in-mask2 .ensures ∙ ap (λ (m : ℕ). inMask m i) (s .pre .1) ∙ mask-has _ maxPlaces i (s .pre .0 .place)))
 
 pub is-other-spec : {M : Type 1} → statement M
-is-other-spec = tie.close (tie.spec (λ c κs. search needs) returns (λ c κs. search needs) returns-2 (λ c κs. search needs) returns-3)
+is-other-spec =
+    tie.close
+    (tie.spec
+    (λ c κs. search needs)
+    (λ c. rw (sym (c .before .in-mask .ensures) ∙ not-true _ (c .if1 .taken)))
+    (λ c κs. search needs)
+    (λ c. rw (looked-at (c .before .before), ← c .before .site-at .ensures, eq-eqb _ _ (c .if2 .taken)))
+    (λ c κs. search needs)
+    returns-3)

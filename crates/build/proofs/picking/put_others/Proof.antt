@@ -22,18 +22,19 @@ Inv-loop table seen site count list₀ k referred end₀ i₀ list end i =
 abbrev μ-loop : tie.MeasureT-loop
 μ-loop table seen site count list₀ k referred end₀ i₀ list end i = k - i
 
-loop-holds : tie.Need-loop-holds Inv-loop μ-loop
-loop-holds c = (omega arith, c .before .count-of .ensures, search needs, c .referred-mask .ensures, search needs, put-start _ _ _ _)
+abbrev start : tie.At-loop Inv-loop μ-loop → tie.Start Inv-loop μ-loop
+start c = c .before .before .before .before .before
 
 put-place-requires : tie.Need-put-place-requires Inv-loop μ-loop
 put-place-requires c κs =
-    let l = c .before .before .before .before .loop in
+    let turn = c .before .before .before in
+    let l = turn .before .loop in
     (search needs, put-room _ _ _ _ (l .inv .2 .size) (l .inv .4) (l .i) (l .list) (l .end) (omega arith) (l .inv .5))
 
 loop-again : tie.Need-loop-again Inv-loop μ-loop
 loop-again c =
     let l = c .before .before .before .loop in
-    let a = c .before .before .before .before .before .before .before .before .args in
+    let a = start (c .before .before .before) .args in
     let f : ℕ → Bool = isOther (inMask (a .seen)) (viewOf (a .table .now)) (a .site) in (
       omega arith,
       search needs,
@@ -59,7 +60,7 @@ same-length c =
 returns : tie.Need-returns Inv-loop μ-loop
 returns c =
     let l = c .before .loop in
-    let e : l .i ≡ countOf (c .before .before .before .before .before .before .args .table .now) = omega arith in
+    let e : l .i ≡ countOf (start (c .before) .args .table .now) = omega arith in
     (rw e at (l .inv .5 .counted), rw e at (l .inv .5 .listed))
 
 pub put-others-spec : {M : Type 1} → statement M
@@ -70,7 +71,7 @@ put-others-spec =
     μ-loop
     (λ c κs. search needs)
     (λ c κs. search needs)
-    loop-holds
+    (λ c. (omega arith, c .before .count-of .ensures, search needs, c .referred-mask .ensures, search needs, put-start _ _ _ _))
     (λ c κs. search needs)
     put-place-requires
     (λ c. search needs)

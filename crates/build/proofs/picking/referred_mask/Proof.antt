@@ -18,15 +18,15 @@ Inv-loop table seen site k mask₀ i₀ mask i = (i ≤ k) × (k ≡ countOf tab
 abbrev μ-loop : tie.MeasureT-loop
 μ-loop table seen site k mask₀ i₀ mask i = k - i
 
-loop-holds : tie.Need-loop-holds Inv-loop μ-loop
-loop-holds c = let a = c .before .before .args in (omega arith, c .count-of .ensures, search needs, referred-none (a .table .now) (a .seen) (a .site))
+abbrev start : tie.At-loop Inv-loop μ-loop → tie.Start Inv-loop μ-loop
+start c = c .before .before .before
 
 loop-again : tie.Need-loop-again Inv-loop μ-loop
 loop-again c =
     let m = c .before in
     let d = m .before .before in
     let l = d .loop in
-    let a = d .before .before .before .args in (
+    let a = start d .args in (
       omega arith,
       search needs,
       search needs,
@@ -39,12 +39,6 @@ loop-again c =
           (c .if1 .came),
     )
 
-returns : tie.Need-returns Inv-loop μ-loop
-returns c =
-    let l = c .before .loop in
-    let e : l .i ≡ countOf (c .before .before .before .before .args .table .now) = omega arith in
-    rw e at (l .inv .3)
-
 pub referred-mask-spec : {M : Type 1} → statement M
 referred-mask-spec =
     tie.close
@@ -52,10 +46,10 @@ referred-mask-spec =
     Inv-loop
     μ-loop
     (λ c κs. search needs)
-    loop-holds
+    (λ c. let a = c .before .before .args in (omega arith, c .count-of .ensures, search needs, referred-none (a .table .now) (a .seen) (a .site)))
     (λ c κs. search needs)
     (λ c κs. search needs)
     (λ c. search needs)
     (λ c. search needs)
     loop-again
-    returns)
+    (λ c. let l = c .before .loop in let e : l .i ≡ countOf (start (c .before) .args .table .now) = omega arith in rw e at (l .inv .3)))

@@ -8,7 +8,7 @@ use lib.ListN.{length}
 use borrow.Author.Needs.{needs}
 use Rattle.base.specs.Bytes.{Bytes}
 use Rattle.sha256.specs.Sha256.{sha256}
-use Rattle.block.specs.Answers.{putAnswers}
+use Rattle.answer.specs.Buffer.{putAnswers}
 use Rattle.shelf.specs.Layout.{waitingIn, shelfBytes}
 use Rattle.shelf.proofs.Laid.{laid-size, laid-count}
 use Rattle.campaigns.specs.Passes.{outcomesOf, admits, pass}
@@ -46,29 +46,21 @@ module _ (c : ℕ) (t₀ s₀ : Bytes) (o₀ : List ℕ) (ended : ℕ) (t s : By
     ),
   )
 
-loop-holds : tie.Need-loop-holds Inv-loop μ-loop
-loop-holds c = record { passable = c .before .before .before .pre; stands = refl; left = refl; table = refl; shelf = refl; outcomes = refl }
-
 -- the pass stands at an entry
 below : (c : tie.Then1 Inv-loop μ-loop) → let l = c .before .before .before .loop in l .p .at < length (waitingIn (l .shelf))
 below c =
     let l = c .before .before .before .loop in
     omega (arith, c .if1 .taken, c .before .count-of .ensures, laid-count _ _ (l .inv .passable .laid), l .inv .stands)
 
-turn-requires : tie.Need-turn-requires Inv-loop μ-loop
-turn-requires c κs =
-    let d = c .before .before .before in
-    record { passable = d .before .before .before .loop .inv .passable; below = below d }
-
 abbrev turn-of : tie.After-slice-known6 Inv-loop μ-loop → tie.After-turn Inv-loop μ-loop
 turn-of c = c .before .before .before .before .before .before
 
-abbrev entry-of : tie.After-turn Inv-loop μ-loop → tie.Then1 Inv-loop μ-loop
-entry-of c = c .before .before .before .before
+abbrev entry-of : tie.After-turn-arg3 Inv-loop μ-loop → tie.Then1 Inv-loop μ-loop
+entry-of c = c .before .before .before
 
 loop-less : tie.Need-loop-less Inv-loop μ-loop
 loop-less c =
-    let d = entry-of (turn-of c) in
+    let d = entry-of (turn-of c .before) in
     let l = d .before .before .before .loop in
     let u = turn-of c .turn in
     goes-down _ _ _ _ _ _ _ _ _ _ (l .inv) (below d) (u .last .0) (u .last .1 .0) (u .last .1 .1 .1 .0) (u .result) (u .ensures .0) (u .ensures .1 .0) (u .ensures .1 .1 .0)
@@ -76,7 +68,7 @@ loop-less c =
 
 loop-again : tie.Need-loop-again Inv-loop μ-loop
 loop-again c =
-    let d = entry-of (turn-of c) in
+    let d = entry-of (turn-of c .before) in
     let l = d .before .before .before .loop in
     let u = turn-of c .turn in
     goes-on _ _ _ _ _ _ _ _ _ _ (l .inv) (below d) (u .last .0) (u .last .1 .0) (u .last .1 .1 .1 .0) (u .result) (u .ensures .0) (u .ensures .1 .0) (u .ensures .1 .1 .0)
@@ -93,9 +85,9 @@ pass-over-spec =
     (tie.spec
     Inv-loop
     μ-loop
-    loop-holds
+    (λ c. record { passable = c .before .before .before .pre; stands = refl; left = refl; table = refl; shelf = refl; outcomes = refl })
     (λ c κs. let e = laid-size _ _ (c .before .loop .inv .passable .laid) in search needs)
-    turn-requires
+    (λ c κs. let d = entry-of c in record { passable = d .before .before .before .loop .inv .passable; below = below d })
     loop-less
     loop-again
     (λ c. c .before .before .before .loop .inv .table)

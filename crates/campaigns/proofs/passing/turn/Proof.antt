@@ -12,14 +12,14 @@ use borrow.Author.Tests.{eq-eqb, ne-eqb}
 use Rattle.base.specs.Bytes.{Bytes}
 use Rattle.base.proofs.Tests.{or-true, or-false}
 use Rattle.sha256.specs.Sha256.{sha256}
-use Rattle.block.specs.Answers.{putAnswer}
-use Rattle.block.specs.declared.Answer.{Answer}
-use Rattle.admission.specs.Admission.{admission, admitted}
-use Rattle.admission.proofs.Kept.{refused-table}
+use Rattle.answer.specs.Buffer.{putAnswer}
+use Rattle.answer.specs.declared.Answer.{Answer}
 use Rattle.shelf.specs.Layout.{Waiting, campaignAt, blockAt, waitingAt, waitingIn, shelfBytes}
 use Rattle.shelf.specs.Rules.{isFor}
 use Rattle.shelf.specs.Steps.{noWaiting, without}
 use Rattle.shelf.proofs.Laid.{laid-size, laid-entry, laid-entry-of}
+use Rattle.admission.specs.Admission.{admission, admitted}
+use Rattle.admission.proofs.Kept.{refused-table}
 use Rattle.campaigns.specs.Passes.{outcome}
 use Rattle.campaigns.specs.Steps.{Standing, turned}
 use Rattle.campaigns.specs.declared.Pass.{Pass}
@@ -99,53 +99,43 @@ module _ (t s : Bytes) (o : List ℕ) (c : ℕ) (p : Pass) (h : Standing s p) wh
 
 -- ---- the places of the walk
 
+abbrev start-at : tie.After-campaign-at-arg → tie.Start
+start-at c = c .before .before .before .before
+
 abbrev start-of-own : tie.Else1 → tie.Start
-start-of-own c = c .before .before .before .before .before .before
+start-of-own c = start-at (c .before .before)
 
 -- after the try, and after it and its refusal by another number than 9
-abbrev own-of : tie.After-admit → tie.Else1
-own-of c = c .before .before .before .before
+abbrev own-of : tie.After-block-at → tie.Else1
+own-of c = c .before .before .before
 
 abbrev start-of : tie.After-admit → tie.Start
-start-of c = start-of-own (own-of c)
+start-of c = start-of-own (own-of (c .before))
 
-abbrev tried-of : tie.Else2 → tie.After-admit
-tried-of c = c .before .before .before .before
+abbrev tried-of : tie.After-struct-known → tie.After-admit
+tried-of c = c .before .before .before
 
 abbrev not-nine : tie.After-take-out → tie.Else2
 not-nine c = c .before .before
 
-abbrev taken-of : tie.After-put-answer → tie.After-take-out
-taken-of c = c .before .before .before .before .before
+abbrev taken-of : tie.After-outcome-of → tie.After-take-out
+taken-of c = c .before .before .before .before
 
 abbrev put-of : tie.After-struct-known2 → tie.After-put-answer
 put-of c = c .before .before .before
 
-campaign-at-requires : tie.Need-campaign-at-requires
-campaign-at-requires c κs =
-    let q = c .before .before .before .before .pre in
-    record { size = laid-size _ _ (q .passable .laid); place = omega (arith, q .below, q .passable .laid .few) }
-
-block-at-requires : tie.Need-block-at-requires
-block-at-requires c κs =
-    let q = start-of-own (c .before .before) .pre in
-    laid-entry-of _ _ (q .passable .laid) _ (q .below)
-
-take-out-requires : tie.Need-take-out-requires
-take-out-requires c κs = let q = start-of (tried-of (c .before)) .pre in (q .passable .laid, q .below)
-
-add-ended : (c : tie.After-struct-known2) → let q = start-of (tried-of (not-nine (taken-of (put-of c)))) in q .args .p .ended ≤ 16
-add-ended c = let q = start-of (tried-of (not-nine (taken-of (put-of c)))) in omega (arith, q .pre .passable .few)
+add-ended : (c : tie.After-struct-known2) → let q = start-of (tried-of (not-nine (taken-of (put-of c .before)) .before)) in q .args .p .ended ≤ 16
+add-ended c = let q = start-of (tried-of (not-nine (taken-of (put-of c .before)) .before)) in omega (arith, q .pre .passable .few)
 
 returns : tie.Need-returns
 returns c =
-    let q = c .before .before .before .before .before .before in
+    let q = start-at (c .before .before) in
     way-other (q .args .table .now) (q .args .shelf .now) (q .args .outcomes .now) (q .args .campaign) (q .args .p) (q .pre) _ (c .before .campaign-at .ensures) (c .if1 .taken)
 
 returns-2 : tie.Need-returns-2
 returns-2 c =
-    let d = c .before .before .before .before in
-    let n = own-of d in
+    let d = tried-of (c .before) in
+    let n = own-of (d .before) in
     let q = start-of d in
     way-stays (q .args .table .now) (q .args .shelf .now) (q .args .outcomes .now) (q .args .campaign) (q .args .p) (q .pre) _ (n .before .campaign-at .ensures) (n .if1 .left)
     _ (d .before .block-at .ensures) _ _ (d .admit .ensures .0) (d .admit .ensures .1) (c .if2 .taken)
@@ -153,40 +143,40 @@ returns-2 c =
 returns-3 : tie.Need-returns-3
 returns-3 c =
     let u = put-of (c .before) in
-    let e = not-nine (taken-of u) in
-    let d = tried-of e in
-    let n = own-of d in
+    let e = not-nine (taken-of (u .before)) in
+    let d = tried-of (e .before) in
+    let n = own-of (d .before) in
     let q = start-of d in
     way-let-in (q .args .table .now) (q .args .shelf .now) (q .args .outcomes .now) (q .args .campaign) (q .args .p) (q .pre) _ (n .before .campaign-at .ensures) (n .if1 .left)
     _ (d .before .block-at .ensures) _ _ (d .admit .ensures .0) (d .admit .ensures .1) (e .if2 .left)
-    _ (taken-of u .take-out .ensures) _ (u .before .outcome-of .ensures) _ (u .put-answer .ensures) (c .if3 .taken)
+    _ (taken-of (u .before) .take-out .ensures) _ (u .before .outcome-of .ensures) _ (u .put-answer .ensures) (c .if3 .taken)
 
 returns-4 : tie.Need-returns-4
 returns-4 c =
     let u = put-of (c .before) in
-    let e = not-nine (taken-of u) in
-    let d = tried-of e in
-    let n = own-of d in
+    let e = not-nine (taken-of (u .before)) in
+    let d = tried-of (e .before) in
+    let n = own-of (d .before) in
     let q = start-of d in
     way-dropped (q .args .table .now) (q .args .shelf .now) (q .args .outcomes .now) (q .args .campaign) (q .args .p) (q .pre) _ (n .before .campaign-at .ensures) (n .if1 .left)
     _ (d .before .block-at .ensures) _ _ (d .admit .ensures .0) (d .admit .ensures .1) (e .if2 .left)
-    _ (taken-of u .take-out .ensures) _ (u .before .outcome-of .ensures) _ (u .put-answer .ensures) (c .if3 .left)
+    _ (taken-of (u .before) .take-out .ensures) _ (u .before .outcome-of .ensures) _ (u .put-answer .ensures) (c .if3 .left)
 
 pub turn-spec : {M : Type 1} → statement M
 turn-spec =
     tie.close
     (tie.spec
-    campaign-at-requires
+    (λ c κs. let q = start-at c .pre in record { size = laid-size _ _ (q .passable .laid); place = omega (arith, q .below, q .passable .laid .few) })
     (λ c. search needs)
     (λ c. search needs)
     returns
-    block-at-requires
+    (λ c κs. let q = start-of-own (c .before .before) .pre in laid-entry-of _ _ (q .passable .laid) _ (q .below))
     (λ c κs. search needs)
     (λ c. search needs)
     (λ c. search needs)
     (λ c. search needs)
     returns-2
-    take-out-requires
+    (λ c κs. let q = start-of (tried-of (c .before .before)) .pre in (q .passable .laid, q .below))
     (λ c κs. search needs)
     (λ c κs. search needs)
     (λ c. let l = add-ended (c .before) in search needs)

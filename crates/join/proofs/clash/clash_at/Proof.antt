@@ -11,8 +11,11 @@ use Rattle.join.proofs.Clashing.{none-there, one-there}
 use Rattle.join.proofs.clash.clash_at.Statement.{statement}
 use Rattle.join.proofs.clash.clash_at.Tie as tie
 
+abbrev start : tie.After-shared-slice-known5 → tie.Start
+start c = c .before .before .before .before .before
+
 abbrev start-of : tie.After-wide → tie.Start
-start-of c = c .before .before .before .before .before .before
+start-of c = start (c .before)
 
 -- the right's place of the block, if it has one
 found : (c : tie.After-wide) → let a = start-of c .args in c .wide .result ≡ placeIn (viewOf (a .right .now)) (digestAt (a .left .now) (a .i))
@@ -20,14 +23,11 @@ found c = let s = start-of c in c .wide .ensures ∙ s .pre .1 .at (s .args .i) 
 
 shared-slice-read-wide : tie.Need-shared-slice-read-wide
 shared-slice-read-wide c =
-    let s = c .before .before .before .before .before in
+    let s = start c in
     let h = s .pre .1 .size in
     let l = formed-of _ (s .pre .0 .leftFormed) .held .fits in
     let b = s .pre .3 in
     search needs
-
-count-of-requires : tie.Need-count-of-requires
-count-of-requires c κs = formed-of _ (start-of c .pre .0 .rightFormed) .size
 
 returns : tie.Need-returns
 returns c =
@@ -59,7 +59,7 @@ clash-at-spec =
     (tie.spec
     shared-slice-read-wide
     (λ c κs. search needs)
-    count-of-requires
+    (λ c κs. formed-of _ (start-of c .pre .0 .rightFormed) .size)
     returns
     same-block-requires
     returns-2)

@@ -1,10 +1,10 @@
 -- `first_clash` meets its contract. The loop's invariant: none of the places passed clashes. Assumes nothing.
-use mathlib.Core.Path.{_≡_, sym, ap, _∙_}
+use mathlib.Core.Path.{_≡_, sym, _∙_}
 use Prim.Native.Nat.{_≤_, _-_}
 use native.Mathlib.Omega.{arith}
 use borrow.Author.Needs.{needs}
 use Rattle.base.specs.Search.{firstBelow}
-use Rattle.base.proofs.Search.{first-none, first-past, first-hit}
+use Rattle.base.proofs.Search.{first-none, first-past, first-hit, first-end}
 use Rattle.table.specs.Layout.{countOf, viewOf}
 use Rattle.table.proofs.Formed.{formed-of}
 use Rattle.join.specs.Join.{clashAt}
@@ -21,11 +21,11 @@ Inv-loop left right in-right in-left count i₀ i =
 abbrev μ-loop : tie.MeasureT-loop
 μ-loop left right in-right in-left count i₀ i = count - i
 
-count-of-requires : tie.Need-count-of-requires Inv-loop μ-loop
-count-of-requires c κs = formed-of _ (c .before .before .before .before .pre .0 .leftFormed) .size
+abbrev start : tie.After-shared-slice-known4 Inv-loop μ-loop → tie.Start Inv-loop μ-loop
+start c = c .before .before .before .before
 
 loop-holds : tie.Need-loop-holds Inv-loop μ-loop
-loop-holds c = let p = c .before .before .before .before .before .pre in (p .0, p .1, p .2, c .count-of .ensures, omega arith, first-none _)
+loop-holds c = let p = start (c .before) .pre in (p .0, p .1, p .2, c .count-of .ensures, omega arith, first-none _)
 
 -- a turn
 abbrev loop-of : tie.After-clash-at Inv-loop μ-loop → tie.At-loop Inv-loop μ-loop
@@ -45,11 +45,7 @@ loop-again c =
     (l .inv .0, l .inv .1, l .inv .2, l .inv .3, omega arith, first-past _ (l .i) (l .inv .5) (sym (c .before .clash-at .ensures) ∙ c .if1 .left))
 
 returns-2 : tie.Need-returns-2 Inv-loop μ-loop
-returns-2 c =
-    let l = c .before .loop in
-    let a = c .before .before .before .before .before .before .before .args in
-    let e : l .i ≡ countOf (a .left .now) = omega (arith, l .inv .3) in
-    l .inv .3 ∙ sym (ap (firstBelow (clashAt (viewOf (a .left .now)) (viewOf (a .right .now)))) (sym e) ∙ l .inv .5 ∙ e)
+returns-2 c = let l = c .before .loop in l .inv .3 ∙ first-end _ (l .i) _ (omega (arith, l .inv .3)) (l .inv .5)
 
 pub first-clash-spec : {M : Type 1} → statement M
 first-clash-spec =
@@ -57,7 +53,7 @@ first-clash-spec =
     (tie.spec
     Inv-loop
     μ-loop
-    count-of-requires
+    (λ c κs. formed-of _ (start c .pre .0 .leftFormed) .size)
     loop-holds
     clash-at-requires
     returns

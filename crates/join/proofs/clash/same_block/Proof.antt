@@ -6,7 +6,7 @@ use native.Mathlib.Omega.{arith}
 use lib.Dec.{eqb}
 use borrow.Author.Tests.{not-true, not-false}
 use Rattle.base.specs.Search.{allBelow}
-use Rattle.block.specs.Limits.{slotCount}
+use Rattle.setup.specs.Setup.{slotCount}
 use Rattle.table.specs.View.{maxPlaces}
 use Rattle.table.specs.Layout.{siteAt, sequenceAt, referencesAt, requestAt, viewOf}
 use Rattle.table.specs.Steps.{Place}
@@ -25,14 +25,11 @@ right-place s = let f = formed-of _ (s .pre .formed .rightFormed) in record { si
 
 -- ---- sites
 
+abbrev begin : tie.After-shared-slice-known4 → tie.Start
+begin c = c .before .before .before .before
+
 abbrev start-of : tie.After-site-at2 → tie.Start
-start-of c = c .before .before .before .before .before .before
-
-site-at-requires : tie.Need-site-at-requires
-site-at-requires c κs = left-place (c .before .before .before .before)
-
-site-at-requires-2 : tie.Need-site-at-requires-2
-site-at-requires-2 c κs = right-place (c .before .before .before .before .before)
+start-of c = begin (c .before .before)
 
 returns : tie.Need-returns
 returns c =
@@ -96,9 +93,6 @@ references-at-requires c κs = left-place (start-at (c .before .before))
 references-at-requires-2 : tie.Need-references-at-requires-2
 references-at-requires-2 c κs = right-place (start-at (c .before .before .before))
 
-refers-within-requires : tie.Need-refers-within-requires
-refers-within-requires c κs = start-at (c .before .before .before .before) .pre .there .size
-
 -- what was read
 referred : (c : tie.After-refers-within) → let a = start c .args in c .before .before .references-at .result ≡ referencesAt (a .left .now) (a .i)
 referred c = c .before .before .references-at .ensures
@@ -141,8 +135,8 @@ pub same-block-spec : {M : Type 1} → statement M
 same-block-spec =
     tie.close
     (tie.spec
-    site-at-requires
-    site-at-requires-2
+    (λ c κs. left-place (begin c))
+    (λ c κs. right-place (begin (c .before)))
     returns
     sequence-at-requires
     sequence-at-requires-2
@@ -151,7 +145,7 @@ same-block-spec =
     returns-3
     references-at-requires
     references-at-requires-2
-    refers-within-requires
+    (λ c κs. let asked = c .before .before in start-at (asked .before .before) .pre .there .size)
     returns-4
     refers-within-requires-2
     returns-5)

@@ -9,7 +9,7 @@ use borrow.Author.Tests.{eq-eqb, ne-eqb}
 use Rattle.base.specs.Bytes.{Bytes}
 use Rattle.base.proofs.Tests.{one-more}
 use Rattle.base.proofs.Search.{all-true, all-false}
-use Rattle.block.specs.Limits.{slotCount}
+use Rattle.setup.specs.Setup.{slotCount}
 use Rattle.table.specs.Layout.{requestAt}
 use Rattle.table.specs.Steps.{Place}
 use Rattle.join.proofs.clash.same_requests.Statement.{statement}
@@ -27,29 +27,30 @@ abbrev μ-loop : tie.MeasureT-loop
 loop-holds : tie.Need-loop-holds Inv-loop μ-loop
 loop-holds c = (omega arith, search needs, search needs, λ s h. absurd (omega arith))
 
+-- the places on the way, each from the next one
+abbrev start : tie.At-loop Inv-loop μ-loop → tie.Start Inv-loop μ-loop
+start c = c .before .before .before
+
+abbrev loop-of : tie.After-request-at2 Inv-loop μ-loop → tie.At-loop Inv-loop μ-loop
+loop-of c = c .before .before .before
+
 returns : tie.Need-returns Inv-loop μ-loop
 returns c =
-    let l = c .before .before .before .before .loop in
-    let a = c .before .before .before .before .before .before .before .args in
+    let l = loop-of (c .before) .loop in
+    let a = start (loop-of (c .before)) .args in
     sym (all-false (test (a .table .now) (a .i) (a .other .now) (a .j)) slotCount (l .slot) (omega arith)
     (ne-eqb _ _ (λ e. c .if1 .taken (c .before .before .request-at .ensures ∙ e ∙ sym (c .before .request-at2 .ensures)))))
 
 loop-again : tie.Need-loop-again Inv-loop μ-loop
 loop-again c =
-    let l = c .before .before .before .before .loop in
-    let a = c .before .before .before .before .before .before .before .args in (
+    let l = loop-of (c .before) .loop in
+    let a = start (loop-of (c .before)) .args in (
       omega arith,
       search needs,
       search needs,
       one-more (λ s. test (a .table .now) (a .i) (a .other .now) (a .j) s ≡ true) (l .slot)
           (eq-eqb _ _ (sym (c .before .before .request-at .ensures) ∙ c .if1 .left ∙ c .before .request-at2 .ensures)) (l .inv .3),
     )
-
-returns-2 : tie.Need-returns-2 Inv-loop μ-loop
-returns-2 c =
-    let l = c .before .loop in
-    let a = c .before .before .before .before .args in
-    sym (all-true (test (a .table .now) (a .i) (a .other .now) (a .j)) slotCount (λ s h. l .inv .3 s (omega arith)))
 
 pub same-requests-spec : {M : Type 1} → statement M
 same-requests-spec =
@@ -64,4 +65,4 @@ same-requests-spec =
     (λ c. search needs)
     (λ c. search needs)
     loop-again
-    returns-2)
+    (λ c. sym (all-true _ slotCount (λ s h. c .before .loop .inv .3 s (omega arith)))))

@@ -9,7 +9,7 @@ use Rattle.base.specs.Bytes.{splice}
 use Rattle.table.specs.View.{maxPlaces}
 use Rattle.table.specs.Layout.{countOf, viewOf}
 use Rattle.table.proofs.Formed.{formed-of}
-use Rattle.interpret.specs.Buffer.{bufferSize, partStart}
+use Rattle.records.specs.Layout.{bufferSize, partStart}
 use Rattle.join.specs.Join.{handedBack}
 use Rattle.join.specs.Steps.{Sides, Joinable, Numbered, extrasBelow}
 use Rattle.join.proofs.Handing.{copy-length, extra-more, held-more, extra-low}
@@ -25,31 +25,18 @@ abbrev μ-loop : tie.MeasureT-loop
 μ-loop left right left-records right-records places third₀ held count j₀ third j = count - j
 
 -- before the loop
-abbrev start-of : tie.After-count-of2 Inv-loop μ-loop → tie.Start Inv-loop μ-loop
-start-of c = c .before .before .before .before .before .before .before .before
-
-count-of-requires : tie.Need-count-of-requires Inv-loop μ-loop
-count-of-requires c κs = formed-of _ (c .before .before .before .before .before .before .pre .0 .formed .leftFormed) .size
-
-count-of-requires-2 : tie.Need-count-of-requires-2 Inv-loop μ-loop
-count-of-requires-2 c κs = formed-of _ (c .before .before .before .before .before .before .before .pre .0 .formed .rightFormed) .size
+abbrev start : tie.After-slice-known Inv-loop μ-loop → tie.Start Inv-loop μ-loop
+start c = c .before .before .before .before .before .before
 
 loop-holds : tie.Need-loop-holds Inv-loop μ-loop
 unfolding extrasBelow
 loop-holds c =
-    let p = start-of c .pre in
+    let p = start (c .before .before) .pre in
     (p .0, p .1, p .2, c .before .count-of .ensures, c .count-of2 .ensures, omega arith, omega (arith, c .count-of2 .ensures, formed-of _ (p .0 .formed .rightFormed) .held .fits), p .3, refl)
 
 -- a turn
 abbrev loop-of : tie.After-wide Inv-loop μ-loop → tie.At-loop Inv-loop μ-loop
 loop-of c = c .before .before .before
-
-shared-slice-read-wide : tie.Need-shared-slice-read-wide Inv-loop μ-loop
-shared-slice-read-wide c =
-    let inv = c .before .before .loop .inv in
-    let h = inv .2 .size in
-    let l = inv .6 in
-    search needs
 
 -- the place of a block that is not in the left
 free : (c : tie.Then1 Inv-loop μ-loop) → c .before .wide .result < maxPlaces
@@ -66,7 +53,7 @@ loop-again c =
     let w = c .before in
     let at = loop-of w in
     let l = at .loop in
-    let a = start-of (at .before) .args in
+    let a = start (at .before .before .before) .args in
     let inv = l .inv in
     let below : l .j < countOf (a .right .now) = omega (arith, inv .4) in
     let here = w .wide .ensures ∙ inv .2 .at (l .j) below in (
@@ -93,8 +80,9 @@ loop-again c =
 
 returns : tie.Need-returns Inv-loop μ-loop
 returns c =
-    let l = c .before .loop in
-    let a = start-of (c .before .before) .args in
+    let at = c .before in
+    let l = at .loop in
+    let a = start (at .before .before .before) .args in
     let e : l .j ≡ countOf (a .right .now) = omega (arith, l .inv .4) in
     l .inv .8 ∙ ap (extrasBelow (a .left .now) (a .right .now) (a .left-records .now) (a .right-records .now) (a .third .now)) e
 
@@ -104,10 +92,10 @@ copy-extras-spec =
     (tie.spec
     Inv-loop
     μ-loop
-    count-of-requires
-    count-of-requires-2
+    (λ c κs. formed-of _ (start c .pre .0 .formed .leftFormed) .size)
+    (λ c κs. formed-of _ (start (c .before) .pre .0 .formed .rightFormed) .size)
     loop-holds
-    shared-slice-read-wide
+    (λ c. let inv = c .before .before .loop .inv in let h = inv .2 .size in let l = inv .6 in search needs)
     (λ c κs. search needs)
     copy-part-requires
     (λ c. search needs)

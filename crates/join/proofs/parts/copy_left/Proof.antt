@@ -7,7 +7,7 @@ use borrow.Author.Needs.{needs}
 use Rattle.table.specs.View.{maxPlaces}
 use Rattle.table.specs.Layout.{countOf, viewOf}
 use Rattle.table.proofs.Formed.{formed-of}
-use Rattle.interpret.specs.Buffer.{bufferSize}
+use Rattle.records.specs.Layout.{bufferSize}
 use Rattle.join.specs.Join.{copiedBelow}
 use Rattle.join.specs.Steps.{Sides, Joinable, Held}
 use Rattle.join.proofs.Handing.{copy-length, copy-more}
@@ -23,28 +23,18 @@ abbrev μ-loop : tie.MeasureT-loop
 μ-loop left right left-records right-records in-right third₀ count i₀ third i = count - i
 
 -- before the loop
-abbrev start-of : tie.After-count-of Inv-loop μ-loop → tie.Start Inv-loop μ-loop
-start-of c = c .before .before .before .before .before .before .before
-
-count-of-requires : tie.Need-count-of-requires Inv-loop μ-loop
-count-of-requires c κs = formed-of _ (c .before .before .before .before .before .before .pre .0 .formed .leftFormed) .size
+abbrev start : tie.After-slice-known Inv-loop μ-loop → tie.Start Inv-loop μ-loop
+start c = c .before .before .before .before .before .before
 
 loop-holds : tie.Need-loop-holds Inv-loop μ-loop
 unfolding copiedBelow
 loop-holds c =
-    let p = start-of c .pre in
+    let p = start (c .before) .pre in
     (p .0, p .1, p .2, c .count-of .ensures, omega arith, omega (arith, c .count-of .ensures, formed-of _ (p .0 .formed .leftFormed) .held .fits), p .3, refl)
 
 -- a turn
 abbrev loop-of : tie.After-wide Inv-loop μ-loop → tie.At-loop Inv-loop μ-loop
 loop-of c = c .before .before .before
-
-shared-slice-read-wide : tie.Need-shared-slice-read-wide Inv-loop μ-loop
-shared-slice-read-wide c =
-    let inv = c .before .before .loop .inv in
-    let h = inv .2 .size in
-    let l = inv .5 in
-    search needs
 
 copy-part-requires : tie.Need-copy-part-requires Inv-loop μ-loop
 copy-part-requires c κs = let inv = loop-of (c .before) .loop .inv in (inv .1, omega (arith, inv .5), inv .6)
@@ -61,7 +51,7 @@ loop-again c =
     let w = place-of copy in
     let at = loop-of w in
     let l = at .loop in
-    let a = start-of (at .before) .args in
+    let a = start (at .before .before) .args in
     let inv = l .inv in (
       inv .0,
       inv .1,
@@ -76,8 +66,9 @@ loop-again c =
 
 returns : tie.Need-returns Inv-loop μ-loop
 returns c =
-    let l = c .before .loop in
-    let a = start-of (c .before .before) .args in
+    let at = c .before in
+    let l = at .loop in
+    let a = start (at .before .before) .args in
     let e : l .i ≡ countOf (a .left .now) = omega (arith, l .inv .3) in
     l .inv .7 ∙ ap (copiedBelow (viewOf (a .left .now)) (viewOf (a .right .now)) (a .left-records .now) (a .right-records .now) (a .left .now) (a .third .now)) e
 
@@ -87,9 +78,9 @@ copy-left-spec =
     (tie.spec
     Inv-loop
     μ-loop
-    count-of-requires
+    (λ c κs. formed-of _ (start c .pre .0 .formed .leftFormed) .size)
     loop-holds
-    shared-slice-read-wide
+    (λ c. let inv = c .before .before .loop .inv in let h = inv .2 .size in let l = inv .5 in search needs)
     (λ c κs. search needs)
     copy-part-requires
     (λ c. search needs)

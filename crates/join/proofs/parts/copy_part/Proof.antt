@@ -6,7 +6,7 @@ use lib.ListN.{length}
 use borrow.Author.Needs.{needs}
 use Rattle.base.specs.Bytes.{splice}
 use Rattle.table.specs.Layout.{viewOf}
-use Rattle.interpret.specs.Buffer.{partStart}
+use Rattle.records.specs.Layout.{partStart}
 use Rattle.join.proofs.Handing.{handed-short}
 use Rattle.join.proofs.parts.copy_part.Statement.{statement}
 use Rattle.join.proofs.parts.copy_part.Tie as tie
@@ -14,16 +14,17 @@ use Rattle.join.proofs.parts.copy_part.Tie as tie
 abbrev start-of : tie.After-part-of → tie.Start
 start-of c = c .before .before .before .before .before .before
 
-put-requires : tie.Need-put-requires
-put-requires c κs =
+put-part-requires : tie.Need-put-part-requires
+put-part-requires c κs =
     let s = start-of (c .before) in
-    let a = s .args in
-    omega (
-      arith,
-      s .pre .1,
+    let a = s .args in (
       s .pre .2,
-      ap {B = ℕ} length (c .before .part-of .ensures),
-      handed-short (viewOf (a .left .now)) (viewOf (a .right .now)) (a .left-records .now) (a .right-records .now) (a .i) (a .j),
+      s .pre .1,
+      omega (
+        arith,
+        ap {B = ℕ} length (c .before .part-of .ensures),
+        handed-short (viewOf (a .left .now)) (viewOf (a .right .now)) (a .left-records .now) (a .right-records .now) (a .i) (a .j),
+      ),
     )
 
 returns : tie.Need-returns
@@ -31,14 +32,13 @@ returns c =
     let put = c .before .before in
     let part = put .before .before in
     let a = start-of part .args in
-    put .put .ensures ∙ ap (splice (a .third .now) (partStart (a .place))) (part .part-of .ensures)
+    put .put-part .ensures ∙ ap (splice (a .third .now) (partStart (a .place))) (part .part-of .ensures)
 
 pub copy-part-spec : {M : Type 1} → statement M
 copy-part-spec =
     tie.close
     (tie.spec
     (λ c κs. search needs)
-    (λ c. search needs)
-    put-requires
+    put-part-requires
     (λ c. search needs)
     returns)

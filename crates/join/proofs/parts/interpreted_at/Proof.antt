@@ -13,8 +13,9 @@ returns c =
 
 returns-2 : tie.Need-returns-2
 returns-2 c =
-    let a = c .before .before .before .before .args in
-    rw (lt-ltb (a .i) (countOf (a .table .now)) (omega (arith, c .before .before .count-of .ensures, c .before .if1 .left)), ← (c .mark-at .ensures))
+    let e = c .before in
+    let a = e .before .before .before .args in
+    rw (lt-ltb (a .i) (countOf (a .table .now)) (omega (arith, e .before .count-of .ensures, e .if1 .left)), ← (c .mark-at .ensures))
 
 pub interpreted-at-spec : {M : Type 1} → statement M
 interpreted-at-spec =

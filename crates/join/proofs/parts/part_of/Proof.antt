@@ -14,11 +14,11 @@ use Rattle.join.proofs.parts.part_of.Tie as tie
 
 -- ---- the left's
 
-abbrev start-of : tie.After-interpreted-at → tie.Start
-start-of c = c .before .before .before .before .before
+abbrev start : tie.After-shared-slice-known4 → tie.Start
+start c = c .before .before .before .before
 
-interpreted-at-requires : tie.Need-interpreted-at-requires
-interpreted-at-requires c κs = formed-places _ (c .before .before .before .before .pre .formed .leftFormed)
+abbrev start-of : tie.After-interpreted-at → tie.Start
+start-of c = start (c .before)
 
 left-is : (c : tie.Then1) → let a = start-of (c .before) .args in interpretedAt (viewOf (a .left .now)) (a .i) ≡ true
 left-is c = sym (c .before .interpreted-at .ensures) ∙ c .if1 .taken
@@ -26,20 +26,11 @@ left-is c = sym (c .before .interpreted-at .ensures) ∙ c .if1 .taken
 left-low : (c : tie.Then1) → start-of (c .before) .args .i < maxPlaces
 left-low c = interpreted-low _ (start-of (c .before) .pre .formed .leftFormed) _ (left-is c)
 
-mul-at : tie.Need-mul-at
-mul-at c = let h = left-low c in search needs
-
-add-result : tie.Need-add-result
-add-result c = let h = left-low c in search needs
-
-mul-result : tie.Need-mul-result
-mul-result c = let h = left-low c in search needs
-
-part-result-end : tie.Need-part-result-end
-part-result-end c = let h = left-low c in let l = start-of (c .before) .pre .leftSize in search needs
+part-requires : tie.Need-part-requires
+part-requires c κs = (start-of (c .before) .pre .leftSize, left-low c)
 
 returns : tie.Need-returns
-returns c = from-left _ _ _ _ _ _ (left-is (c .before))
+returns c = c .part .ensures ∙ from-left _ _ _ _ _ _ (left-is (c .before))
 
 -- ---- the right's
 
@@ -58,20 +49,11 @@ right-is c = sym (c .before .interpreted-at2 .ensures) ∙ c .if2 .taken
 right-low : (c : tie.Then2) → start-at (c .before) .args .j < maxPlaces
 right-low c = interpreted-low _ (start-at (c .before) .pre .formed .rightFormed) _ (right-is c)
 
-mul-at-2 : tie.Need-mul-at-2
-mul-at-2 c = let h = right-low c in search needs
-
-add-result-2 : tie.Need-add-result-2
-add-result-2 c = let h = right-low c in search needs
-
-mul-result-2 : tie.Need-mul-result-2
-mul-result-2 c = let h = right-low c in search needs
-
-part-result-end-2 : tie.Need-part-result-end-2
-part-result-end-2 c = let h = right-low c in let l = start-at (c .before) .pre .rightSize in search needs
+part-requires-2 : tie.Need-part-requires-2
+part-requires-2 c κs = (start-at (c .before) .pre .rightSize, right-low c)
 
 returns-2 : tie.Need-returns-2
-returns-2 c = from-right _ _ _ _ _ _ (left-not (c .before .before)) (right-is (c .before))
+returns-2 c = c .part2 .ensures ∙ from-right _ _ _ _ _ _ (left-not (c .before .before)) (right-is (c .before))
 
 -- ---- an empty one
 
@@ -82,21 +64,11 @@ pub part-of-spec : {M : Type 1} → statement M
 part-of-spec =
     tie.close
     (tie.spec
-    interpreted-at-requires
-    mul-at
-    add-result
-    mul-result
-    (λ c. search needs)
-    (λ c. search needs)
-    part-result-end
+    (λ c κs. formed-places _ (start c .pre .formed .leftFormed))
+    part-requires
     returns
     interpreted-at-requires-2
-    mul-at-2
-    add-result-2
-    mul-result-2
-    (λ c. search needs)
-    (λ c. search needs)
-    part-result-end-2
+    part-requires-2
     returns-2
     (λ c. search needs)
     (λ c. search needs)

@@ -20,15 +20,12 @@ abbrev μ-loop : tie.MeasureT-loop
 μ-loop left right places₀ held count next₀ j₀ places next j = count - j
 
 -- before the loop
-count-of-requires : tie.Need-count-of-requires Inv-loop μ-loop
-count-of-requires c κs = formed-of _ (c .before .before .before .pre .0 .leftFormed) .size
-
-count-of-requires-2 : tie.Need-count-of-requires-2 Inv-loop μ-loop
-count-of-requires-2 c κs = formed-of _ (c .before .before .before .before .pre .0 .rightFormed) .size
+abbrev start : tie.After-slice-known Inv-loop μ-loop → tie.Start Inv-loop μ-loop
+start c = c .before .before .before
 
 loop-holds : tie.Need-loop-holds Inv-loop μ-loop
 loop-holds c =
-    let s = c .before .before .before .before .before in (
+    let s = start (c .before .before) in (
       s .pre .0,
       c .before .count-of .ensures,
       c .count-of2 .ensures,
@@ -41,13 +38,6 @@ loop-holds c =
 -- a turn
 abbrev loop-of : tie.After-wide Inv-loop μ-loop → tie.At-loop Inv-loop μ-loop
 loop-of c = c .before .before .before
-
-slice-read-wide : tie.Need-slice-read-wide Inv-loop μ-loop
-slice-read-wide c =
-    let inv = c .before .before .loop .inv in
-    let h = inv .4 .size in
-    let l = inv .6 in
-    search needs
 
 cast-places : tie.Need-cast-places Inv-loop μ-loop
 cast-places c = let inv = loop-of (c .before) .loop .inv in let h = inv .4 .few in let m = inv .5 in let l = inv .6 in search needs
@@ -63,7 +53,7 @@ loop-again c =
     let w = c .before in
     let at = loop-of w in
     let l = at .loop in
-    let below : l .j < countOf (at .before .before .before .before .before .before .args .right .now) = omega (arith, l .inv .2) in (
+    let below : l .j < countOf (start (at .before .before .before) .args .right .now) = omega (arith, l .inv .2) in (
       l .inv .0,
       l .inv .1,
       l .inv .2,
@@ -78,8 +68,9 @@ loop-again c =
 
 returns : tie.Need-returns Inv-loop μ-loop
 returns c =
-    let l = c .before .loop in
-    let a = c .before .before .before .before .before .before .before .args in
+    let at = c .before in
+    let l = at .loop in
+    let a = start (at .before .before .before) .args in
     let e : l .j ≡ countOf (a .right .now) = omega (arith, l .inv .2) in
     (l .inv .4 .free ∙ ap (placeBehind (a .left .now) (a .right .now)) e, record { size = l .inv .4 .size; at = λ i h. l .inv .4 .done i (omega arith) })
 
@@ -89,10 +80,10 @@ number-extras-spec =
     (tie.spec
     Inv-loop
     μ-loop
-    count-of-requires
-    count-of-requires-2
+    (λ c κs. formed-of _ (start c .pre .0 .leftFormed) .size)
+    (λ c κs. formed-of _ (start (c .before) .pre .0 .rightFormed) .size)
     loop-holds
-    slice-read-wide
+    (λ c. let inv = c .before .before .loop .inv in let h = inv .4 .size in let l = inv .6 in search needs)
     (λ c κs. search needs)
     cast-places
     slice-write-places

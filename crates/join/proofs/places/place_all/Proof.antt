@@ -20,20 +20,17 @@ abbrev μ-loop : tie.MeasureT-loop
 μ-loop table other places₀ index count k₀ places k = count - k
 
 -- before the loop
-index-of-requires : tie.Need-index-of-requires Inv-loop μ-loop
-index-of-requires c κs = c .before .before .before .pre .0 .leftFormed
-
-count-of-requires : tie.Need-count-of-requires Inv-loop μ-loop
-count-of-requires c κs = formed-of _ (c .before .before .before .before .pre .0 .rightFormed) .size
+abbrev start : tie.After-slice-known Inv-loop μ-loop → tie.Start Inv-loop μ-loop
+start c = c .before .before .before
 
 loop-holds : tie.Need-loop-holds Inv-loop μ-loop
 loop-holds c =
-    let s = c .before .before .before .before .before in
+    let s = start (c .before .before) in
     (s .pre .0, c .before .index-of .ensures, c .count-of .ensures, omega arith, record { size = s .pre .1; at = λ i l. absurd (omega arith) })
 
 -- a turn
-abbrev loop-of : tie.After-find Inv-loop μ-loop → tie.At-loop Inv-loop μ-loop
-loop-of c = c .before .before .before .before
+abbrev loop-of : tie.After-digest-at Inv-loop μ-loop → tie.At-loop Inv-loop μ-loop
+loop-of c = c .before .before .before
 
 digest-at-requires : tie.Need-digest-at-requires Inv-loop μ-loop
 digest-at-requires c κs =
@@ -42,28 +39,26 @@ digest-at-requires c κs =
     record { size = f .size; place = omega (arith, f .held .fits, inv .2) }
 
 find-requires : tie.Need-find-requires Inv-loop μ-loop
-find-requires c κs = let inv = c .before .before .before .loop .inv in record { formed = inv .0 .leftFormed; indexed = inv .1 }
+find-requires c κs = let inv = loop-of c .loop .inv in record { formed = inv .0 .leftFormed; indexed = inv .1 }
 
 -- the place found is below or at the count
 found : (c : tie.After-find Inv-loop μ-loop) → c .find .result ≤ 64
 found c =
-    let inv = loop-of c .loop .inv in
+    let inv = loop-of (c .before) .loop .inv in
     found-few _ (inv .0 .leftFormed) _ _ (c .find .ensures)
-
-cast-places : tie.Need-cast-places Inv-loop μ-loop
-cast-places c = let h = found c in search needs
 
 slice-write-places : tie.Need-slice-write-places Inv-loop μ-loop
 slice-write-places c =
-    let inv = loop-of c .loop .inv in
+    let inv = loop-of (c .before) .loop .inv in
     let h = inv .4 .size in
     let l = formed-of _ (inv .0 .rightFormed) .held .fits in
     search needs
 
 loop-again : tie.Need-loop-again Inv-loop μ-loop
 loop-again c =
-    let l = loop-of c .loop in
-    let a = loop-of c .before .before .before .before .before .before .args in
+    let at = loop-of (c .before) in
+    let l = at .loop in
+    let a = start (at .before .before .before) .args in
     let few = formed-of _ (l .inv .0 .rightFormed) .held .fits in (
       l .inv .0,
       l .inv .1,
@@ -84,13 +79,13 @@ place-all-spec =
     (tie.spec
     Inv-loop
     μ-loop
-    index-of-requires
-    count-of-requires
+    (λ c κs. start c .pre .0 .leftFormed)
+    (λ c κs. formed-of _ (start (c .before) .pre .0 .rightFormed) .size)
     loop-holds
     (λ c. search needs)
     digest-at-requires
     find-requires
-    cast-places
+    (λ c. let h = found c in search needs)
     slice-write-places
     (λ c. search needs)
     (λ c. search needs)

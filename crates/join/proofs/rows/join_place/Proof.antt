@@ -11,12 +11,15 @@ use Rattle.join.proofs.Standing.{table-sized, right-place, each, next-p
 use Rattle.join.proofs.rows.join_place.Statement.{statement}
 use Rattle.join.proofs.rows.join_place.Tie as tie
 
+abbrev start : tie.After-shared-slice-known3 → tie.Start
+start c = c .before .before .before .before
+
 abbrev start-of : tie.After-wide → tie.Start
-start-of c = c .before .before .before .before .before
+start-of c = start (c .before)
 
 shared-slice-read-wide : tie.Need-shared-slice-read-wide
 shared-slice-read-wide c =
-    let s = c .before .before .before .before in
+    let s = start c in
     let h = s .pre .numbered .size in
     let l = right-place _ _ _ _ (s .pre) .place in
     search needs
@@ -31,9 +34,6 @@ count-of-requires c κs = table-sized _ _ _ _ (start-of (c .before) .pre) .size
 
 behind : (c : tie.Then1) → let a = start-of (place-of (c .before)) .args in countOf (a .table .now) ≤ getD (a .places .now) (a .j) 0
 behind c = omega (arith, c .before .count-of .ensures, place-of (c .before) .wide .ensures, c .if1 .taken)
-
-references-at-requires : tie.Need-references-at-requires
-references-at-requires c κs = right-place _ _ _ _ (start-of (place-of (c .before)) .pre)
 
 renumbered-requires : tie.Need-renumbered-requires
 renumbered-requires c κs =
@@ -71,32 +71,21 @@ bound c =
 mark-at-requires : tie.Need-mark-at-requires
 mark-at-requires c κs = right-place _ _ _ _ (start-of (place-of (c .before)) .pre)
 
-mul-put : tie.Need-mul-put
-mul-put c = let h = bound (c .before .before .before) in search needs
-
-add-put : tie.Need-add-put
-add-put c = let h = bound (c .before .before .before) in search needs
-
-add-put-2 : tie.Need-add-put-2
-add-put-2 c = let h = bound (c .before .before .before) in search needs
-
-put-requires : tie.Need-put-requires
-put-requires c κs =
-    let else = c .before .before .before .before in
-    let h = bound else in
-    let l = table-sized _ _ _ _ (start-of (place-of (else .before)) .pre) .size in
-    search needs
+set-mark-requires : tie.Need-set-mark-requires
+set-mark-requires c κs =
+    let else = c .before .before .before in
+    record { size = table-sized _ _ _ _ (start-of (place-of (else .before)) .pre) .size; place = bound else }
 
 returns-2 : tie.Need-returns-2
 returns-2 c =
     let put = c .before .before in
-    let then = put .before .before .before in
+    let then = put .before .before in
     let else = then .before .before in
     let w = place-of (else .before) in
     let s = start-of w in
     let a = s .args in
     mark-is (a .table .now) (a .right .now) (a .j) (a .places .now) (s .pre) (low else) (sym (then .before .mark-at .ensures) ∙ then .if2 .taken) _
-    (rw (sym (w .wide .ensures)) (put .put .ensures))
+    (rw (sym (w .wide .ensures)) (put .set-mark .ensures))
 
 returns-3 : tie.Need-returns-3
 returns-3 c =
@@ -112,17 +101,13 @@ join-place-spec =
     shared-slice-read-wide
     (λ c κs. search needs)
     count-of-requires
-    references-at-requires
+    (λ c κs. right-place _ _ _ _ (start-of (place-of (c .before)) .pre))
     renumbered-requires
     put-carried-requires
     (λ c. search needs)
     returns
     mark-at-requires
-    mul-put
-    add-put
-    add-put-2
-    (λ c. search needs)
-    put-requires
+    set-mark-requires
     (λ c. search needs)
     returns-2
     (λ c. search needs)

@@ -21,13 +21,13 @@ Inv-loop left₀ right places count j₀ left j =
 abbrev μ-loop : tie.MeasureT-loop
 μ-loop left₀ right places count j₀ left j = count - j
 
-count-of-requires : tie.Need-count-of-requires Inv-loop μ-loop
-count-of-requires c κs = formed-of _ (c .before .before .before .pre .0 .formed .rightFormed) .size
+abbrev start : tie.After-shared-slice-known2 Inv-loop μ-loop → tie.Start Inv-loop μ-loop
+start c = c .before .before .before
 
 loop-holds : tie.Need-loop-holds Inv-loop μ-loop
 unfolding joinBelow
 loop-holds c =
-    let p = c .before .before .before .before .pre in
+    let p = start (c .before) .pre in
     (p .0, p .1, c .count-of .ensures, omega arith, omega (arith, c .count-of .ensures, formed-of _ (p .0 .formed .rightFormed) .held .fits), refl)
 
 -- a turn
@@ -45,7 +45,7 @@ loop-again c =
     let step = c .before .before in
     let at = step .before .before .before in
     let l = at .loop in
-    let a = at .before .before .before .before .before .args in
+    let a = start (at .before .before) .args in
     let inv = l .inv in
     (inv .0, inv .1, inv .2, omega arith, inv .4, more (a .left .now) (a .right .now) _ _ (l .j) (inv .5) (step .join-place .ensures))
 
@@ -58,7 +58,7 @@ same-length c =
 returns : tie.Need-returns Inv-loop μ-loop
 returns c =
     let l = c .before .loop in
-    let a = c .before .before .before .before .before .before .args in
+    let a = start (c .before .before .before) .args in
     let e : l .j ≡ countOf (a .right .now) = omega (arith, l .inv .2) in
     l .inv .5 ∙ ap (joinBelow (a .left .now) (viewOf (a .right .now))) e
 
@@ -68,7 +68,7 @@ join-rows-spec =
     (tie.spec
     Inv-loop
     μ-loop
-    count-of-requires
+    (λ c κs. formed-of _ (start c .pre .0 .formed .rightFormed) .size)
     loop-holds
     join-place-requires
     (λ c. search needs)

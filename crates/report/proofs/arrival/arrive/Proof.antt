@@ -1,82 +1,103 @@
 -- `arrive` meets its contract, one way out after the other. Assumes nothing.
-use mathlib.Core.Path.{ap, _∙_}
+use mathlib.Core.Path.{_≡_, ap, _∙_}
 use Prim.Native.Nat.{_≤_}
 use native.Mathlib.Omega.{arith}
 use borrow.Author.Needs.{needs}
 use lib.ListN.{length}
+use Rattle.sha256.specs.Sha256.{sha256}
 use Rattle.block.specs.Limits.{headerSize}
-use Rattle.agreement.specs.Run.{Site}
+use Rattle.run.specs.Run.{Site}
+use Rattle.report.specs.Listing.{siteArrived}
 use Rattle.report.specs.Framing.{linesOf}
 use Rattle.report.proofs.Arrived.{refused-table, refused-records, refused-lines, taken-table, taken-records, uninterpreted-lines, header-there, place-there, delivered-lines}
 use Rattle.report.proofs.arrival.arrive.Statement.{statement}
 use Rattle.report.proofs.arrival.arrive.Tie as tie
 
+-- ---- the places of the walk
+
+abbrev start : tie.After-admit → tie.Start
+start c = c .before .before .before .before .before
+
+abbrev site : tie.After-admit → Site
+site c = let a = start c .args in record { table = a .table .now; records = a .records .now }
+
+abbrev answered : tie.After-struct-known → tie.After-admit
+answered c = c .before .before .before
+
+abbrev taken : tie.After-interpret → tie.Else1
+taken c = c .before .before .before
+
+abbrev admitted : tie.After-interpret → tie.After-admit
+admitted c = answered (taken c .before)
+
+abbrev interpreted : tie.After-struct-known2 → tie.After-interpret
+interpreted c = c .before .before .before .before .before
+
+abbrev told : tie.After-shared-slice-known2 → tie.Else2
+told c = c .before .before
+
+-- ---- what holds where the block was taken
+
+-- the site after it
+abbrev arrived : tie.After-interpret → Site
+arrived c = let m = admitted c in siteArrived sha256 (site m) (start m .args .block .now) (start m .args .verdict)
+
+left : (c : tie.After-interpret) → (c .interpret .last .0 ≡ arrived c .table) × (c .interpret .last .1 .1 .0 ≡ arrived c .records)
+left c =
+    let m = admitted c in
+    let a = start m .args in
+    let e = m .admit .ensures in
+    let i = c .interpret in (
+      taken-table (site m) (a .block .now) (a .verdict) (a .arrival) _ _ (e .0) (e .1) (taken c .if1 .left) _ _ _ (i .ensures .0) (i .ensures .1 .0) (i .ensures .1 .1),
+      taken-records (site m) (a .block .now) (a .verdict) (a .arrival) _ _ (e .0) (e .1) (taken c .if1 .left) _ _ _ (i .ensures .0) (i .ensures .1 .0) (i .ensures .1 .1),
+    )
+
+-- its block has a header
+header : (c : tie.After-interpret) → headerSize ≤ length (start (admitted c) .args .block .now)
+header c =
+    let m = admitted c in
+    let a = start m .args in
+    let i = c .interpret .ensures in
+    header-there (site m) (a .block .now) (a .verdict) (a .arrival) _ _ (m .admit .ensures .0) (m .admit .ensures .1) (taken c .if1 .left) _ _ _ (i .0) (i .1 .0) (i .1 .1)
+
 returns : tie.Need-returns
 returns c =
-    let a = c .before .before .before .before .before .before .before .before .before .before .args in
-    let x : Site = record { table = a .table .now; records = a .records .now } in
-    let m = c .before .before .before .before .before .admit in
+    let m = answered (c .before .before) in
+    let a = start m .args in
+    let e = m .admit .ensures in
     let refused = c .before .if1 .taken in (
-      c .refused .ensures ∙ ap linesOf (refused-lines x (a .block .now) (a .verdict) (a .arrival) (m .result) (m .last .0) (m .ensures .0) (m .ensures .1) refused),
-      (refused-table x (a .block .now) (a .verdict) (a .arrival) (m .result) (m .last .0) (m .ensures .0) (m .ensures .1) refused, refused-records x (a .block .now) (a .verdict) (a .arrival) (m .result) (m .last .0) (m .ensures .0) (m .ensures .1) refused),
+      c .refused .ensures ∙ ap linesOf (refused-lines (site m) (a .block .now) (a .verdict) (a .arrival) _ _ (e .0) (e .1) refused),
+      (refused-table (site m) (a .block .now) (a .verdict) (a .arrival) _ _ (e .0) (e .1) refused, refused-records (site m) (a .block .now) (a .verdict) (a .arrival) _ _ (e .0) (e .1) refused),
     )
 
 returns-2 : tie.Need-returns-2
 returns-2 c =
-    let a = c .before .before .before .before .before .before .before .before .before .before .before .before .before .before .before .before .before .before .before .args in
-    let x : Site = record { table = a .table .now; records = a .records .now } in
-    let m = c .before .before .before .before .before .before .before .before .before .before .before .before .before .before .admit in
-    let i = c .before .before .before .before .before .before .before .interpret in
-    let taken = c .before .before .before .before .before .before .before .before .before .before .if1 .left in (
-      c .refused2 .ensures ∙ ap linesOf (uninterpreted-lines x (a .block .now) (a .verdict) (a .arrival) (m .result) (m .last .0) (m .ensures .0) (m .ensures .1) taken (i .result) (i .last .0) (i .last .1 .1 .0) (i .ensures .0) (i .ensures .1 .0) (i .ensures .1 .1) (c .before .if2 .taken)),
-      (taken-table x (a .block .now) (a .verdict) (a .arrival) (m .result) (m .last .0) (m .ensures .0) (m .ensures .1) taken (i .result) (i .last .0) (i .last .1 .1 .0) (i .ensures .0) (i .ensures .1 .0) (i .ensures .1 .1), taken-records x (a .block .now) (a .verdict) (a .arrival) (m .result) (m .last .0) (m .ensures .0) (m .ensures .1) taken (i .result) (i .last .0) (i .last .1 .1 .0) (i .ensures .0) (i .ensures .1 .0) (i .ensures .1 .1)),
-    )
-
-header : tie.Need-shared-slice-read-delivery-lines
-header c =
-    let a = c .before .before .before .before .before .before .before .before .before .before .before .before .before .before .before .before .before .before .before .before .args in
-    let x : Site = record { table = a .table .now; records = a .records .now } in
-    let m = c .before .before .before .before .before .before .before .before .before .before .before .before .before .before .before .admit in
-    let i = c .before .before .before .before .before .before .before .before .interpret in
-    let h : headerSize ≤ length (a .block .now) = header-there x (a .block .now) (a .verdict) (a .arrival) (m .result) (m .last .0) (m .ensures .0) (m .ensures .1) (c .before .before .before .before .before .before .before .before .before .before .before .if1 .left) (i .result) (i .last .0) (i .last .1 .1 .0) (i .ensures .0) (i .ensures .1 .0) (i .ensures .1 .1) in
-    omega arith
-
-header-2 : tie.Need-shared-slice-read-number-of
-header-2 c =
-    let a = c .before .before .before .before .before .before .before .before .before .before .before .before .before .before .before .before .before .before .before .before .before .args in
-    let x : Site = record { table = a .table .now; records = a .records .now } in
-    let m = c .before .before .before .before .before .before .before .before .before .before .before .before .before .before .before .before .admit in
-    let i = c .before .before .before .before .before .before .before .before .before .interpret in
-    let h : headerSize ≤ length (a .block .now) = header-there x (a .block .now) (a .verdict) (a .arrival) (m .result) (m .last .0) (m .ensures .0) (m .ensures .1) (c .before .before .before .before .before .before .before .before .before .before .before .before .if1 .left) (i .result) (i .last .0) (i .last .1 .1 .0) (i .ensures .0) (i .ensures .1 .0) (i .ensures .1 .1) in
-    omega arith
-
-header-3 : tie.Need-shared-slice-read-number-of-2
-header-3 c =
-    let a = c .before .before .before .before .before .before .before .before .before .before .before .before .before .before .before .before .before .before .before .before .before .before .args in
-    let x : Site = record { table = a .table .now; records = a .records .now } in
-    let m = c .before .before .before .before .before .before .before .before .before .before .before .before .before .before .before .before .before .admit in
-    let i = c .before .before .before .before .before .before .before .before .before .before .interpret in
-    let h : headerSize ≤ length (a .block .now) = header-there x (a .block .now) (a .verdict) (a .arrival) (m .result) (m .last .0) (m .ensures .0) (m .ensures .1) (c .before .before .before .before .before .before .before .before .before .before .before .before .before .if1 .left) (i .result) (i .last .0) (i .last .1 .1 .0) (i .ensures .0) (i .ensures .1 .0) (i .ensures .1 .1) in
-    omega arith
+    let u = interpreted (c .before .before) in
+    let m = admitted u in
+    let a = start m .args in
+    let i = u .interpret .ensures in
+    let lines = uninterpreted-lines (site m) (a .block .now) (a .verdict) (a .arrival) _ _ (m .admit .ensures .0) (m .admit .ensures .1) (taken u .if1 .left) _ _ _ (i .0) (i .1 .0) (i .1 .1) (c .before .if2 .taken) in
+    (c .refused2 .ensures ∙ ap linesOf lines, left u)
 
 delivery-lines-requires : tie.Need-delivery-lines-requires
 delivery-lines-requires c κs =
-    let a = c .before .before .before .before .before .before .before .before .before .before .before .before .before .before .before .before .before .before .before .before .before .before .before .args in
-    let x : Site = record { table = a .table .now; records = a .records .now } in
-    let m = c .before .before .before .before .before .before .before .before .before .before .before .before .before .before .before .before .before .before .admit in
-    let i = c .before .before .before .before .before .before .before .before .before .before .before .interpret in
-    place-there x (a .block .now) (a .verdict) (a .arrival) (m .result) (m .last .0) (m .ensures .0) (m .ensures .1) (c .before .before .before .before .before .before .before .before .before .before .before .before .before .before .if1 .left) (i .result) (i .last .0) (i .last .1 .1 .0) (i .ensures .0) (i .ensures .1 .0) (i .ensures .1 .1) (c .before .before .before .before .before .if2 .left)
+    let d = told (c .before .before .before) in
+    let u = interpreted (d .before) in
+    let m = admitted u in
+    let a = start m .args in
+    let i = u .interpret .ensures in
+    place-there (site m) (a .block .now) (a .verdict) (a .arrival) _ _ (m .admit .ensures .0) (m .admit .ensures .1) (taken u .if1 .left) _ _ _ (i .0) (i .1 .0) (i .1 .1) (d .if2 .left)
 
 returns-3 : tie.Need-returns-3
 returns-3 c =
-    let a = c .before .before .before .before .before .before .before .before .before .before .before .before .before .before .before .before .before .before .before .before .before .before .before .before .args in
-    let x : Site = record { table = a .table .now; records = a .records .now } in
-    let m = c .before .before .before .before .before .before .before .before .before .before .before .before .before .before .before .before .before .before .before .admit in
-    let i = c .before .before .before .before .before .before .before .before .before .before .before .before .interpret in
-    let taken = c .before .before .before .before .before .before .before .before .before .before .before .before .before .before .before .if1 .left in (
-      c .delivery-lines .ensures ∙ rw (c .before .number-of .ensures) (ap linesOf (delivered-lines x (a .block .now) (a .verdict) (a .arrival) (m .result) (m .last .0) (m .ensures .0) (m .ensures .1) taken (i .result) (i .last .0) (i .last .1 .1 .0) (i .ensures .0) (i .ensures .1 .0) (i .ensures .1 .1) (c .before .before .before .before .before .before .if2 .left))),
-      (taken-table x (a .block .now) (a .verdict) (a .arrival) (m .result) (m .last .0) (m .ensures .0) (m .ensures .1) taken (i .result) (i .last .0) (i .last .1 .1 .0) (i .ensures .0) (i .ensures .1 .0) (i .ensures .1 .1), taken-records x (a .block .now) (a .verdict) (a .arrival) (m .result) (m .last .0) (m .ensures .0) (m .ensures .1) taken (i .result) (i .last .0) (i .last .1 .1 .0) (i .ensures .0) (i .ensures .1 .0) (i .ensures .1 .1)),
-    )
+    let n = c .before in
+    let d = told (n .before .before .before) in
+    let u = interpreted (d .before) in
+    let m = admitted u in
+    let a = start m .args in
+    let i = u .interpret .ensures in
+    let lines = delivered-lines (site m) (a .block .now) (a .verdict) (a .arrival) _ _ (m .admit .ensures .0) (m .admit .ensures .1) (taken u .if1 .left) _ _ _ (i .0) (i .1 .0) (i .1 .1) (d .if2 .left) in
+    (c .delivery-lines .ensures ∙ rw (n .number-of .ensures) (ap linesOf lines), left u)
 
 pub arrive-spec : {M : Type 1} → statement M
 arrive-spec =
@@ -91,9 +112,9 @@ arrive-spec =
     (λ c. search needs)
     (λ c. search needs)
     returns-2
-    header
-    header-2
-    header-3
+    (λ c. let h = header (interpreted (told c .before)) in omega arith)
+    (λ c. let h = header (interpreted (told (c .before) .before)) in omega arith)
+    (λ c. let h = header (interpreted (told (c .before .before) .before)) in omega arith)
     (λ c κs. search needs)
     delivery-lines-requires
     (λ c. search needs)

@@ -8,7 +8,7 @@ use lib.ListN.{length, replicate}
 use Rattle.base.specs.Bytes.{Bytes, joined}
 use Rattle.base.specs.List.{listBelow}
 use Rattle.base.proofs.Parts.{joined-list-more}
-use Rattle.block.specs.Limits.{slotCount}
+use Rattle.setup.specs.Setup.{slotCount}
 use Rattle.report.specs.Text.{deliveryText}
 use Rattle.report.specs.Listing.{delivery, deliveryLines}
 use Rattle.report.specs.Framing.{lineSize, linesSize}
@@ -35,14 +35,18 @@ loop-holds : tie.Need-loop-holds Inv-loop μ-loop
 unfolding joined listBelow
 loop-holds c = (put-nothing (replicate linesSize 0) 0, omega arith, omega arith, search needs)
 
+abbrev turn : tie.After-delivered-in Inv-loop μ-loop → tie.At-loop Inv-loop μ-loop
+turn c = c .before .before
+
 loop-again : tie.Need-loop-again Inv-loop μ-loop
 loop-again c =
-    let a = c .before .before .before .before .before .before .before .args in
-    let l = c .before .before .before .before .before .loop in
+    let d = c .before .before .before in
+    let l = turn d .loop in
+    let a = turn d .before .before .args in
     let p = c .before .put-delivery in
     let of : ℕ → Bytes = slotText (a .records .now) (a .arrival) (a .place) (a .site) (a .sequence) in
     let one : Put (l .bytes) (l .length) (of (l .slot)) (p .last .0) (p .result) =
-    rw (← c .before .before .before .delivered .ensures) (record { ends = p .ensures .0 .0; holds = p .ensures .1 }) in
+    rw (← d .delivered-in .ensures) (record { ends = p .ensures .0 .0; holds = p .ensures .1 }) in
     let all : Front (joined (listBelow of (l .slot + 1))) (p .last .0) (p .result) =
     rw (joined-list-more of (l .slot)) (put-behind (replicate linesSize 0) 0 (joined (listBelow of (l .slot))) (of (l .slot)) (l .bytes) (p .last .0) (l .length) (p .result) (omega arith) (l .inv .0) one) in
     (all, omega arith, omega arith, put-keeps (replicate linesSize 0) 0 (joined (listBelow of (l .slot + 1))) (p .last .0) (p .result) all (omega arith))

@@ -7,6 +7,9 @@ use Rattle.report.proofs.Behind.{put-nothing}
 use Rattle.report.proofs.arrival.put_delivery.Statement.{statement}
 use Rattle.report.proofs.arrival.put_delivery.Tie as tie
 
+abbrev delivers : tie.After-put-line → tie.Else1
+delivers c = c .before .before .before .before .before
+
 returns : tie.Need-returns
 unfolding deliveryText
 returns c =
@@ -17,8 +20,9 @@ returns c =
 returns-2 : tie.Need-returns-2
 unfolding deliveryText deliveryLine
 returns-2 c =
-    let a = c .before .before .before .before .before .before .before .before .before .before .args in
-    rw (ne-eqb (a .d .number) 0 (c .before .before .before .before .before .before .before .if1 .left)) (c .before .before .put-line .ensures)
+    let put = c .before .before in
+    let some = delivers put in
+    rw (ne-eqb (some .before .before .before .args .d .number) 0 (some .if1 .left)) (put .put-line .ensures)
 
 pub put-delivery-spec : {M : Type 1} → statement M
 put-delivery-spec =

@@ -4,16 +4,31 @@ use native.Mathlib.Omega.{arith}
 use borrow.Author.Needs.{needs}
 use Rattle.base.proofs.Parts.{part-size}
 use Rattle.sha256.specs.Sha256.{sha256}
-use Rattle.agreement.specs.Run.{Site}
+use Rattle.run.specs.Run.{Site}
 use Rattle.report.specs.Framing.{handed}
 use Rattle.report.proofs.Ways.{block-cut, site-cut, block-whole, site-whole}
 use Rattle.report.proofs.framing.block_step.Statement.{statement}
 use Rattle.report.proofs.framing.block_step.Tie as tie
 
+-- ---- the places of the walk
+
+abbrev start : tie.After-shared-slice-known → tie.Start
+start c = c .before .before .before
+
+abbrev site : tie.Start → Site
+site c = record { table = c .args .table .now; records = c .args .records .now }
+
+abbrev whole : tie.After-arrive → tie.Else1
+whole c = c .before .before .before .before .before
+
+abbrev arrived : tie.After-slice-known4 → tie.After-arrive
+arrived c = c .before .before .before .before
+
 returns : tie.Need-returns
 returns c =
-    let a = c .before .before .before .before .before .before .args in
-    let x : Site = record { table = a .table .now; records = a .records .now } in
+    let s = start (c .before .before .before) in
+    let a = s .args in
+    let x : Site = site s in
     let e = site-cut sha256 (a .size) (a .arrivals) x (a .piece .now) (omega arith) in (
       c .stepped .ensures
           ∙ rw (c .before .refused .ensures) (ap handed (sym (block-cut sha256 (a .size) (a .arrivals) x (a .piece .now) (omega arith)))),
@@ -22,9 +37,11 @@ returns c =
 
 returns-2 : tie.Need-returns-2
 returns-2 c =
-    let a = c .before .before .before .before .before .before .before .before .before .before .before .before .before .before .before .args in
-    let x : Site = record { table = a .table .now; records = a .records .now } in
-    let r = rw (part-size 1 (a .size)) at (c .before .before .before .before .before .before .arrive .ensures) in
+    let v = arrived (c .before .before) in
+    let s = start (whole v .before) in
+    let a = s .args in
+    let x : Site = site s in
+    let r = rw (part-size 1 (a .size)) at (v .arrive .ensures) in
     let e = site-whole sha256 (a .size) (a .arrivals) x (a .piece .now) (omega arith) in (
       c .stepped2 .ensures
           ∙ rw (r .0, c .before .following .ensures) (ap handed (sym (block-whole sha256 (a .size) (a .arrivals) x (a .piece .now) (omega arith)))),

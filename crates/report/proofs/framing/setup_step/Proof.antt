@@ -7,7 +7,7 @@ use native.Mathlib.Omega.{arith}
 use borrow.Author.Needs.{needs}
 use lib.ListN.{length}
 use Rattle.base.specs.Bytes.{Bytes}
-use Rattle.block.specs.declared.Answer.{Answer}
+use Rattle.answer.specs.declared.Answer.{Answer}
 use Rattle.table.specs.Fresh.{freshAnswer}
 use Rattle.report.specs.Text.{names, setupLine}
 use Rattle.report.specs.Arrivals.{setupSize, setupIn}
@@ -29,28 +29,40 @@ module _ (table piece : Bytes) (short : length piece < setupSize) where
   short-refused : setupStep table piece ≡ outcome End 0 (names ++ setupLine 1)
   short-refused = setup-refused table piece refuses ∙ ap (λ (r : ℕ). outcome End 0 (names ++ setupLine r)) one
 
+-- ---- the places of the walk
+
+abbrev start : tie.After-shared-slice-known → tie.Start
+start c = c .before .before
+
+abbrev made : tie.After-struct-known → tie.After-fresh-in
+made c = c .before .before .before
+
+-- the table is made or not, and the answer says so
+abbrev start-of : tie.After-struct-known → tie.Start
+start-of c = start (made c .before .before .before .before .before)
+
+told : (c : tie.After-struct-known) → let a = start-of c .args in made c .fresh-in .result .refusal ≡ freshAnswer (setupIn (a .piece .now)) (a .table .now) .refusal
+told c = ap (λ (r : Answer). r .refusal) (made c .fresh-in .ensures .0)
+
 returns : tie.Need-returns
 returns c =
-    let a = c .before .before .before .before .before .args in (
+    let a = start (c .before .before .before) .args in (
       c .stepped .ensures ∙ rw (c .before .names-and-refusal .ensures) (ap handed (sym (short-refused (a .table .now) (a .piece .now) (omega arith)))),
       sym (refused-kept (setupIn (a .piece .now)) (a .table .now) (refuses (a .table .now) (a .piece .now) (omega arith))),
     )
 
 returns-2 : tie.Need-returns-2
 returns-2 c =
-    let a = c .before .before .before .before .before .before .before .before .before .before .before .before .before .args in
-    let f = c .before .before .before .before .before .before .fresh-in in
-    let e : f .result .refusal ≡ freshAnswer (setupIn (a .piece .now)) (a .table .now) .refusal = ap (λ (r : Answer). r .refusal) (f .ensures .0) in
-    let some : freshAnswer (setupIn (a .piece .now)) (a .table .now) .refusal ≢ 0 = λ q. c .before .before .if2 .taken (e ∙ q) in
-    (c .stepped2 .ensures ∙ rw (c .before .names-and-refusal2 .ensures, e) (ap handed (sym (setup-refused (a .table .now) (a .piece .now) some))), f .ensures .1)
+    let d = c .before .before in
+    let a = start-of (d .before) .args in
+    let some = setup-refused (a .table .now) (a .piece .now) (λ q. d .if2 .taken (told (d .before) ∙ q)) in
+    (c .stepped2 .ensures ∙ rw (c .before .names-and-refusal2 .ensures, told (d .before)) (ap handed (sym some)), made (d .before) .fresh-in .ensures .1)
 
 returns-3 : tie.Need-returns-3
 returns-3 c =
-    let a = c .before .before .before .before .before .before .before .before .before .before .before .before .before .args in
-    let f = c .before .before .before .before .before .before .fresh-in in
-    let e : f .result .refusal ≡ freshAnswer (setupIn (a .piece .now)) (a .table .now) .refusal = ap (λ (r : Answer). r .refusal) (f .ensures .0) in
-    let none : freshAnswer (setupIn (a .piece .now)) (a .table .now) .refusal ≡ 0 = sym e ∙ omega arith in
-    (c .stepped3 .ensures ∙ rw (c .before .names .ensures) (ap handed (sym (setup-made (a .table .now) (a .piece .now) none))), f .ensures .1)
+    let d = c .before .before .before in
+    let a = start-of d .args in
+    (c .stepped3 .ensures ∙ rw (c .before .names .ensures) (ap handed (sym (setup-made (a .table .now) (a .piece .now) (sym (told d) ∙ omega arith)))), made d .fresh-in .ensures .1)
 
 pub setup-step-spec : {M : Type 1} → statement M
 setup-step-spec =

@@ -7,28 +7,19 @@ use Rattle.report.proofs.Ways.{skip-cut, skip-last, skip-more}
 use Rattle.report.proofs.framing.skip_step.Statement.{statement}
 use Rattle.report.proofs.framing.skip_step.Tie as tie
 
-returns : tie.Need-returns
-returns c = let a = c .before .before .before .before .args in c .quiet .ensures ∙ ap handed (sym (skip-cut (a .arrivals) (a .piece .now) (a .left) (omega arith)))
-
-returns-2 : tie.Need-returns-2
-returns-2 c = let a = c .before .before .before .before .args in c .quiet2 .ensures ∙ ap handed (sym (skip-last (a .arrivals) (a .piece .now) (a .left) (omega arith) (omega arith)))
-
-returns-3 : tie.Need-returns-3
-returns-3 c = let a = c .before .before .before .before .args in c .quiet3 .ensures ∙ ap handed (sym (skip-cut (a .arrivals) (a .piece .now) (a .left) (omega arith)))
-
-returns-4 : tie.Need-returns-4
-returns-4 c = let a = c .before .before .before .before .args in c .quiet4 .ensures ∙ ap handed (sym (skip-more (a .arrivals) (a .piece .now) (a .left) (omega arith) (omega arith)))
+abbrev start : tie.After-shared-slice-known → tie.Start
+start c = c .before
 
 pub skip-step-spec : {M : Type 1} → statement M
 skip-step-spec =
     tie.close
     (tie.spec
     (λ c κs. search needs)
-    returns
+    (λ c. let a = start (c .before .before .before) .args in c .quiet .ensures ∙ ap handed (sym (skip-cut (a .arrivals) (a .piece .now) (a .left) (omega arith))))
     (λ c κs. search needs)
-    returns-2
+    (λ c. let a = start (c .before .before .before) .args in c .quiet2 .ensures ∙ ap handed (sym (skip-last (a .arrivals) (a .piece .now) (a .left) (omega arith) (omega arith))))
     (λ c κs. search needs)
-    returns-3
+    (λ c. let a = start (c .before .before .before) .args in c .quiet3 .ensures ∙ ap handed (sym (skip-cut (a .arrivals) (a .piece .now) (a .left) (omega arith))))
     (λ c. search needs)
     (λ c κs. search needs)
-    returns-4)
+    (λ c. let a = start (c .before .before .before) .args in c .quiet4 .ensures ∙ ap handed (sym (skip-more (a .arrivals) (a .piece .now) (a .left) (omega arith) (omega arith)))))

@@ -21,6 +21,9 @@ cut c = c .before .before .before .before
 abbrev start : tie.After-step → tie.Start
 start c = cut c .before .before .before .before .before .before .before
 
+abbrev stepped : tie.After-bytes → tie.After-step
+stepped c = c .before .before .before .before .before .before .before
+
 -- the lines are no longer than their array
 short : (c : tie.After-step) → c .step .result .lines .length ≤ linesSize
 short c =
@@ -28,20 +31,11 @@ short c =
     let l : length (q .result .lines .bytes) ≡ linesSize = search needs in
     handed-fits _ (q .result) (q .ensures .0) l
 
-within : tie.Need-array-share-prefix-bytes
-within c =
-    let s = c .before .before .before .before .before .before .before .before in
-    let l : length (s .step .result .lines .bytes) ≡ linesSize = search needs in
-    omega (arith, short s)
-
 abbrev stepped-at : tie.After-bytes2 → tie.After-step
-stepped-at c = c .before .before .before .before .before .before .before .before .before
+stepped-at c = stepped (c .before .before)
 
 front-length : (c : tie.After-step) → c .step .result .lines .length ≤ length (c .step .result .lines .bytes)
 front-length c = let l : length (c .step .result .lines .bytes) ≡ linesSize = search needs in omega (arith, short c)
-
-front : tie.Need-slice-aggregate-put
-front c = let q = stepped-at c .step .result .lines in sym (length-take-le (q .length) (q .bytes) (front-length (stepped-at c)))
 
 put-requires : tie.Need-put-requires
 put-requires c κs =
@@ -94,8 +88,8 @@ advance-spec =
     (λ c. search needs)
     (λ c. search needs)
     (λ c κs. search needs)
-    within
-    front
+    (λ c. front-length (stepped (c .before)))
+    (λ c. let q = stepped-at c .step .result .lines in sym (length-take-le (q .length) (q .bytes) (front-length (stepped-at c))))
     put-requires
     add-fits
     (λ c. search needs)

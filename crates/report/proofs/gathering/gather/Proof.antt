@@ -6,7 +6,7 @@ use Prim.Native.Nat.{ℕ, _-_}
 use native.Mathlib.Omega.{arith}
 use lib.ListN.{length}
 use Rattle.base.specs.Bytes.{Bytes, splice}
-use Rattle.agreement.specs.Run.{Site}
+use Rattle.run.specs.Run.{Site}
 use Rattle.report.specs.Gathering.{siteWith, Gathering, isDue, gatheredOf}
 use Rattle.report.specs.declared.Gathered.{Gathered}
 use Rattle.report.proofs.AllDue.{work}
@@ -33,20 +33,27 @@ Inv-loop table₀ records₀ unread is-ended output₀ done₀ table records out
 abbrev μ-loop : tie.MeasureT-loop
 μ-loop table₀ records₀ unread is-ended output₀ done₀ table records output done = work (length unread) (done .state) (done .used)
 
+-- ---- the places of the walk
+
+abbrev start-at : tie.After-slice-known3 Inv-loop μ-loop → tie.Start Inv-loop μ-loop
+start-at c = c .before .before .before .before
+
 loop-holds : tie.Need-loop-holds Inv-loop μ-loop
 loop-holds c =
-    let a = c .before .before .before .before .args in
+    let a = start-at c .args in
     (leads-start (a .unread .now) (a .is-ended) (a .output .now) (a .state) (siteWith (a .table .now) (a .records .now)), refl, refl)
 
--- where the code was before
 abbrev start : tie.At-loop Inv-loop μ-loop → tie.Start Inv-loop μ-loop
-start c = c .before .before .before .before .before
+start c = start-at (c .before)
 
 abbrev site : tie.At-loop Inv-loop μ-loop → Site
 site c = siteWith (start c .args .table .now) (start c .args .records .now)
 
-abbrev asked : tie.After-advance Inv-loop μ-loop → tie.Then1 Inv-loop μ-loop
-asked c = c .before .before .before .before
+abbrev asked : tie.After-advance-arg3 Inv-loop μ-loop → tie.Then1 Inv-loop μ-loop
+asked c = c .before .before .before
+
+abbrev advanced : tie.After-slice-known6 Inv-loop μ-loop → tie.After-advance Inv-loop μ-loop
+advanced c = c .before .before .before .before .before .before
 
 abbrev turn : tie.Then1 Inv-loop μ-loop → tie.At-loop Inv-loop μ-loop
 turn c = c .before .before
@@ -57,9 +64,6 @@ size-at c =
     let l = c .loop in
     same-size (a .unread .now) (a .is-ended) (a .output .now) (a .state) (site c) (l .table) (l .records) (l .output) (l .done) (l .inv .0)
 
-is-due-requires : tie.Need-is-due-requires Inv-loop μ-loop
-is-due-requires c κs = (c .loop .inv .0 .within, rw (size-at c) (c .loop .inv .0 .fits))
-
 -- a step that is made is due
 due-at : (c : tie.Then1 Inv-loop μ-loop) → let a = start (turn c) .args in let l = turn c .loop in
     isDue (a .is-ended) (l .done .state) (length (a .unread .now) - l .done .used) (length (l .output) - l .done .length) ≡ true
@@ -67,15 +71,15 @@ due-at c = sym (c .before .is-due .ensures) ∙ c .if1 .taken
 
 advance-requires : tie.Need-advance-requires Inv-loop μ-loop
 advance-requires c κs =
-    let t = c .before .before .before in
+    let t = asked c in
     let a = start (turn t) .args in
     let l = turn t .loop in
     (l .inv .0 .within, has-room (a .unread .now) (a .is-ended) (a .output .now) (a .state) (site (turn t)) (l .table) (l .records) (l .output) (l .done) (l .inv .0) (due-at t))
 
 loop-less : tie.Need-loop-less Inv-loop μ-loop
 loop-less c =
-    let v = c .before .before .before .before .before .before in
-    let t = asked v in
+    let v = advanced c in
+    let t = asked (v .before) in
     let a = start (turn t) .args in
     let l = turn t .loop in
     let e = v .advance .ensures in
@@ -84,8 +88,8 @@ loop-less c =
 
 loop-again : tie.Need-loop-again Inv-loop μ-loop
 loop-again c =
-    let v = c .before .before .before .before .before .before in
-    let t = asked v in
+    let v = advanced c in
+    let t = asked (v .before) in
     let a = start (turn t) .args in
     let l = turn t .loop in
     let e = v .advance .ensures in (
@@ -111,7 +115,7 @@ gather-spec =
     Inv-loop
     μ-loop
     loop-holds
-    is-due-requires
+    (λ c κs. (c .loop .inv .0 .within, rw (size-at c) (c .loop .inv .0 .fits)))
     advance-requires
     loop-less
     loop-again

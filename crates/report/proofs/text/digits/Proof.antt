@@ -43,12 +43,6 @@ Inv-loop n bytes₀ start₀ rest₀ bytes start rest =
 abbrev μ-loop : tie.MeasureT-loop
 μ-loop n bytes₀ start₀ rest₀ bytes start rest = rest
 
-loop-holds : tie.Need-loop-holds Inv-loop μ-loop
-loop-holds c = (sym (last-apart (c .args .n)), fits (c .args .n) (omega arith), omega arith, search needs)
-
-sub-start-2 : tie.Need-sub-start-2 Inv-loop μ-loop
-sub-start-2 c = omega (arith, shorter (c .before .loop .rest) (omega arith))
-
 loop-again : tie.Need-loop-again Inv-loop μ-loop
 loop-again c =
     let l = c .before .loop in
@@ -77,8 +71,8 @@ digits-spec =
     (λ c. omega arith)
     (λ c. omega arith)
     (λ c. omega arith)
-    loop-holds
-    sub-start-2
+    (λ c. (sym (last-apart (c .args .n)), fits (c .args .n) (omega arith), omega arith, search needs))
+    (λ c. omega (arith, shorter (c .before .loop .rest) (omega arith)))
     (λ c. omega arith)
     (λ c. omega arith)
     (λ c. omega arith)

@@ -17,9 +17,11 @@ put-refusal-requires c κs =
 
 returns : tie.Need-returns
 returns c =
-    let n = c .before .before .before .before .put-names in
-    let l = c .before .put-refusal in
-    handed-lines (names ++ setupLine (c .before .before .before .before .before .before .args .refusal)) _ _
+    let second = c .before in
+    let l = second .put-refusal in
+    let first = second .before .before .before in
+    let n = first .put-names in
+    handed-lines (names ++ setupLine (first .before .before .args .refusal)) _ _
     (put-behind (replicate linesSize 0) 0 names _ (n .last .0) (l .last .0) (n .result) (l .result) (omega arith)
     (at-front names _ _ (n .ensures .0 .0) (n .ensures .1)) (record { ends = l .ensures .0 .0; holds = l .ensures .1 }))
 

@@ -17,17 +17,21 @@ size-left b start n h l e = sym (ap length (sym e) ∙ length-drop start b ∙ a
 whole : (b : Bytes) (start : ℕ) → length b ≡ 20 → take (20 - start) (drop start b) ≡ drop start b
 whole b start l = ap (λ (m : ℕ). take (m - start) (drop start b)) (sym l) ∙ rest-part b start
 
+abbrev digits : tie.After-put-arg2 → tie.After-digits
+digits c = c .before .before .before .before
+
 put-requires : tie.Need-put-requires
 put-requires c κs =
-    let d = c .before .before .before .before .digits in
+    let d = digits c .digits in
     rw (whole (d .result .bytes) (d .result .start) (d .ensures .0 .1)) (omega (arith, length-drop (d .result .start) (d .result .bytes)))
 
 returns : tie.Need-returns
 returns c =
-    let a = c .before .before .before .before .before .before .before .before .before .args in
-    let d = c .before .before .before .before .before .before .before .digits in (
+    let put = c .before .before in
+    let d = digits (put .before) .digits in
+    let a = digits (put .before) .before .before .args in (
       (ap (λ (m : ℕ). a .at + m) (size-left (d .result .bytes) (d .result .start) (a .n) (d .ensures .0 .0) (d .ensures .0 .1) (d .ensures .1)), omega arith),
-      c .before .before .put .ensures
+      put .put .ensures
           ∙ ap (splice (a .out .now) (a .at)) (whole (d .result .bytes) (d .result .start) (d .ensures .0 .1) ∙ d .ensures .1),
     )
 

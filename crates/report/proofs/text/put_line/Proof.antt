@@ -33,13 +33,17 @@ loop-holds : tie.Need-loop-holds Inv-loop μ-loop
 unfolding joined listBelow
 loop-holds c = (put-nothing (c .before .args .out .now) (c .before .args .at), omega arith, omega arith, refl)
 
+abbrev turn : tie.After-ending Inv-loop μ-loop → tie.At-loop Inv-loop μ-loop
+turn c = c .before .before .before .before
+
 loop-again : tie.Need-loop-again Inv-loop μ-loop
 loop-again c =
-    let a = c .before .before .before .before .before .before .before .before .before .args in
-    let l = c .before .before .before .before .before .before .before .loop in
+    let e = c .before .before .before in
+    let l = turn e .loop in
+    let a = turn e .before .before .args in
     let f = c .before .before .put-field in
     let one : Put (l .out) (l .end) (fieldIn (a .t3) (l .i)) (f .last .0) (f .result) =
-    rw (← c .before .before .before .ending .ensures) (record { ends = f .ensures .0 .0; holds = f .ensures .1 }) in
+    rw (← e .ending .ensures) (record { ends = f .ensures .0 .0; holds = f .ensures .1 }) in
     let all : Put (a .out .now) (a .at) (firstFields (a .t3) (l .i + 1)) (f .last .0) (f .result) =
     rw (joined-list-more (fieldIn (a .t3)) (l .i)) (put-behind (a .out .now) (a .at) (firstFields (a .t3) (l .i)) (fieldIn (a .t3) (l .i)) (l .out) (f .last .0) (l .end) (f .result) (omega arith) (l .inv .0) one) in
     (all, omega arith, omega arith, put-keeps (a .out .now) (a .at) (firstFields (a .t3) (l .i + 1)) (f .last .0) (f .result) all (omega arith))

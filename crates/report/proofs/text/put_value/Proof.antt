@@ -9,11 +9,11 @@ use Rattle.report.proofs.text.put_value.Tie as tie
 
 returns : tie.Need-returns
 unfolding fieldText
-returns c = rw (c .before .before .before .before .before .field .given .1) (c .before .before .put-decimal .ensures)
+returns c = let p = c .before .before in rw (p .before .before .before .field .given .1) (p .put-decimal .ensures)
 
 returns-2 : tie.Need-returns-2
 unfolding fieldText ascii listBelow
-returns-2 c = rw (c .before .before .before .before .before .enum-told .given .1) ((refl, omega arith), c .before .before .put .ensures)
+returns-2 c = let p = c .before .before in rw (p .before .before .before .enum-told .given .1) ((refl, omega arith), p .put .ensures)
 
 pub put-value-spec : {M : Type 1} → statement M
 put-value-spec =

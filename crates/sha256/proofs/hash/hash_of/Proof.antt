@@ -25,17 +25,6 @@ loop-holds : tie.Need-loop-holds Inv-loop μ-loop
 unfolding hash
 loop-holds c = (omega arith, refl)
 
-loop-again : tie.Need-loop-again Inv-loop μ-loop
-loop-again c =
-    let l = c .before .before .loop in
-    (omega arith, more _ _ (l .i) (l .v) _ (l .inv .1) (c .compress-of .ensures))
-
-returns : tie.Need-returns Inv-loop μ-loop
-returns c =
-    let l = c .before .loop in
-    let e : l .i ≡ c .before .before .before .args .n = omega arith in
-    rw e at (l .inv .1)
-
 pub hash-of-spec : {M : Type 1} → statement M
 hash-of-spec =
     tie.close
@@ -47,5 +36,5 @@ hash-of-spec =
     (λ c κs. search needs)
     (λ c. search needs)
     (λ c. search needs)
-    loop-again
-    returns)
+    (λ c. let l = c .before .before .loop in (omega arith, more _ _ (l .i) (l .v) _ (l .inv .1) (c .compress-of .ensures)))
+    (λ c. let l = c .before .loop in let e : l .i ≡ c .before .before .before .args .n = omega arith in rw e at (l .inv .1)))

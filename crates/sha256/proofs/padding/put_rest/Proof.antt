@@ -33,23 +33,21 @@ rest m tail out at n a b z e o =
     let p : take (length m - at) (drop at m) ≡ drop at m = take-all (length m - at) (drop at m) (omega arith) in
     placed (drop at m) out n (omega arith) (rw p at e) (rw (p, z) at o) ∙ rw l
 
-copy-requires : tie.Need-copy-requires
-copy-requires c κs =
-    let s = c .before .before .before .before in
-    let l : length (now (s .args .tail)) ≡ 128 = ap length (s .pre .2) in
-    simp (length-take, length-drop) (omega arith)
+abbrev start : tie.After-copy-arg2 → tie.Start
+start c = c .before .before .before .before
 
 slice-write-tail : tie.Need-slice-write-tail
 slice-write-tail c =
-    let s = c .before .before .before .before .before .before .before in
+    let copied = c .before .before in
+    let s = start (copied .before) in
     let l : length (now (s .args .tail)) ≡ 128 = ap length (s .pre .2) in
-    omega (arith, simp (length-take, length-drop) at (c .before .before .copy .ensures .0))
+    omega (arith, simp (length-take, length-drop) at (copied .copy .ensures .0))
 
 returns : tie.Need-returns
 returns c =
-    let s = c .before .before .before .before .before .before .before in
-    let copied = c .before .before .copy .ensures in
-    rest (now (s .args .message)) (now (s .args .tail)) _ (s .args .at) _ (s .pre .0) (s .pre .1) (s .pre .2) (copied .0) (copied .1)
+    let copied = c .before .before in
+    let s = start (copied .before) in
+    rest (now (s .args .message)) (now (s .args .tail)) _ (s .args .at) _ (s .pre .0) (s .pre .1) (s .pre .2) (copied .copy .ensures .0) (copied .copy .ensures .1)
 
 pub put-rest-spec : {M : Type 1} → statement M
 put-rest-spec =
@@ -58,7 +56,7 @@ put-rest-spec =
     (λ c. search needs)
     (λ c. search needs)
     (λ c. search needs)
-    copy-requires
+    (λ c κs. let s = start c in let l : length (now (s .args .tail)) ≡ 128 = ap length (s .pre .2) in simp (length-take, length-drop) (omega arith))
     slice-write-tail
     (λ c. search needs)
     returns)

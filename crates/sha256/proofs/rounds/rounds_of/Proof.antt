@@ -33,19 +33,14 @@ loop-again c =
     let third = c .before .before in
     let second = third .before .before in
     let first = second .before .before in
-    let l = first .before .before .before .loop in
-    let a = first .before .before .before .before .args in
+    let turn = first .before .before .before in
+    let l = turn .loop in
+    let a = turn .before .args in
     let more = one-more (a .s) in
     let e₁ = more _ _ (now (a .w)) (l .t) (l .t + 1) refl (l .inv .2) (first .round-at .ensures) in
     let e₂ = more _ _ (now (a .w)) (l .t + 1) (l .t + 2) (omega arith) e₁ (second .round-at2 .ensures) in
     let e₃ = more _ _ (now (a .w)) (l .t + 2) (l .t + 3) (omega arith) e₂ (third .round-at3 .ensures) in
     (omega arith, omega arith, more _ _ (now (a .w)) (l .t + 3) (l .t + 4) (omega arith) e₃ (c .round-at4 .ensures))
-
-returns : tie.Need-returns Inv-loop μ-loop
-returns c =
-    let l = c .before .loop in
-    let e : l .t ≡ 64 = omega arith in
-    rw e at (l .inv .2)
 
 pub rounds-of-spec : {M : Type 1} → statement M
 rounds-of-spec =
@@ -64,4 +59,4 @@ rounds-of-spec =
     (λ c. search needs)
     (λ c. search needs)
     loop-again
-    returns)
+    (λ c. let l = c .before .loop in let e : l .t ≡ 64 = omega arith in rw e at (l .inv .2)))

@@ -62,9 +62,6 @@ loop-again c =
     let n : v ≡ next (l .w) (l .t) = rw (l .inv .3) at (c .next-of .ensures) in
     (omega arith, omega arith, simp length-set (l .inv .2), older (l .w) (l .t) v (l .b) (l .inv .0) (l .inv .4), newer (l .w) (l .t) v (omega arith), step _ (l .w) (l .t) v (l .inv .0) (omega arith) (l .inv .5) n)
 
-returns : tie.Need-returns Inv-loop μ-loop
-returns c = let l = c .before .loop in finish _ (l .w) (l .t) (omega arith) (l .inv .2) (l .inv .5)
-
 pub extend-spec : {M : Type 1} → statement M
 extend-spec =
     tie.close
@@ -89,4 +86,4 @@ extend-spec =
     (λ c. search needs)
     (λ c. search needs)
     loop-again
-    returns)
+    (λ c. let l = c .before .loop in finish _ (l .w) (l .t) (omega arith) (l .inv .2) (l .inv .5)))

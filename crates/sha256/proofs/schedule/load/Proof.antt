@@ -32,11 +32,6 @@ loop-again c =
     let l = c .before .before .loop in
     (omega arith, simp length-set (l .inv .1), step _ (l .w) _ (l .t) (c .word-at .result) (omega arith) (l .inv .2) (c .word-at .ensures))
 
-returns : tie.Need-returns Inv-loop μ-loop
-returns c =
-    let e : c .before .loop .t ≡ 16 = omega arith in
-    rw e at (c .before .loop .inv .2)
-
 pub load-spec : {M : Type 1} → statement M
 load-spec =
     tie.close
@@ -52,4 +47,4 @@ load-spec =
     (λ c. search needs)
     (λ c. search needs)
     loop-again
-    returns)
+    (λ c. let e : c .before .loop .t ≡ 16 = omega arith in rw e at (c .before .loop .inv .2)))

@@ -20,9 +20,6 @@ four b i x y z w h =
     let two : i + 2 ≡ suc (suc i) = omega arith in
     rw (three, two, add-one) (splice-of-stores b (x ∷ y ∷ z ∷ w ∷ []) i h)
 
-returns : tie.Need-returns
-returns c = simp div-one (four (now (c .args .m)) (c .args .i) _ _ _ _ (c .pre))
-
 pub put-word-spec : {M : Type 1} → statement M
 put-word-spec =
     tie.close
@@ -39,4 +36,4 @@ put-word-spec =
     (λ c. search needs)
     (λ c. simp length-set (omega arith))
     (λ c. search needs)
-    returns)
+    (λ c. simp div-one (four (now (c .args .m)) (c .args .i) _ _ _ _ (c .pre))))

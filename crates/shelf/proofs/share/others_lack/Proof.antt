@@ -21,6 +21,9 @@ Inv-loop shelf campaign sum₀ c₀ sum c = (c ≤ campaignCount) × Sized shelf
 abbrev μ-loop : tie.MeasureT-loop
 μ-loop shelf campaign sum₀ c₀ sum c = campaignCount - c
 
+abbrev start : tie.At-loop Inv-loop μ-loop → tie.Start Inv-loop μ-loop
+start c = c .before .before
+
 loop-holds : tie.Need-loop-holds Inv-loop μ-loop
 unfolding sumBelow
 loop-holds c = (omega arith, c .before .pre, omega arith, refl)
@@ -28,7 +31,7 @@ loop-holds c = (omega arith, c .before .pre, omega arith, refl)
 loop-again : tie.Need-loop-again Inv-loop μ-loop
 loop-again c =
     let l = c .before .before .loop in
-    let a = c .before .before .before .before .args in
+    let a = start (c .before .before) .args in
     let turn = sum-more (λ d. cond (eqb d (a .campaign)) 0 (lack d (waitingIn (a .shelf .now)))) (l .c) in
     ⊎-elim
     (λ w.
@@ -43,7 +46,7 @@ loop-again c =
 returns : tie.Need-returns Inv-loop μ-loop
 returns c =
     let l = c .before .loop in
-    let a = c .before .before .before .args in
+    let a = start (c .before) .args in
     let e : l .c ≡ campaignCount = omega arith in
     l .inv .3 ∙ ap (sumBelow (λ d. cond (eqb d (a .campaign)) 0 (lack d (waitingIn (a .shelf .now))))) e
 

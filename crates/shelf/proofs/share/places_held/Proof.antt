@@ -21,13 +21,13 @@ Inv-loop shelf campaign k held₀ i₀ held i =
 abbrev μ-loop : tie.MeasureT-loop
 μ-loop shelf campaign k held₀ i₀ held i = k - i
 
-loop-holds : tie.Need-loop-holds Inv-loop μ-loop
-loop-holds c = (omega arith, c .count-of .ensures, c .before .before .pre, omega arith, omega arith)
+abbrev start : tie.At-loop Inv-loop μ-loop → tie.Start Inv-loop μ-loop
+start c = c .before .before .before
 
 loop-again : tie.Need-loop-again Inv-loop μ-loop
 loop-again c =
     let l = c .before .before .before .loop in
-    let a = c .before .before .before .before .before .before .args in
+    let a = start (c .before .before .before) .args in
     let i = l .inv in
     let turn = holds-turn (a .shelf .now) (l .i) (omega (arith, i .1)) (a .campaign) in
     let e = c .before .campaign-at .ensures in
@@ -46,7 +46,7 @@ returns : tie.Need-returns Inv-loop μ-loop
 unfolding holds countIn
 returns c =
     let l = c .before .loop in
-    let a = c .before .before .before .before .args in
+    let a = start (c .before) .args in
     let i = l .inv in
     let e = ap (holds (a .campaign)) (waiting-end (a .shelf .now) (l .i) (omega (arith, i .1))) in
     (omega (arith, i .4), omega (arith, i .1, i .2 .few, i .3))
@@ -58,7 +58,7 @@ places-held-spec =
     Inv-loop
     μ-loop
     (λ c κs. search needs)
-    loop-holds
+    (λ c. (omega arith, c .count-of .ensures, c .before .before .pre, omega arith, omega arith))
     (λ c κs. search needs)
     (λ c. search needs)
     (λ c. search needs)

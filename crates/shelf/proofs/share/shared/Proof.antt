@@ -25,6 +25,9 @@ Inv-loop shelf sum₀ c₀ sum c =
 abbrev μ-loop : tie.MeasureT-loop
 μ-loop shelf sum₀ c₀ sum c = campaignCount - c
 
+abbrev start : tie.At-loop Inv-loop μ-loop → tie.Start Inv-loop μ-loop
+start c = c .before .before
+
 loop-holds : tie.Need-loop-holds Inv-loop μ-loop
 unfolding sumBelow
 loop-holds c = (omega arith, c .before .pre, omega arith, refl, λ j h. absurd (omega arith))
@@ -32,17 +35,20 @@ loop-holds c = (omega arith, c .before .pre, omega arith, refl, λ j h. absurd (
 returns : tie.Need-returns Inv-loop μ-loop
 unfolding shared
 returns c =
-    let l = c .before .before .before .loop in
-    let ws = waitingIn (c .before .before .before .before .before .args .shelf .now) in
+    let t = c .before .before .before in
+    let l = t .loop in
+    let ws = waitingIn (start t .args .shelf .now) in
     let h = c .before .places-held .ensures .0 in
     rw (all-false (λ j. leb (holds j ws) maxShare) campaignCount (l .c) (omega arith) (lt-leb (holds (l .c) ws) maxShare (omega (arith, c .if1 .taken))))
 
 loop-again : tie.Need-loop-again Inv-loop μ-loop
 loop-again c =
-    let l = c .before .before .before .before .loop in
-    let ws = waitingIn (c .before .before .before .before .before .before .args .shelf .now) in
+    let held = c .before .before in
+    let t = held .before .before in
+    let l = t .loop in
+    let ws = waitingIn (start t .args .shelf .now) in
     let r = c .lacked .ensures in
-    let h = c .before .before .places-held .ensures .0 in
+    let h = held .places-held .ensures .0 in
     let turn = sum-more (λ d. lack d ws) (l .c) in (
       omega arith,
       l .inv .1,
@@ -55,7 +61,7 @@ returns-2 : tie.Need-returns-2 Inv-loop μ-loop
 unfolding shared
 returns-2 c =
     let l = c .before .before .loop in
-    let s = c .before .before .before .before .args .shelf .now in
+    let s = start (c .before .before) .args .shelf .now in
     let ws = waitingIn s in
     let e : l .c ≡ campaignCount = omega arith in
     let n : maxWaiting - c .count-of .result ≡ maxWaiting - length ws = omega (arith, c .count-of .ensures, length-waiting s) in

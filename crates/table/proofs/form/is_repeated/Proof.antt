@@ -11,17 +11,18 @@ use Rattle.table.proofs.Prints.{print-lt, new-digest}
 use Rattle.table.proofs.form.is_repeated.Statement.{statement}
 use Rattle.table.proofs.form.is_repeated.Tie as tie
 
+abbrev start : tie.After-in-mask → tie.Start
+start c = c .before .before .before
+
 returns : tie.Need-returns
 returns c =
-    let s = c .before .before .before .before in
+    let s = start (c .before) in
     sym (new-digest (s .args .table .now) (s .args .i)
     (sym (c .before .in-mask .ensures ∙ ap₂ inMask (s .pre .1) (c .before .before .print-at .ensures)) ∙ not-true _ (c .if1 .taken)))
 
 returns-2 : tie.Need-returns-2
 unfolding anyBelow
-returns-2 c =
-    let s = c .before .before .before .before .before .before in
-    ap (λ (n : ℕ). ltb n (s .args .i)) (rw (c .before .digest-at .ensures) at (c .place-of .ensures))
+returns-2 c = ap (λ (n : ℕ). ltb n (start (c .before .before .before) .args .i)) (rw (c .before .digest-at .ensures) at (c .place-of .ensures))
 
 pub is-repeated-spec : {M : Type 1} → statement M
 is-repeated-spec =

@@ -10,16 +10,19 @@ use Rattle.table.specs.Steps.{rowWith}
 use Rattle.table.proofs.form.parent_in_form.Statement.{statement}
 use Rattle.table.proofs.form.parent_in_form.Tie as tie
 
--- the table, the place and the references
+-- the places on the way, each from the next one
+abbrev sequence : tie.After-parents-among → tie.After-sequence-at
+sequence c = c .before .before .before
+
 abbrev start : tie.After-parents-among → tie.Start
-start c = c .before .before .before .before .before
+start c = sequence c .before .before
 
 later : (c : tie.After-parents-among) → let a = start c .args in eqb (sequenceAt (a .table .now) (a .i)) 0 ≡ false
-later c = rw (← c .before .before .before .sequence-at .ensures) (ne-eqb _ 0 (c .before .before .if1 .left))
+later c = rw (← sequence c .sequence-at .ensures) (ne-eqb _ 0 (c .before .before .if1 .left))
 
 counted : (c : tie.After-parents-among) → let a = start c .args in parents (viewOf (a .table .now)) (a .i) (rowWith (a .table .now) (a .i) (a .references)) ≡ c .parents-among .result
 unfolding parents
-counted c = sym (rw (c .before .site-at .ensures, c .before .before .before .sequence-at .ensures) at (c .parents-among .ensures))
+counted c = sym (rw (c .before .site-at .ensures, sequence c .sequence-at .ensures) at (c .parents-among .ensures))
 
 returns : tie.Need-returns
 unfolding parentInForm parentRule

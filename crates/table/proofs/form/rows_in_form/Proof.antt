@@ -65,6 +65,9 @@ start c = c .before .before .before .before
 abbrev loop : tie.After-wide2 Inv-loop μ-loop → tie.At-loop Inv-loop μ-loop
 loop c = c .before .before .before
 
+abbrev checked : tie.Joined3 Inv-loop μ-loop → tie.After-row-in-form Inv-loop μ-loop
+checked c = c .before .before .before
+
 -- the row's site, the count of sites, and what the row's check asks
 site : (c : tie.After-wide2 Inv-loop μ-loop) → c .wide2 .result ≡ siteAt (start (loop c) .args .table .now) (loop c .loop .i)
 site c = c .wide2 .ensures ∙ c .before .site-at .ensures
@@ -77,7 +80,7 @@ group c = rw (c .group-at .ensures) (group-lt (start (loop (c .before .before)) 
 
 print : (c : tie.After-print-at Inv-loop μ-loop) → c .print-at .result < printCount
 print c =
-    let l = loop (c .before .before .before .before .before .before .before) in
+    let l = loop (checked (c .before) .before .before .before) in
     rw (c .print-at .ensures) (print-lt (start l .args .table .now) (l .loop .i))
 
 entered : (c : tie.Else1 Inv-loop μ-loop) → c .before .wide2 .result < maxSites
@@ -107,7 +110,7 @@ returns c =
 
 returns-2 : tie.Need-returns-2 Inv-loop μ-loop
 returns-2 c =
-    let l = loop (c .before .before .before .before) in
+    let entry = c .before .before .before in let l = loop (entry .before) in
     let a = start l .args in
     sym (all-false (rowInForm (setupOf (a .table .now)) (viewOf (a .table .now))) (a .k) (l .loop .i) (omega arith)
     (sym (c .before .row-in-form .ensures) ∙ not-true _ (c .if2 .taken)))
@@ -135,12 +138,6 @@ loop-again c =
           (sym (r .before .row-in-form .ensures) ∙ not-false _ (r .if2 .left)) (l .inv .5),
     )
 
-returns-3 : tie.Need-returns-3 Inv-loop μ-loop
-returns-3 c =
-    let l = c .before .loop in
-    let a = start (c .before) .args in
-    sym (all-true (rowInForm (setupOf (a .table .now)) (viewOf (a .table .now))) (a .k) (λ j h. l .inv .5 j (omega arith)))
-
 pub rows-in-form-spec : {M : Type 1} → statement M
 rows-in-form-spec =
     tie.close
@@ -163,13 +160,13 @@ rows-in-form-spec =
     (λ c κs. search needs)
     (λ c. search needs)
     (λ c. search needs)
-    (λ c. let h = entered (c .before .before .before .before .before) in search needs)
-    (λ c. let h = entered (c .before .before .before .before .before) in search needs)
+    (λ c. let h = entered (checked c .before .before) in search needs)
+    (λ c. let h = entered (checked c .before .before) in search needs)
     (λ c κs. search needs)
     (λ c. let h = print c in search needs)
-    (λ c. let h = group (c .before .before .before .before .before) in search needs)
-    (λ c. let h = group (c .before .before .before .before .before) in search needs)
+    (λ c. let h = group (checked (c .before) .before) in search needs)
+    (λ c. let h = group (checked (c .before) .before) in search needs)
     (λ c. search needs)
     (λ c. search needs)
     loop-again
-    returns-3)
+    (λ c. sym (all-true _ (start (c .before) .args .k) (λ j h. c .before .loop .inv .5 j (omega arith)))))

@@ -45,9 +45,9 @@ not-here t d b j n s e q z f i l h = elim (eq-or-lt-of-le l) [
   | inr m ↦ f i (omega arith) h
 ]
 
--- where the code was before
-abbrev start : tie.After-wide2 Inv-loop μ-loop → tie.Start Inv-loop μ-loop
-start c = c .before .before .before .before .before .before .before
+-- where the code starts
+abbrev start : tie.After-wide Inv-loop μ-loop → tie.Start Inv-loop μ-loop
+start c = c .before .before .before .before .before
 
 low-byte : (c : tie.After-wide Inv-loop μ-loop) → c .wide .result < byteCount
 low-byte c = rw (c .wide .ensures) (c .before .first-of .ok)
@@ -58,7 +58,7 @@ all-bytes c = ap length (c .pre .indexed) ∙ length-list (λ b. lastOf (c .args
 loop-holds : tie.Need-loop-holds Inv-loop μ-loop
 loop-holds c =
     let w = c .before .before in
-    begins _ _ _ _ _ (start c .pre) (low-byte w) (w .wide .ensures ∙ w .before .first-of .ensures) (c .wide2 .ensures)
+    begins _ _ _ _ _ (start w .pre) (low-byte w) (w .wide .ensures ∙ w .before .first-of .ensures) (c .wide2 .ensures)
 
 digest-at-requires : tie.Need-digest-at-requires Inv-loop μ-loop
 digest-at-requires c κs =
@@ -69,9 +69,9 @@ digest-at-requires c κs =
 returns : tie.Need-returns Inv-loop μ-loop
 returns c =
     let d = c .before .before in
-    let l = d .before .before .loop in
-    let a = start (d .before .before .before) .args in
-    sym (only-place (a .table .now) (a .digest .now) _ (l .inv .1 .formed) (omega (arith, l .inv .0))
+    let l = d .before .before in
+    let a = start (l .before .before .before) .args in
+    sym (only-place (a .table .now) (a .digest .now) _ (l .loop .inv .1 .formed) (omega (arith, l .loop .inv .0))
     (ap (λ (b : Bytes). sameBytes b (a .digest .now)) (sym (d .digest-at .ensures)) ∙ sym (c .before .same .ensures) ∙ c .if1 .taken))
 
 loop-again : tie.Need-loop-again Inv-loop μ-loop
@@ -85,9 +85,9 @@ loop-again c =
 
 returns-2 : tie.Need-returns-2 Inv-loop μ-loop
 returns-2 c =
-    let l = c .before .before .loop in
-    let a = start (c .before .before .before) .args in
-    c .count-of .ensures ∙ sym (first-nowhere (hasDigest (viewOf (a .table .now)) (a .digest .now)) (countOf (a .table .now)) (λ i h. l .inv .2 i (omega arith) h))
+    let l = c .before .before in
+    let a = start (l .before .before .before) .args in
+    c .count-of .ensures ∙ sym (first-nowhere (hasDigest (viewOf (a .table .now)) (a .digest .now)) (countOf (a .table .now)) (λ i h. l .loop .inv .2 i (omega arith) h))
 
 pub find-spec : {M : Type 1} → statement M
 find-spec =
@@ -97,7 +97,7 @@ find-spec =
     μ-loop
     (λ c κs. search needs)
     (λ c κs. search needs)
-    (λ c. let h = low-byte (c .before) in let n = all-bytes (c .before .before .before .before .before .before) in search needs)
+    (λ c. let h = low-byte (c .before) in let n = all-bytes (start (c .before)) in search needs)
     (λ c κs. search needs)
     loop-holds
     (λ c. search needs)

@@ -40,9 +40,9 @@ loop-again c =
 
 returns : tie.Need-returns Inv-loop μ-loop
 returns c =
-    let l = c .before .loop in
-    let e : l .j ≡ countOf (c .before .before .before .before .args .table .now) = omega (arith, l .inv .1) in
-    rw e at (l .inv .3)
+    let l = c .before in
+    let e : l .loop .j ≡ countOf (l .before .before .before .args .table .now) = omega (arith, l .loop .inv .1) in
+    rw e at (l .loop .inv .3)
 
 pub index-of-spec : {M : Type 1} → statement M
 index-of-spec =

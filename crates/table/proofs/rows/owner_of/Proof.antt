@@ -3,7 +3,7 @@ use mathlib.Core.Path.{sym, _∙_}
 use lib.ListN.{drop}
 use lib.Seq.{getD-take, getD-drop}
 use borrow.Author.Needs.{needs}
-use Rattle.block.specs.Limits.{slotCount}
+use Rattle.setup.specs.Setup.{slotCount}
 use Rattle.table.specs.Layout.{ownersOffset}
 use Rattle.table.proofs.rows.owner_of.Statement.{statement}
 use Rattle.table.proofs.rows.owner_of.Tie as tie

@@ -4,7 +4,7 @@ use Prim.Native.Nat.{_≤_, _-_}
 use native.Mathlib.Omega.{arith}
 use borrow.Author.Needs.{needs}
 use Rattle.base.specs.Search.{firstBelow}
-use Rattle.base.proofs.Search.{first-none, first-past, first-hit}
+use Rattle.base.proofs.Search.{first-none, first-past, first-hit, first-end}
 use Rattle.table.specs.Layout.{viewOf}
 use Rattle.table.specs.Rules.{refersUninterpreted}
 use Rattle.table.specs.Steps.{Places, rowOf}
@@ -22,26 +22,20 @@ loop-holds c = (omega arith, search needs, first-none _)
 
 returns : tie.Need-returns Inv-loop μ-loop
 returns c =
-    let l = c .before .before .before .loop in
-    let a = c .before .before .before .before .before .args in
-    sym (first-hit (refersUninterpreted (viewOf (a .table .now)) (rowOf 0 0 (a .references))) (l .j) (a .k) (omega arith) (l .inv .2)
+    let l = c .before .before .before in
+    let a = l .before .before .args in
+    sym (first-hit (refersUninterpreted (viewOf (a .table .now)) (rowOf 0 0 (a .references))) (l .loop .j) (a .k) (omega arith) (l .loop .inv .2)
     (sym (c .before .refers-uninterpreted .ensures) ∙ c .if1 .taken))
 
 loop-again : tie.Need-loop-again Inv-loop μ-loop
 loop-again c =
-    let l = c .before .before .before .loop in
-    let a = c .before .before .before .before .before .args in (
+    let l = c .before .before .before in
+    let a = l .before .before .args in (
       omega arith,
       search needs,
-      first-past (refersUninterpreted (viewOf (a .table .now)) (rowOf 0 0 (a .references))) (l .j) (l .inv .2)
+      first-past (refersUninterpreted (viewOf (a .table .now)) (rowOf 0 0 (a .references))) (l .loop .j) (l .loop .inv .2)
           (sym (c .before .refers-uninterpreted .ensures) ∙ c .if1 .left),
     )
-
-returns-2 : tie.Need-returns-2 Inv-loop μ-loop
-returns-2 c =
-    let l = c .before .loop in
-    let e : l .j ≡ c .before .before .before .args .k = omega arith in
-    sym (rw e at (l .inv .2))
 
 pub first-uninterpreted-spec : {M : Type 1} → statement M
 first-uninterpreted-spec =
@@ -55,4 +49,4 @@ first-uninterpreted-spec =
     (λ c. search needs)
     (λ c. search needs)
     loop-again
-    returns-2)
+    (λ c. let l = c .before .loop in first-end _ (l .j) _ (omega arith) (l .inv .2)))

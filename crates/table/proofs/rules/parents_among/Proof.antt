@@ -41,11 +41,14 @@ few t k site sequence references left count inv =
     let most : parents (viewOf t) k (rowOf site sequence references) ≤ k = count-le (λ p. inMask references p && parentAt t site sequence p) k in
     omega (arith, inv .0 .bound, inv .1)
 
+-- where a turn begins
+abbrev loop-of : tie.After-highest Inv-loop μ-loop → tie.At-loop Inv-loop μ-loop
+loop-of c = c .before .before
+
 add-count : tie.Need-add-count Inv-loop μ-loop
 add-count c =
-    let l = c .before .before .before .before .loop in
-    let a = c .before .before .before .before .before .before .args in
-    let h : l .count ≤ 64 = few (a .table .now) (a .k) (a .site) (a .sequence) (a .references) (l .left) (l .count) (l .inv) in
+    let l = loop-of (c .before .before) in
+    let h = few (l .before .before .args .table .now) _ _ _ _ _ _ (l .loop .inv) in
     search needs
 
 sub-left : tie.Need-sub-left Inv-loop μ-loop
@@ -62,8 +65,8 @@ loop-again : tie.Need-loop-again Inv-loop μ-loop
 unfolding parents
 loop-again c =
     let h = c .before .before .highest in
-    let l = c .before .before .before .before .loop in
-    let a = c .before .before .before .before .before .before .args in
+    let l = loop-of (c .before .before) .loop in
+    let a = loop-of (c .before .before) .before .before .args in
     let g : ℕ → Bool = parentAt (a .table .now) (a .site) (a .sequence) in
     let e : c .before .parent-below .result ≡ (ltb (h .result) (a .k) && g (h .result)) = c .before .parent-below .ensures in
     let next : c .if1 .count ≡ cond (ltb (h .result) (a .k) && g (h .result)) 1 0 + l .count =

@@ -5,7 +5,7 @@ use native.Mathlib.Omega.{arith}
 use borrow.Author.Needs.{needs}
 use Rattle.base.specs.Search.{firstBelow}
 use Rattle.base.specs.Bytes.{Bytes, sameBytes}
-use Rattle.base.proofs.Search.{first-none, first-past, first-hit}
+use Rattle.base.proofs.Search.{first-none, first-past, first-hit, first-end}
 use Rattle.table.specs.Layout.{viewOf}
 use Rattle.table.specs.Rules.{hasDigest}
 use Rattle.table.specs.Steps.{Places}
@@ -24,27 +24,21 @@ loop-holds c = (omega arith, search needs, first-none _)
 returns : tie.Need-returns Inv-loop μ-loop
 returns c =
     let d = c .before .before in
-    let l = d .before .before .loop in
-    let a = d .before .before .before .before .before .args in
-    sym (first-hit (hasDigest (viewOf (a .table .now)) (a .digest .now)) (l .j) (a .k) (omega arith) (l .inv .2)
+    let l = d .before .before in
+    let a = l .before .before .before .args in
+    sym (first-hit (hasDigest (viewOf (a .table .now)) (a .digest .now)) (l .loop .j) (a .k) (omega arith) (l .loop .inv .2)
     (ap (λ (x : Bytes). sameBytes x (a .digest .now)) (sym (d .digest-at .ensures)) ∙ sym (c .before .same .ensures) ∙ c .if1 .taken))
 
 loop-again : tie.Need-loop-again Inv-loop μ-loop
 loop-again c =
     let d = c .before .before in
-    let l = d .before .before .loop in
-    let a = d .before .before .before .before .before .args in (
+    let l = d .before .before in
+    let a = l .before .before .before .args in (
       omega arith,
       search needs,
-      first-past (hasDigest (viewOf (a .table .now)) (a .digest .now)) (l .j) (l .inv .2)
+      first-past (hasDigest (viewOf (a .table .now)) (a .digest .now)) (l .loop .j) (l .loop .inv .2)
           (ap (λ (x : Bytes). sameBytes x (a .digest .now)) (sym (d .digest-at .ensures)) ∙ sym (c .before .same .ensures) ∙ c .if1 .left),
     )
-
-returns-2 : tie.Need-returns-2 Inv-loop μ-loop
-returns-2 c =
-    let l = c .before .loop in
-    let e : l .j ≡ c .before .before .before .before .args .k = omega arith in
-    sym (rw e at (l .inv .2))
 
 pub place-of-spec : {M : Type 1} → statement M
 place-of-spec =
@@ -59,4 +53,4 @@ place-of-spec =
     (λ c. search needs)
     (λ c. search needs)
     loop-again
-    returns-2)
+    (λ c. let l = c .before .loop in first-end _ (l .j) _ (omega arith) (l .inv .2)))

@@ -29,16 +29,14 @@ Inv-loop table place mask₀ i₀ mask i = (i ≤ place) × Place table place ×
 abbrev μ-loop : tie.MeasureT-loop
 μ-loop table place mask₀ i₀ mask i = i
 
-loop-holds : tie.Need-loop-holds Inv-loop μ-loop
-loop-holds c =
-    let a = c .before .before .args in
-    (omega arith, search needs, ap (gathered (a .table .now) (a .place)) (c .references-at .ensures))
+abbrev start : tie.At-loop Inv-loop μ-loop → tie.Start Inv-loop μ-loop
+start c = c .before .before .before
 
 loop-again : tie.Need-loop-again Inv-loop μ-loop
 loop-again c =
     let m = c .before .before in
     let l = m .before .before .loop in
-    let t = m .before .before .before .before .before .args .table .now in
+    let t = start (m .before .before) .args .table .now in
     let e : suc (l .i - 1) ≡ l .i = omega arith in (
       omega arith,
       search needs,
@@ -52,7 +50,7 @@ loop-again-2 : tie.Need-loop-again-2 Inv-loop μ-loop
 loop-again-2 c =
     let m = c .before in
     let l = m .before .before .loop in
-    let t = m .before .before .before .before .before .args .table .now in
+    let t = start (m .before .before) .args .table .now in
     let e : suc (l .i - 1) ≡ l .i = omega arith in (
       omega arith,
       search needs,
@@ -73,7 +71,7 @@ ancestor-mask-spec =
     Inv-loop
     μ-loop
     (λ c κs. search needs)
-    loop-holds
+    (λ c. let a = c .before .before .args in (omega arith, search needs, ap (gathered (a .table .now) (a .place)) (c .references-at .ensures)))
     (λ c. search needs)
     (λ c κs. search needs)
     (λ c κs. search needs)

@@ -19,20 +19,20 @@ Inv-loop table seen k site sequence i₀ i = (i ≤ k) × Places table k × ((j 
 abbrev μ-loop : tie.MeasureT-loop
 μ-loop table seen k site sequence i₀ i = k - i
 
-loop-holds : tie.Need-loop-holds Inv-loop μ-loop
-loop-holds c = (omega arith, search needs, λ j h. absurd (omega arith))
+abbrev start : tie.At-loop Inv-loop μ-loop → tie.Start Inv-loop μ-loop
+start c = c .before .before
 
 returns : tie.Need-returns Inv-loop μ-loop
 returns c =
     let l = c .before .before .before .loop in
-    let a = c .before .before .before .before .before .args in
+    let a = start (c .before .before .before) .args in
     sym (any-true (ofSequence (viewOf (a .table .now)) (inMask (a .seen)) (a .site) (a .sequence)) (a .k) (l .i) (omega arith)
     (sym (c .before .of-sequence .ensures) ∙ c .if1 .taken))
 
 loop-again : tie.Need-loop-again Inv-loop μ-loop
 loop-again c =
     let l = c .before .before .before .loop in
-    let a = c .before .before .before .before .before .args in (
+    let a = start (c .before .before .before) .args in (
       omega arith,
       search needs,
       one-more (λ j. ofSequence (viewOf (a .table .now)) (inMask (a .seen)) (a .site) (a .sequence) j ≡ false) (l .i)
@@ -42,7 +42,7 @@ loop-again c =
 returns-2 : tie.Need-returns-2 Inv-loop μ-loop
 returns-2 c =
     let l = c .before .loop in
-    let a = c .before .before .before .args in
+    let a = start (c .before) .args in
     sym (any-false (ofSequence (viewOf (a .table .now)) (inMask (a .seen)) (a .site) (a .sequence)) (a .k) (λ j h. l .inv .2 j (omega arith)))
 
 pub any-of-sequence-spec : {M : Type 1} → statement M
@@ -51,7 +51,7 @@ any-of-sequence-spec =
     (tie.spec
     Inv-loop
     μ-loop
-    loop-holds
+    (λ c. (omega arith, search needs, λ j h. absurd (omega arith)))
     (λ c κs. search needs)
     returns
     (λ c. search needs)

@@ -20,21 +20,21 @@ Inv-loop table seen site k i₀ i =
 abbrev μ-loop : tie.MeasureT-loop
 μ-loop table seen site k i₀ i = k - i
 
-loop-holds : tie.Need-loop-holds Inv-loop μ-loop
-loop-holds c = (omega arith, search needs, search needs, λ j h. absurd (omega arith))
+abbrev start : tie.At-loop Inv-loop μ-loop → tie.Start Inv-loop μ-loop
+start c = c .before .before .before
 
 returns : tie.Need-returns Inv-loop μ-loop
 unfolding forkedIn
 returns c =
     let l = c .before .before .before .loop in
-    let a = c .before .before .before .before .before .before .args in
+    let a = start (c .before .before .before) .args in
     sym (any-true (repeatedAt (viewOf (a .table .now)) (inMask (a .seen)) (a .site)) (countOf (a .table .now)) (l .i) (omega arith)
     (sym (c .before .repeats .ensures) ∙ c .if1 .taken))
 
 loop-again : tie.Need-loop-again Inv-loop μ-loop
 loop-again c =
     let l = c .before .before .before .loop in
-    let a = c .before .before .before .before .before .before .args in (
+    let a = start (c .before .before .before) .args in (
       omega arith,
       search needs,
       search needs,
@@ -46,7 +46,7 @@ returns-2 : tie.Need-returns-2 Inv-loop μ-loop
 unfolding forkedIn
 returns-2 c =
     let l = c .before .loop in
-    let a = c .before .before .before .before .args in
+    let a = start (c .before) .args in
     sym (any-false (repeatedAt (viewOf (a .table .now)) (inMask (a .seen)) (a .site)) (countOf (a .table .now)) (λ j h. l .inv .3 j (omega arith)))
 
 pub forked-spec : {M : Type 1} → statement M
@@ -56,7 +56,7 @@ forked-spec =
     Inv-loop
     μ-loop
     (λ c κs. search needs)
-    loop-holds
+    (λ c. (omega arith, search needs, search needs, λ j h. absurd (omega arith)))
     (λ c κs. search needs)
     returns
     (λ c. search needs)

@@ -36,8 +36,11 @@ loop-holds c = let t = c .before .before .args .table .now in (omega arith, c .c
 abbrev loop : tie.After-wide Inv-loop μ-loop → tie.At-loop Inv-loop μ-loop
 loop c = c .before .before .before
 
+abbrev start-of : tie.At-loop Inv-loop μ-loop → tie.Start Inv-loop μ-loop
+start-of c = c .before .before .before
+
 abbrev start : tie.After-wide Inv-loop μ-loop → tie.Start Inv-loop μ-loop
-start c = loop c .before .before .before
+start c = start-of (loop c)
 
 -- the block's site is one of the setup
 site : (c : tie.After-wide Inv-loop μ-loop) → c .wide .result ≡ siteAt (start c .args .table .now) (loop c .loop .i)
@@ -84,7 +87,7 @@ returns : tie.Need-returns Inv-loop μ-loop
 unfolding forkedIn
 returns c =
     let l = c .before .loop in
-    let e : l .i ≡ countOf (c .before .before .before .before .args .table .now) = omega (arith, l .inv .1) in
+    let e : l .i ≡ countOf (start-of (c .before) .args .table .now) = omega (arith, l .inv .1) in
     rw e at (l .inv .3)
 
 pub forked-mask-spec : {M : Type 1} → statement M

@@ -13,15 +13,19 @@ use Rattle.watch.proofs.OnePass.{print-lt, new-sequence}
 use Rattle.watch.proofs.sites.is_fork.Statement.{statement}
 use Rattle.watch.proofs.sites.is_fork.Tie as tie
 
+abbrev start : tie.After-in-mask → tie.Start
+start c = c .before .before .before
+
 returns : tie.Need-returns
 returns c =
-    let s = c .before .before .before .before in
+    let s = start (c .before) in
     sym (new-sequence (s .args .table .now) (s .args .i)
     (sym (c .before .in-mask .ensures ∙ ap₂ inMask (s .pre .1) (c .before .before .sequence-print .ensures)) ∙ not-true _ (c .if1 .taken)))
 
 returns-2 : tie.Need-returns-2
 returns-2 c =
-    let s = c .before .before .before .before .before .before in
+    let met = c .before .before in
+    let s = start (met .before) in
     let v = viewOf (s .args .table .now) in
     c .repeats .ensures
     ∙ ap (λ (seen : ℕ → Bool). repeatedAt v seen (c .before .site-at .result) (s .args .i)) everywhere-mask

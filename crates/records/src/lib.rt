@@ -1,0 +1,99 @@
+// The record buffer, which the caller lends: where each number stands, a record read, a place's part read and put, and parts moved down. No
+// other crate computes an index into it. Promises: each function is its definition in specs/, and a record that was put is read back
+// (proofs/Flattened.antt, proofs/Parts.antt). Assumes nothing.
+mod numbers;
+
+use broadcast::Sent;
+use broadcast::SlotRecord;
+use setup::MAX_SITES;
+use setup::SLOTS;
+use table::MAX_PLACES;
+ghost use mathlib.Core.Path.{_≡_};
+ghost use Prim.Native.Nat.{_*_, _≤_, _<_};
+ghost use lib.ListN.{length};
+ghost use Rattle.base.specs.Bytes.{splice};
+ghost use Rattle.setup.specs.Setup.{slotCount};
+ghost use Rattle.table.specs.View.{maxPlaces};
+ghost use Rattle.records.specs.Layout.{recordSize, flatten, partSize, bufferSize, partStart, partOf, recordIn, deliveredIn};
+ghost use Rattle.records.specs.Moving.{movedParts};
+
+// Where each part of a record's numbers stands: what was sent so far, the ECHO and the READY heard from each site, and what was made.
+const SENT_COUNT: usize = 4;
+
+const ECHOES_OFFSET: usize = SENT_COUNT;
+
+const READIES_OFFSET: usize = ECHOES_OFFSET + MAX_SITES;
+
+const MADE_OFFSET: usize = READIES_OFFSET + MAX_SITES;
+
+const RECORD_SIZE: usize = MADE_OFFSET + SENT_COUNT;
+
+// The numbers of a place, and of all places.
+pub const PART_SIZE: usize = RECORD_SIZE * SLOTS;
+
+pub const BUFFER_SIZE: usize = PART_SIZE * MAX_PLACES;
+
+// The record of a slot in the part of a place.
+pub fn record_in(records: &[u16], place: usize, slot: usize) -> SlotRecord
+    requires { ⌜ (length (now records) ≡ bufferSize) × (place < maxPlaces) × (slot < slotCount) ⌝ }
+    ensures { λ r. ⌜ r ≡ recordIn (now (records .entry)) place slot ⌝ }
+{
+    numbers::record_at(records, PART_SIZE * place + RECORD_SIZE * slot)
+}
+
+// What was made in the block of a place.
+pub fn made_in(records: &[u16], place: usize, slot: usize) -> Sent
+    requires { ⌜ (length (now records) ≡ bufferSize) × (place < maxPlaces) × (slot < slotCount) ⌝ }
+    ensures { λ r. ⌜ r ≡ recordIn (now (records .entry)) place slot .made ⌝ }
+{
+    numbers::sent_at(
+        records,
+        PART_SIZE * place + RECORD_SIZE * slot + MADE_OFFSET,
+    )
+}
+
+// The number delivered in the block of a place, 0 if there is none.
+pub fn delivered_in(records: &[u16], place: usize, slot: usize) -> u16
+    requires { ⌜ (length (now records) ≡ bufferSize) × (place < maxPlaces) × (slot < slotCount) ⌝ }
+    ensures { λ r. ⌜ r ≡ deliveredIn (now (records .entry)) place slot ⌝ }
+{
+    records[PART_SIZE * place + RECORD_SIZE * slot + MADE_OFFSET + 3]
+}
+
+// Puts the record of a slot into a place's part; all other numbers stay.
+pub fn put_record(part: &mut [u16], slot: usize, state: SlotRecord)
+    requires { ⌜ (length (now part) ≡ partSize) × (slot < slotCount) ⌝ }
+    ensures { λ _. ⌜ now (part .exit) ≡ splice (now (part .entry)) (recordSize * slot) (flatten state) ⌝ }
+{
+    numbers::put_record(part, RECORD_SIZE * slot, state);
+}
+
+// The part of a place.
+pub fn part(records: &[u16], place: usize) -> &[u16]
+    requires { ⌜ (length (now records) ≡ bufferSize) × (place < maxPlaces) ⌝ }
+    ensures { λ r. ⌜ now r ≡ partOf (now (records .entry)) place ⌝ }
+{
+    let at = PART_SIZE * place;
+    &records[at..at + PART_SIZE]
+}
+
+// Puts the part of a place, or an empty one; all other numbers stay.
+pub fn put_part(records: &mut [u16], place: usize, part: &[u16])
+    requires { ⌜ (length (now records) ≡ bufferSize) × (place < maxPlaces) × (length (now part) ≤ partSize) ⌝ }
+    ensures { λ _. ⌜ now (records .exit) ≡ splice (now (records .entry)) (partStart place) (now (part .entry)) ⌝ }
+{
+    numbers::put(records, PART_SIZE * place, part);
+}
+
+// The parts of the places below the count, but the first, each one place lower; all other numbers stay.
+pub fn move_parts(records: &mut [u16], count: usize)
+    requires { ⌜ (length (now records) ≡ bufferSize) × (0 < count) × (count ≤ maxPlaces) ⌝ }
+    ensures { λ _. ⌜ now (records .exit) ≡ movedParts (now (records .entry)) count ⌝ }
+{
+    let n = PART_SIZE * (count - 1);
+    let mut i = 0;
+    while i < n {
+        records[i] = records[i + PART_SIZE];
+        i += 1;
+    }
+}

@@ -1,0 +1,13 @@
+-- What the contracts of inner functions cite. Nothing here need be believed.
+use mathlib.Core.Path.{_≡_}
+use Prim.Native.Nat.{_+_, _≤_}
+use lib.ListN.{length, getD}
+use Rattle.base.specs.Bytes.{Bytes}
+use Rattle.base.specs.Word.{wordAt}
+use Rattle.run.specs.Encoding.{admissionByte, interpretationByte, admissionHeader, interpretationSize, bareSize}
+
+-- a whole call stands at the front
+pub record Whole (b : Bytes) : Type 0 where
+  pub some : bareSize ≤ length b
+  pub word : getD b 0 0 ≡ interpretationByte → interpretationSize ≤ length b
+  pub block : getD b 0 0 ≡ admissionByte → admissionHeader + wordAt b 2 ≤ length b
