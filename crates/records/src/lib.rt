@@ -57,7 +57,7 @@ pub fn delivered_in(records: &[u16], place: usize, slot: usize) -> u16
     requires { ⌜ (length (now records) ≡ bufferSize) × (place < maxPlaces) × (slot < slotCount) ⌝ }
     ensures { λ r. ⌜ r ≡ deliveredIn (now (records .entry)) place slot ⌝ }
 {
-    records[PART_SIZE * place + RECORD_SIZE * slot + MADE_OFFSET + 3]
+    made_in(records, place, slot).delivered
 }
 
 // Puts the record of a slot into a place's part; all other numbers stay.

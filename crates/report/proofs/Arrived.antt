@@ -3,7 +3,7 @@ use mathlib.Core.Path.{_≡_, sym, ap, ap₂, _∙_}
 use mathlib.Core.Bool.{false}
 use mathlib.Core.Logic.{_≢_}
 use mathlib.Core.List.{List}
-use Prim.Native.Nat.{ℕ, _≤_, _<_}
+use Prim.Native.Nat.{ℕ, _<_}
 use native.Mathlib.Omega.{arith}
 use borrow.Author.Tests.{eq-eqb, ne-eqb}
 use lib.Dec.{eqb}
@@ -11,9 +11,9 @@ use lib.ListN.{length}
 use Rattle.base.specs.Bytes.{Bytes}
 use Rattle.sha256.specs.Sha256.{sha256}
 use Rattle.answer.specs.declared.Answer.{Answer}
-use Rattle.block.specs.Limits.{headerSize}
 use Rattle.block.specs.Layout.{siteOf, sequenceOf}
 use Rattle.block.specs.Reading.{fieldsOf}
+use Rattle.block.specs.Promises.{Shaped}
 use Rattle.block.proofs.Accepted.{reading-accepted}
 use Rattle.table.specs.View.{maxPlaces}
 use Rattle.table.proofs.Formed.{formed-places}
@@ -72,11 +72,11 @@ module _ (x : Site) (b : Bytes) (verdict arrival : ℕ) (a : Answer) (t : Bytes)
     uninterpreted-lines refused =
         rw (passed-refusal x b verdict none, ne-eqb (second x b verdict) 0 (λ e. refused (same-second ∙ e)), same-second)
 
-    -- the block that was admitted has a header, and its place that was interpreted is one of the table's
-    pub header-there : headerSize ≤ length b
-    header-there =
+    -- the block that was admitted has passed check 3, and its place that was interpreted is one of the table's
+    pub shape-there : Shaped b
+    shape-there =
         let p = sha256-promises .causes (x .table) b verdict .none .0 none .0 in
-        reading-accepted b (fieldsOf b) (p .linked .isNew .readable .accepted) .accepted .shape .header
+        reading-accepted b (fieldsOf b) (p .linked .isNew .readable .accepted) .accepted .shape
 
     module _ (interpreted : i .refusal ≡ 0) where
       pub place-there : (length r ≡ bufferSize) × (a .value < maxPlaces)

@@ -86,7 +86,7 @@ pub fn arrive(
         records,
         arrival,
         place,
-        block[0],
-        base::number_of(block[1], block[2]),
+        block::parts::site_of(block),
+        block::parts::sequence_of(block),
     )
 }

@@ -1,15 +1,12 @@
 -- `arrive` meets its contract, one way out after the other. Assumes nothing.
 use mathlib.Core.Path.{_≡_, ap, _∙_}
-use Prim.Native.Nat.{_≤_}
-use native.Mathlib.Omega.{arith}
 use borrow.Author.Needs.{needs}
-use lib.ListN.{length}
 use Rattle.sha256.specs.Sha256.{sha256}
-use Rattle.block.specs.Limits.{headerSize}
+use Rattle.block.specs.Promises.{Shaped}
 use Rattle.run.specs.Run.{Site}
 use Rattle.report.specs.Listing.{siteArrived}
 use Rattle.report.specs.Framing.{linesOf}
-use Rattle.report.proofs.Arrived.{refused-table, refused-records, refused-lines, taken-table, taken-records, uninterpreted-lines, header-there, place-there, delivered-lines}
+use Rattle.report.proofs.Arrived.{refused-table, refused-records, refused-lines, taken-table, taken-records, uninterpreted-lines, shape-there, place-there, delivered-lines}
 use Rattle.report.proofs.arrival.arrive.Statement.{statement}
 use Rattle.report.proofs.arrival.arrive.Tie as tie
 
@@ -33,8 +30,8 @@ admitted c = answered (taken c .before)
 abbrev interpreted : tie.After-struct-known2 → tie.After-interpret
 interpreted c = c .before .before .before .before .before
 
-abbrev told : tie.After-shared-slice-known2 → tie.Else2
-told c = c .before .before
+abbrev told : tie.After-delivery-lines-arg → tie.Else2
+told c = c .before
 
 -- ---- what holds where the block was taken
 
@@ -52,13 +49,13 @@ left c =
       taken-records (site m) (a .block .now) (a .verdict) (a .arrival) _ _ (e .0) (e .1) (taken c .if1 .left) _ _ _ (i .ensures .0) (i .ensures .1 .0) (i .ensures .1 .1),
     )
 
--- its block has a header
-header : (c : tie.After-interpret) → headerSize ≤ length (start (admitted c) .args .block .now)
-header c =
+-- its block has passed check 3
+shape : (c : tie.After-interpret) → Shaped (start (admitted c) .args .block .now)
+shape c =
     let m = admitted c in
     let a = start m .args in
     let i = c .interpret .ensures in
-    header-there (site m) (a .block .now) (a .verdict) (a .arrival) _ _ (m .admit .ensures .0) (m .admit .ensures .1) (taken c .if1 .left) _ _ _ (i .0) (i .1 .0) (i .1 .1)
+    shape-there (site m) (a .block .now) (a .verdict) (a .arrival) _ _ (m .admit .ensures .0) (m .admit .ensures .1) (taken c .if1 .left) _ _ _ (i .0) (i .1 .0) (i .1 .1)
 
 returns : tie.Need-returns
 returns c =
@@ -81,7 +78,7 @@ returns-2 c =
 
 delivery-lines-requires : tie.Need-delivery-lines-requires
 delivery-lines-requires c κs =
-    let d = told (c .before .before .before) in
+    let d = told (c .before .before) in
     let u = interpreted (d .before) in
     let m = admitted u in
     let a = start m .args in
@@ -91,13 +88,13 @@ delivery-lines-requires c κs =
 returns-3 : tie.Need-returns-3
 returns-3 c =
     let n = c .before in
-    let d = told (n .before .before .before) in
+    let d = told (n .before .before) in
     let u = interpreted (d .before) in
     let m = admitted u in
     let a = start m .args in
     let i = u .interpret .ensures in
     let lines = delivered-lines (site m) (a .block .now) (a .verdict) (a .arrival) _ _ (m .admit .ensures .0) (m .admit .ensures .1) (taken u .if1 .left) _ _ _ (i .0) (i .1 .0) (i .1 .1) (d .if2 .left) in
-    (c .delivery-lines .ensures ∙ rw (n .number-of .ensures) (ap linesOf lines), left u)
+    (c .delivery-lines .ensures ∙ rw (n .before .site-of .ensures, n .sequence-of .ensures) (ap linesOf lines), left u)
 
 pub arrive-spec : {M : Type 1} → statement M
 arrive-spec =
@@ -112,10 +109,8 @@ arrive-spec =
     (λ c. search needs)
     (λ c. search needs)
     returns-2
-    (λ c. let h = header (interpreted (told c .before)) in omega arith)
-    (λ c. let h = header (interpreted (told (c .before) .before)) in omega arith)
-    (λ c. let h = header (interpreted (told (c .before .before) .before)) in omega arith)
-    (λ c κs. search needs)
+    (λ c κs. shape (interpreted (told c .before)))
+    (λ c κs. shape (interpreted (told (c .before) .before)))
     delivery-lines-requires
     (λ c. search needs)
     (λ c. search needs)
