@@ -17,7 +17,7 @@ use Rattle.base.proofs.Search.{any-such, first-such}
 use Rattle.base.proofs.Bytes.{same-equal, equal-same}
 use Rattle.answer.specs.declared.Answer.{Answer}
 use Rattle.answer.specs.Checks.{Check, check, answerTo}
-use Rattle.answer.specs.Promises.{Passed, elsewhere, different, Decided}
+use Rattle.answer.specs.Promises.{FirstHold, elsewhere, different, Decided}
 use Rattle.answer.proofs.Checks.{value-of, first-holds, first-fails, same-rest, valuedOnly, no-value, absent, present, missed}
 use Rattle.answer.proofs.Promises.{first-refused, second-refused, asOne, in-line, decided}
 use Rattle.setup.specs.Setup.{Setup}
@@ -118,20 +118,20 @@ module _ (digest : Bytes → Bytes) (t b : Bytes) (verdict : ℕ) where
 
   -- ---- what the first of them say
 
-  whole : Passed all 2 ↔ Whole t b
+  whole : FirstHold all 2 ↔ Whole t b
   whole = (λ p. record { formed = p .0 .1; shape = shaped b (p .1) }, λ w. ((tt, w .formed), well-shaped b (w .shape)))
 
-  of-site : Passed all 3 ↔ OfSite t b
+  of-site : FirstHold all 3 ↔ OfSite t b
   of-site = (λ p. record { isWhole = whole .0 (p .0); site = ltb-true _ _ (p .1) }, λ o. (whole .1 (o .isWhole), lt-ltb _ _ (o .site)))
 
-  vouched : Passed all 4 ↔ Vouched t b verdict
+  vouched : FirstHold all 4 ↔ Vouched t b verdict
   vouched = (λ p. record { ofSite = of-site .0 (p .0); link = eqb-true _ _ (p .1) }, λ v. (of-site .1 (v .ofSite), eq-eqb _ _ (v .link)))
 
   -- a block that is vouched for has the shape that the reader's checks 6 and 7 want
-  shape-of : Vouched t b verdict → Passed (reader.checks b) 1
+  shape-of : Vouched t b verdict → FirstHold (reader.checks b) 1
   shape-of v = (tt, well-shaped b (v .ofSite .isWhole .shape))
 
-  readable : Passed all 6 ↔ Readable t b verdict
+  readable : FirstHold all 6 ↔ Readable t b verdict
   readable = (
     λ p.
         let v = vouched .0 (p .0 .0) in
@@ -144,17 +144,17 @@ module _ (digest : Bytes → Bytes) (t b : Bytes) (verdict : ℕ) where
         ((vouched .1 (record { ofSite = record { isWhole = w; site = r .site }; link = r .link }), q .0 .1), q .1),
   )
 
-  new : Passed all 7 ↔ New digest t b verdict
+  new : FirstHold all 7 ↔ New digest t b verdict
   new =
       let here = absent _ _ (digest-held t (digest b)) in
       (λ p. record { readable = readable .0 (p .0); new = here .0 (p .1) }, λ n. (readable .1 (n .readable), here .1 (n .new)))
 
-  linked : Passed all 8 ↔ Linked digest t b verdict
+  linked : FirstHold all 8 ↔ Linked digest t b verdict
   linked =
       let here = absent _ _ (reference-missing t b) in
       (λ p. record { isNew = new .0 (p .0); found = here .0 (p .1) }, λ l. (new .1 (l .isNew), here .1 (l .found)))
 
-  parented : Passed all 9 ↔ Parented digest t b verdict
+  parented : FirstHold all 9 ↔ Parented digest t b verdict
   parented = (λ p. record { linked = linked .0 (p .0); parent = p .1 }, λ q. (linked .1 (q .linked), q .parent))
 
   -- ---- each number

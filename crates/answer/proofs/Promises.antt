@@ -12,11 +12,11 @@ use borrow.Author.Tests.{eqb-false, ne-eqb, not-true}
 use Rattle.base.proofs.Tests.{by-test, and-left, and-right}
 use Rattle.answer.specs.declared.Answer.{Answer}
 use Rattle.answer.specs.Checks.{Check, check, refused, answerTo}
-use Rattle.answer.specs.Promises.{checkAt, Passed, elsewhere, different, Decided, Promises}
+use Rattle.answer.specs.Promises.{checkAt, FirstHold, elsewhere, different, Decided, Promises}
 use Rattle.answer.proofs.Checks.{number-of, value-of, first-holds, first-fails, never-answered}
 
 -- the first and k more hold
-in-front : (c : Check) (cs : List Check) (k : ℕ) → Passed (c ∷ cs) (suc k) ↔ ((c .holds ≡ true) × Passed cs k)
+in-front : (c : Check) (cs : List Check) (k : ℕ) → FirstHold (c ∷ cs) (suc k) ↔ ((c .holds ≡ true) × FirstHold cs k)
 in-front c cs zero = (λ p. (p .1, tt), λ p. (tt, p .0))
 in-front c cs (suc k) = (
   λ p. let q = in-front c cs k .0 (p .0) in (q .0, (q .1, p .1)),
@@ -24,14 +24,14 @@ in-front c cs (suc k) = (
 )
 
 -- check k decides where it is the first that does not hold
-pub decides : (cs : List Check) (value k : ℕ) → k < length cs → Passed cs k → checkAt cs k .holds ≡ false
+pub decides : (cs : List Check) (value k : ℕ) → k < length cs → FirstHold cs k → checkAt cs k .holds ≡ false
     → answerTo cs value ≡ refused (checkAt cs k .number) (checkAt cs k .value)
 decides [] value k h p f = absurd (omega arith)
 decides (c ∷ cs) value zero h p f = first-fails c cs value f
 decides (c ∷ cs) value (suc k) h p f = let q = in-front c cs k .0 p in first-holds c cs value (q .0) ∙ decides cs value k (omega arith) (q .1) f
 
 -- checks that hold leave the answer to those behind them
-pub past : (cs : List Check) (value k : ℕ) → Passed cs k → answerTo cs value ≡ answerTo (drop k cs) value
+pub past : (cs : List Check) (value k : ℕ) → FirstHold cs k → answerTo cs value ≡ answerTo (drop k cs) value
 past cs value zero p = refl
 past [] value (suc k) p = refl
 past (c ∷ cs) value (suc k) p = let q = in-front c cs k .0 p in first-holds c cs value (q .0) ∙ past cs value k (q .1)
@@ -65,7 +65,7 @@ module _ (c : Check) (cs : List Check) (value : ℕ) (d : different (c ∷ cs) �
 
 -- a number says which check decided
 told : (cs : List Check) (value k : ℕ) → different cs ≡ true → k < length cs → answerTo cs value .refusal ≡ checkAt cs k .number
-    → Passed cs k × (checkAt cs k .holds ≡ false)
+    → FirstHold cs k × (checkAt cs k .holds ≡ false)
 told [] value k d h e = absurd (omega arith)
 told (c ∷ cs) value zero d h e =
     (tt, by-test (c .holds) (λ y. absurd (never-answered (c .number) cs value (apart c cs value d) (sym (number-of (first-holds c cs value y)) ∙ e))) (λ f. f))
@@ -75,14 +75,14 @@ told (c ∷ cs) value (suc k) d h e =
     (in-front c cs k .1 (first .0, rest .0), rest .1)
 
 -- a success says that all hold
-pub all-passed : (cs : List Check) (value : ℕ) → different cs ≡ true → answerTo cs value .refusal ≡ 0 → Passed cs (length cs)
+pub all-passed : (cs : List Check) (value : ℕ) → different cs ≡ true → answerTo cs value .refusal ≡ 0 → FirstHold cs (length cs)
 all-passed [] value d e = tt
 all-passed (c ∷ cs) value d e =
     let first = first-held c cs value d 0 (λ q. not-zero (c .number) cs (apart c cs value d) (sym q)) e in
     in-front c cs (length cs) .1 (first .0, all-passed cs value (rest-different c cs value d) (first .1))
 
 -- where all hold the call succeeds
-pub succeeds : (cs : List Check) (value : ℕ) → Passed cs (length cs) → answerTo cs value ≡ record { refusal = 0; value = value }
+pub succeeds : (cs : List Check) (value : ℕ) → FirstHold cs (length cs) → answerTo cs value ≡ record { refusal = 0; value = value }
 unfolding answerTo
 succeeds [] value p = refl
 succeeds (c ∷ cs) value p = let q = in-front c cs (length cs) .0 p in first-holds c cs value (q .0) ∙ succeeds cs value (q .1)

@@ -16,9 +16,9 @@ checkAt (c ∷ cs) zero = c
 checkAt (c ∷ cs) (suc k) = checkAt cs k
 
 -- the first k checks hold
-abbrev pub Passed : List Check → ℕ → Type 0
-Passed cs zero = Unit
-Passed cs (suc k) = Passed cs k × (checkAt cs k .holds ≡ true)
+abbrev pub FirstHold : List Check → ℕ → Type 0
+FirstHold cs zero = Unit
+FirstHold cs (suc k) = FirstHold cs k × (checkAt cs k .holds ≡ true)
 
 -- n is neither 0 nor the number of one of the checks
 unfoldable pub elsewhere : ℕ → List Check → Bool
@@ -33,11 +33,11 @@ different (c ∷ cs) = elsewhere (c .number) cs && different cs
 -- an answer is told by these checks, where a success returns this value
 pub record Decided (a : Answer) (cs : List Check) (value : ℕ) : Type 0 where
   -- it has the number of check k exactly if all checks before that hold and it does not
-  pub refused : (k : ℕ) → k < length cs → (a .refusal ≡ checkAt cs k .number) ↔ (Passed cs k × (checkAt cs k .holds ≡ false))
+  pub refused : (k : ℕ) → k < length cs → (a .refusal ≡ checkAt cs k .number) ↔ (FirstHold cs k × (checkAt cs k .holds ≡ false))
   -- with the check's value
   pub valued : (k : ℕ) → k < length cs → a .refusal ≡ checkAt cs k .number → a .value ≡ checkAt cs k .value
   -- it is a success exactly if all hold
-  pub none : (a .refusal ≡ 0) ↔ Passed cs (length cs)
+  pub none : (a .refusal ≡ 0) ↔ FirstHold cs (length cs)
   pub returned : a .refusal ≡ 0 → a .value ≡ value
 
 pub record Promises : Type 0 where

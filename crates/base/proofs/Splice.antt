@@ -136,6 +136,10 @@ splice-second a x at q n =
     ap₂ (λ (u v : Bytes). u ++ (q ++ v)) (take-at a x at n)
     (ap (λ (m : ℕ). drop (m + length q) (a ++ x)) (sym n) ∙ drop-append-add a x (length q))
 
+-- two stores in a row, as code leaves them
+pub stored-behind : (t t₁ t₂ a b : Bytes) (at n : ℕ) → at ≤ length t → t₁ ≡ splice t at a → at + length a ≡ n → t₂ ≡ splice t₁ n b → t₂ ≡ splice t at (a ++ b)
+stored-behind t t₁ t₂ a b at n h e l f = f ∙ ap₂ (λ (x : Bytes) (k : ℕ). splice x k b) e (sym l) ∙ splice-append t at a h b
+
 -- two parts put apart from each other, in either order
 pub splice-apart : (b : Bytes) (low : ℕ) (p : Bytes) (high : ℕ) (q : Bytes) → low + length p ≤ high → high ≤ length b
     → splice (splice b low p) high q ≡ splice (splice b high q) low p

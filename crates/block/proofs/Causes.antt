@@ -14,7 +14,7 @@ use Rattle.base.proofs.Tests.{or-cases, or-true}
 use Rattle.base.proofs.Search.{any-true, any-true-at, any-such, first-such}
 use Rattle.base.proofs.Bytes.{same-equal, equal-same}
 use Rattle.answer.specs.Checks.{Check, check, success, refused, answerTo}
-use Rattle.answer.specs.Promises.{Passed, elsewhere, different, Decided}
+use Rattle.answer.specs.Promises.{FirstHold, elsewhere, different, Decided}
 use Rattle.answer.proofs.Checks.{value-of, valuedOnly, no-value, absent, present, missed}
 use Rattle.answer.proofs.Promises.{first-refused, decided}
 use Rattle.setup.specs.Setup.{maxSlot}
@@ -91,10 +91,10 @@ module _ (b : Bytes) where
   unfolding different elsewhere
   told = rw by-checks (decided checks 0 refl)
 
-  shape : Passed checks 1 ↔ Shaped b
+  shape : FirstHold checks 1 ↔ Shaped b
   shape = (λ p. shaped b (p .1), λ s. (tt, well-shaped b s))
 
-  good : Passed checks 2 ↔ GoodRequests b
+  good : FirstHold checks 2 ↔ GoodRequests b
   good = (
     λ p. record { shape = shape .0 (p .0); noneBad = absent _ _ some-bad .0 (p .1) },
     λ g. (shape .1 (g .shape), absent _ _ some-bad .1 (g .noneBad)),

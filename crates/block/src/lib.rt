@@ -1,6 +1,6 @@
-// A block's bytes: reading, the entries of its two lists, and writing. Promises: reading is document 01's,
-// each refusal comes under its cause and under no other (specs/Promises.antt), every block that the reader accepts is the one encoding of
-// its content, and writing gives that encoding (specs/Codec.antt). Assumes nothing of the bytes: any are read or refused.
+// A block's bytes: reading, the fields and the two lists as parts, the entries of the lists, and writing. Promises: reading is document 01's, each
+// refusal comes under its cause and under no other (specs/Promises.antt), every block that the reader accepts is the one encoding of its content,
+// and writing gives that encoding (specs/Codec.antt). Assumes nothing of the bytes: any are read or refused.
 pub mod parts;
 pub mod references;
 pub mod requests;

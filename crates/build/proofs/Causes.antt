@@ -15,7 +15,7 @@ use Rattle.base.specs.Bytes.{Bytes}
 use Rattle.base.proofs.Tests.{and-left, and-right}
 use Rattle.base.proofs.Search.{any-such, first-such}
 use Rattle.answer.specs.Checks.{Check}
-use Rattle.answer.specs.Promises.{Passed, elsewhere, different, Decided}
+use Rattle.answer.specs.Promises.{FirstHold, elsewhere, different, Decided}
 use Rattle.answer.proofs.Checks.{valuedOnly, no-value as checks-no-value, absent, present, either-fails}
 use Rattle.answer.proofs.Promises.{first-refused, second-refused, decided}
 use Rattle.block.specs.Limits.{requestSize, maxRequestListSize}
@@ -70,16 +70,16 @@ module _ (seen : ℕ → Bool) (t : Bytes) (p : ℕ) (requests output : Bytes) w
 
   -- ---- what the first of them say
 
-  by-site : Passed checks 2 ↔ BySite t p
+  by-site : FirstHold checks 2 ↔ BySite t p
   by-site = (λ q. record { formed = q .0 .1; site = ltb-true _ _ (q .1) }, λ b. ((tt, b .formed), lt-ltb _ _ (b .site)))
 
-  listed : Passed checks 3 ↔ Listed t p requests
+  listed : FirstHold checks 3 ↔ Listed t p requests
   listed = (
     λ q. let w = well-listed requests .0 (q .1) in record { bySite = by-site .0 (q .0); fits = w .0; whole = w .1 },
     λ l. (by-site .1 (l .bySite), well-listed requests .1 (l .fits, l .whole)),
   )
 
-  asked : Passed checks 4 ↔ Asked t p requests
+  asked : FirstHold checks 4 ↔ Asked t p requests
   asked =
       let here = absent _ _ (some-bad requests) in (
         λ q.
@@ -88,12 +88,12 @@ module _ (seen : ℕ → Bool) (t : Bytes) (p : ℕ) (requests output : Bytes) w
         λ a. (listed .1 (record { bySite = record { formed = a .formed; site = a .site }; fits = a .fits; whole = a .whole }), here .1 (a .noneBad)),
       )
 
-  able : Passed checks 5 ↔ Able seen t p requests output
+  able : FirstHold checks 5 ↔ Able seen t p requests output
   able =
       let here = absent _ _ (forked-shares (viewOf t) seen p) in
       (λ q. record { asked = asked .0 (q .0); unforked = here .0 (q .1) }, λ a. (asked .1 (a .asked), here .1 (a .unforked)))
 
-  lasting : Passed checks 6 ↔ Lasting seen t p requests output
+  lasting : FirstHold checks 6 ↔ Lasting seen t p requests output
   lasting = (λ q. record { able = able .0 (q .0); within = leb-true _ _ (q .1) }, λ l. (able .1 (l .able), le-leb _ _ (l .within)))
 
   abbrev sequence : ℕ

@@ -6,7 +6,7 @@ use native.Mathlib.Omega.{arith}
 use lib.ListN.{replicate}
 use Rattle.base.specs.List.{someIn}
 use Rattle.base.proofs.Bytes.{same-equal}
-use Rattle.answer.specs.declared.Answer.{Answer}
+use Rattle.answer.proofs.Checks.{number-of}
 use Rattle.broadcast.specs.declared.SlotRecord.{SlotRecord}
 use Rattle.table.specs.Layout.{layout}
 use Rattle.table.specs.Fresh.{nothing}
@@ -78,7 +78,7 @@ four-stays = promises .refused fourMarked (λ e. omega arith)
 full-undone : takenBack (holding 64) ≡ holding 63
 unfolding UndoneBy
 full-undone =
-    ap takenBack (sym last-leaves) ∙ promises .undone toy (toyDigest .size) (holding 63) (numbered 63) 1 (ap (λ (a : Answer). a .refusal) last-placed) .1
+    ap takenBack (sym last-leaves) ∙ promises .undone toy (toyDigest .size) (holding 63) (numbered 63) 1 (number-of last-placed) .1
 
 pub beforeCases : BeforeCases
 unfolding openedBefore

@@ -13,6 +13,7 @@ use Rattle.base.specs.Bytes.{Bytes, sameBytes}
 use Rattle.base.specs.List.{countIn}
 use Rattle.base.proofs.Tests.{by-test}
 use Rattle.base.proofs.Those.{count-in-those}
+use Rattle.answer.proofs.Checks.{number-of}
 use Rattle.answer.specs.declared.Answer.{Answer}
 use Rattle.answer.specs.Checks.{answerTo, refused}
 use Rattle.block.specs.Limits.{referenceSize}
@@ -130,7 +131,7 @@ module _ (digest : Bytes → Bytes) (sized : (b : Bytes) → length (digest b) �
 
       -- an arrival that is refused after the first checks was refused by admission
       admission-refused : Tested digest t (x .shelf) c b verdict room → called .answer .refusal ≢ 0 → admission digest t b verdict .refusal ≢ 0
-      admission-refused k m z = m (ap (λ (a : Answer). a .refusal) (keeps c b verdict room .causes .others k (λ q. omega arith)) ∙ z)
+      admission-refused k m z = m (number-of (keeps c b verdict room .causes .others k (λ q. omega arith)) ∙ z)
 
       -- its own admission, and the tries
       arrival-plain : step digest x c (arrives b verdict room) .site c ≡ siteAfter digest (x .site c) (plainBy digest c x (arrives b verdict room))

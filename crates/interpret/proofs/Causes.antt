@@ -14,7 +14,7 @@ use Rattle.base.specs.Bytes.{Bytes}
 use Rattle.base.proofs.Tests.{and-left, and-right}
 use Rattle.base.proofs.Search.{any-such, first-such}
 use Rattle.answer.specs.Checks.{Check}
-use Rattle.answer.specs.Promises.{Passed, elsewhere, different, Decided}
+use Rattle.answer.specs.Promises.{FirstHold, elsewhere, different, Decided}
 use Rattle.answer.proofs.Checks.{valuedOnly, no-value, absent, present}
 use Rattle.answer.proofs.Promises.{decided}
 use Rattle.table.specs.Layout.{markAt, rowAt, viewOf}
@@ -60,7 +60,7 @@ module _ (t : Bytes) (buffer : List ℕ) (i : ℕ) where
   unfolding interpretation different elsewhere
   told = decided checks 0 refl
 
-  is-open : Passed checks 4 ↔ Open t buffer i
+  is-open : FirstHold checks 4 ↔ Open t buffer i
   is-open =
       let here = absent _ _ is-marked in
       (λ p. record { isHeld = held t buffer i rest .0 (p .0); unmarked = here .0 (p .1) }, λ o. (held t buffer i rest .1 (o .isHeld), here .1 (o .unmarked)))

@@ -12,7 +12,7 @@ use borrow.Author.Tests.{eq-eqb, ne-eqb, eqb-true, eqb-false, lt-ltb, le-ltb, lt
 use Rattle.base.specs.Bytes.{Bytes}
 use Rattle.answer.specs.declared.Answer.{Answer}
 use Rattle.answer.specs.Checks.{Check, check}
-use Rattle.answer.specs.Promises.{Passed, Decided}
+use Rattle.answer.specs.Promises.{FirstHold, Decided}
 use Rattle.answer.proofs.Promises.{first-refused, second-refused}
 use Rattle.table.specs.Layout.{countOf}
 use Rattle.table.specs.Form.{inForm}
@@ -23,10 +23,10 @@ module _ (t : Bytes) (buffer : List ℕ) (i : ℕ) (rest : List Check) where
   abbrev pub checks : List Check
   checks = check 2 (inForm t) 0 ∷ (check 12 (eqb (length buffer) bufferSize) 0 ∷ (check 13 (ltb i (countOf t)) 0 ∷ rest))
 
-  pub whole : Passed checks 2 ↔ Whole t buffer
+  pub whole : FirstHold checks 2 ↔ Whole t buffer
   whole = (λ p. record { formed = p .0 .1; size = eqb-true _ _ (p .1) }, λ w. ((tt, w .formed), eq-eqb _ _ (w .size)))
 
-  pub held : Passed checks 3 ↔ Held t buffer i
+  pub held : FirstHold checks 3 ↔ Held t buffer i
   held = (λ p. record { isWhole = whole .0 (p .0); below = ltb-true _ _ (p .1) }, λ h. (whole .1 (h .isWhole), lt-ltb _ _ (h .below)))
 
   module _ {a : Answer} (told : Decided a checks 0) where

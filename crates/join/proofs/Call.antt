@@ -9,6 +9,7 @@ use lib.ListN.{length}
 use borrow.Author.Tests.{eq-eqb, ne-eqb, leb-true, not-true}
 use Rattle.base.specs.Bytes.{Bytes}
 use Rattle.base.proofs.Tests.{by-test}
+use Rattle.answer.proofs.Checks.{number-of}
 use Rattle.answer.specs.declared.Answer.{Answer}
 use Rattle.answer.specs.Checks.{answerTo}
 use Rattle.answer.specs.Promises.{elsewhere, different}
@@ -62,8 +63,8 @@ module _ (left right : Bytes) (leftRecords rightRecords third : List ℕ) where
   pub refused : (a : Answer) → a ≡ sides → a .refusal ≢ 0 → Leaves a left third
   unfolding joined copied
   refused a e n =
-      let q : a ≡ answer = e ∙ first-refuse (λ o. n (ap (λ (x : Answer). x .refusal) e ∙ o)) in
-      let z = ne-eqb (answer .refusal) 0 (λ o. n (ap (λ (x : Answer). x .refusal) q ∙ o)) in
+      let q : a ≡ answer = e ∙ first-refuse (λ o. n (number-of e ∙ o)) in
+      let z = ne-eqb (answer .refusal) 0 (λ o. n (number-of q ∙ o)) in
       (q, (rw z, rw z))
 
   -- ---- they pass
@@ -78,7 +79,7 @@ module _ (left right : Bytes) (leftRecords rightRecords third : List ℕ) where
       }
 
   pub one-setup-of : (a : Answer) → a ≡ sides → a .refusal ≡ 0 → OneSetup left right leftRecords rightRecords third
-  one-setup-of a e z = one-setup (ap (λ (x : Answer). x .refusal) (sym e) ∙ z)
+  one-setup-of a e z = one-setup (number-of (sym e) ∙ z)
 
   -- then those of the blocks decide
   blocks-decide : OneSetup left right leftRecords rightRecords third → blocksAnswer left right ≡ answer
@@ -109,7 +110,7 @@ module _ (left right : Bytes) (leftRecords rightRecords third : List ℕ) where
     pub passed : a .refusal ≡ 0 → Passed left right leftRecords rightRecords third
     unfolding different elsewhere
     passed z =
-        let h = all-passed (blocksChecks left right) (joinedCount (viewOf left) (viewOf right)) refl (ap (λ (x : Answer). x .refusal) (sym e) ∙ z) in
+        let h = all-passed (blocksChecks left right) (joinedCount (viewOf left) (viewOf right)) refl (number-of (sym e) ∙ z) in
         record {
           joinable = record {
             formed = formed-of-both;
@@ -129,7 +130,7 @@ module _ (left right : Bytes) (leftRecords rightRecords third : List ℕ) where
         × ((t ≡ blocksTable left right) × (b ≡ blocksRecords left right leftRecords rightRecords third))
 
     pub as-was : a .refusal ≢ 0 → Left left third
-    as-was n = let z = ne-eqb (blocksAnswer left right .refusal) 0 (λ q. n (ap (λ (x : Answer). x .refusal) e ∙ q)) in (e, (rw z, rw z))
+    as-was n = let z = ne-eqb (blocksAnswer left right .refusal) 0 (λ q. n (number-of e ∙ q)) in (e, (rw z, rw z))
 
     pub as-joined : a .refusal ≡ 0 → (t : Bytes) (b : List ℕ) → t ≡ joinedTable left right → b ≡ joinedRecords left right leftRecords rightRecords third → Left t b
-    as-joined z t b f g = let y = eq-eqb (blocksAnswer left right .refusal) 0 (ap (λ (x : Answer). x .refusal) (sym e) ∙ z) in (e, (rw y f, rw y g))
+    as-joined z t b f g = let y = eq-eqb (blocksAnswer left right .refusal) 0 (number-of (sym e) ∙ z) in (e, (rw y f, rw y g))

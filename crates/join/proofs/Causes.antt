@@ -15,7 +15,7 @@ use Rattle.base.proofs.Tests.{and-left, and-right}
 use Rattle.base.proofs.Search.{any-true, any-true-at, any-such, first-such}
 use Rattle.base.proofs.Bytes.{same-equal, equal-same}
 use Rattle.answer.specs.Checks.{Check}
-use Rattle.answer.specs.Promises.{Passed, elsewhere, different, Decided}
+use Rattle.answer.specs.Promises.{FirstHold, elsewhere, different, Decided}
 use Rattle.answer.proofs.Checks.{valuedOnly, no-value, absent, present, missed, either-fails}
 use Rattle.answer.proofs.Promises.{first-refused, decided}
 use Rattle.table.specs.Layout.{setupOf, retiredOf, countOf, digestAt, viewOf}
@@ -77,10 +77,10 @@ module _ (left right : Bytes) (leftRecords rightRecords third : List ℕ) where
   unfolding joinAnswer different elsewhere
   told = decided checks _ refl
 
-  formed : Passed checks 1 ↔ BothFormed left right
+  formed : FirstHold checks 1 ↔ BothFormed left right
   formed = (λ p. formed-both left right (p .1), λ f. (tt, rw (f .leftFormed, f .rightFormed)))
 
-  whole : Passed checks 2 ↔ Whole left right leftRecords rightRecords third
+  whole : FirstHold checks 2 ↔ Whole left right leftRecords rightRecords third
   whole = (
     λ p. whole-of left right leftRecords rightRecords third (formed .0 (p .0)) (p .1),
     λ w. (
@@ -89,16 +89,16 @@ module _ (left right : Bytes) (leftRecords rightRecords third : List ℕ) where
     ),
   )
 
-  unretired : Passed checks 3 ↔ Unretired left right leftRecords rightRecords third
+  unretired : FirstHold checks 3 ↔ Unretired left right leftRecords rightRecords third
   unretired = (
     λ p. unretired-of left right leftRecords rightRecords third (whole .0 (p .0)) (p .1),
     λ u. (whole .1 (u .isWhole), rw (u .leftRetired, u .rightRetired)),
   )
 
-  one-setup : Passed checks 4 ↔ OneSetup left right leftRecords rightRecords third
+  one-setup : FirstHold checks 4 ↔ OneSetup left right leftRecords rightRecords third
   one-setup = (λ p. record { unretired = unretired .0 (p .0); setup = setup-is .0 (p .1) }, λ o. (unretired .1 (o .unretired), setup-is .1 (o .setup)))
 
-  apart : Passed checks 5 ↔ Apart left right leftRecords rightRecords third
+  apart : FirstHold checks 5 ↔ Apart left right leftRecords rightRecords third
   apart =
       let here = absent _ _ some-clash in
       (λ p. record { one = one-setup .0 (p .0); none = here .0 (p .1) }, λ a. (one-setup .1 (a .one), here .1 (a .none)))

@@ -10,6 +10,7 @@ use lib.Dec.{eqb}
 use lib.ListN.{length}
 use Rattle.base.specs.Bytes.{Bytes}
 use Rattle.sha256.specs.Sha256.{sha256}
+use Rattle.answer.proofs.Checks.{number-of}
 use Rattle.answer.specs.declared.Answer.{Answer}
 use Rattle.block.specs.Layout.{siteOf, sequenceOf}
 use Rattle.block.specs.Reading.{fieldsOf}
@@ -31,7 +32,7 @@ use Rattle.report.specs.Listing.{deliveryLines, siteArrived, arrivalLine
 module _ (x : Site) (b : Bytes) (verdict arrival : ℕ) (a : Answer) (t : Bytes) (first : a ≡ admission sha256 (x .table) b verdict)
     (entering : t ≡ admitted sha256 (x .table) b verdict) where
   same-number : a .refusal ≡ number x b verdict
-  same-number = ap (λ (r : Answer). r .refusal) first
+  same-number = number-of first
 
   module _ (refused : a .refusal ≢ 0) where
     fails : eqb (number x b verdict) 0 ≡ false
@@ -55,7 +56,7 @@ module _ (x : Site) (b : Bytes) (verdict arrival : ℕ) (a : Answer) (t : Bytes)
     none = sym same-number ∙ taken
 
     same-second : i .refusal ≡ second x b verdict
-    same-second = ap (λ (q : Answer). q .refusal) (interpreting ∙ ap₂ (λ (t : Bytes) (a : Answer). interpretation t (x .records) (a .value)) entering first)
+    same-second = number-of (interpreting ∙ ap₂ (λ (t : Bytes) (a : Answer). interpretation t (x .records) (a .value)) entering first)
 
     pub taken-table : u ≡ siteArrived sha256 x b verdict .table
     taken-table =
@@ -81,7 +82,7 @@ module _ (x : Site) (b : Bytes) (verdict arrival : ℕ) (a : Answer) (t : Bytes)
     module _ (interpreted : i .refusal ≡ 0) where
       pub place-there : (length r ≡ bufferSize) × (a .value < maxPlaces)
       place-there =
-          let h = promises .causes t (x .records) (a .value) .none .0 (ap (λ (q : Answer). q .refusal) (sym interpreting) ∙ interpreted) .0 .isHeld in (
+          let h = promises .causes t (x .records) (a .value) .none .0 (number-of (sym interpreting) ∙ interpreted) .0 .isHeld in (
             ap length writes ∙ promises .sized t (x .records) (a .value) ∙ h .isWhole .size,
             omega (arith, h .below, formed-places t (h .isWhole .formed) .bound),
           )

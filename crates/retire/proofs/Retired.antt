@@ -15,7 +15,7 @@ use Rattle.base.specs.Bytes.{Bytes}
 use Rattle.base.proofs.Tests.{by-test, and-left, and-right, and-not-right, or-cases, or-true}
 use Rattle.base.proofs.Search.{any-false-at}
 use Rattle.base.proofs.Count.{count-first, count-same}
-use Rattle.answer.specs.Promises.{Passed, elsewhere, different}
+use Rattle.answer.specs.Promises.{FirstHold, elsewhere, different}
 use Rattle.answer.proofs.Promises.{all-passed}
 use Rattle.setup.specs.Setup.{Setup}
 use Rattle.table.specs.View.{maxPlaces, Row, interpreted, View}
@@ -121,7 +121,7 @@ module _ (s : Setup) (v : View) (form : Held s v) (r : retirable v ≡ true) (so
 -- ---- the call
 
 module _ (t : Bytes) (buffer : List ℕ) (e : retiring t buffer .refusal ≡ 0) where
-  pub passes : Passed (retiringChecks (inForm t) (viewOf t) (length buffer)) 4
+  pub passes : FirstHold (retiringChecks (inForm t) (viewOf t) (length buffer)) 4
   unfolding retiring different elsewhere
   passes = all-passed (retiringChecks (inForm t) (viewOf t) (length buffer)) 0 refl e
 

@@ -9,6 +9,7 @@ use lib.ListN.{length, drop}
 use borrow.Author.Tests.{eqb-true, eqb-false, eq-eqb, ne-eqb}
 use Rattle.base.specs.Bytes.{Bytes}
 use Rattle.base.proofs.Tests.{by-test, true-not-false}
+use Rattle.answer.proofs.Checks.{number-of}
 use Rattle.answer.specs.declared.Answer.{Answer}
 use Rattle.answer.specs.Checks.{Check, check, answerTo}
 use Rattle.answer.specs.Promises.{elsewhere, different}
@@ -95,11 +96,11 @@ module _ (digest : Bytes → Bytes) (sized : (b : Bytes) → length (digest b) �
     -- what the call does to the ledger, and what a refused call does to the site
     pub passed : (c : Call) → siteAnswer digest x c .refusal ≡ 0 → ledgerStep digest s size l c ≡ taken l c
     unfolding ledgerStep
-    passed c e = let z : ledgerAnswer digest s size l c .refusal ≡ 0 = ap (λ (a : Answer). a .refusal) (sym (same c)) ∙ e in rw (eq-eqb _ 0 z)
+    passed c e = let z : ledgerAnswer digest s size l c .refusal ≡ 0 = number-of (sym (same c)) ∙ e in rw (eq-eqb _ 0 z)
 
     pub refused : (c : Call) → siteAnswer digest x c .refusal ≢ 0 → ledgerStep digest s size l c ≡ l
     unfolding ledgerStep
-    refused c n = rw (ne-eqb (ledgerAnswer digest s size l c .refusal) 0 (λ z. n (ap (λ (a : Answer). a .refusal) (same c) ∙ z)))
+    refused c n = rw (ne-eqb (ledgerAnswer digest s size l c .refusal) 0 (λ z. n (number-of (same c) ∙ z)))
 
     pub site-stays : (c : Call) → siteAnswer digest x c .refusal ≢ 0 → siteStep digest x c ≡ x
     unfolding siteAnswer siteStep admitted marked recorded retiredTable retiredRecords takenBack
@@ -124,12 +125,12 @@ module _ (digest : Bytes → Bytes) (sized : (b : Bytes) → length (digest b) �
     after-form : (c : Call) (cs : List Check) → ledgerAnswer digest s size l c ≡ answerTo (check 2 (heldInForm s (viewIn digest l)) 0 ∷ cs) 0
         → different (check 2 (heldInForm s (viewIn digest l)) 0 ∷ cs) ≡ true → siteAnswer digest x c .refusal ≢ 2
     after-form c cs q d e =
-        formed-not-two cs _ (ledger-formed digest s size l x (t .tied)) d (ap (λ (a : Answer). a .refusal) (sym (same c ∙ q)) ∙ e)
+        formed-not-two cs _ (ledger-formed digest s size l x (t .tied)) d (number-of (sym (same c ∙ q)) ∙ e)
 
     pub never-two : (c : Call) → siteAnswer digest x c .refusal ≢ 2
     unfolding ledgerAnswer different elsewhere
     never-two (admit b verdict) e =
-        admission-not-two digest s (viewIn digest l) b verdict (l .held) _ (ledger-formed digest s size l x (t .tied)) (ap (λ (a : Answer). a .refusal) (sym (same (admit b verdict))) ∙ e)
+        admission-not-two digest s (viewIn digest l) b verdict (l .held) _ (ledger-formed digest s size l x (t .tied)) (number-of (sym (same (admit b verdict))) ∙ e)
     never-two (interpret i) e = after-form (interpret i) (drop 1 (interpretationChecks true (viewIn digest l) size i)) refl refl e
     never-two retire e = after-form retire (drop 1 (retiringChecks true (viewIn digest l) size)) refl refl e
     never-two takeBack e = after-form takeBack (drop 1 (takingBackChecks true (viewIn digest l))) refl refl e
@@ -152,6 +153,6 @@ module _ (digest : Bytes → Bytes) (sized : (b : Bytes) → length (digest b) �
   unfolding siteAnswers
   answers-formed l x t [] a m = absurd (List·Memᴰ·not-nil m)
   answers-formed l x t (c ∷ cs) a m = elim (List·Memᴰ·cases-cons m) [
-    | inl q ↦ λ e. never-two l x t c (ap (λ (z : Answer). z .refusal) (sym q) ∙ e)
+    | inl q ↦ λ e. never-two l x t c (number-of (sym q) ∙ e)
     | inr k ↦ answers-formed (ledgerStep digest s size l c) (siteStep digest x c) (step-together l x t c) cs a k
   ]

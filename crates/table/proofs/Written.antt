@@ -12,7 +12,7 @@ use Rattle.base.specs.Number.{pair}
 use Rattle.base.specs.Word.{wordSize, wordBytes}
 use Rattle.base.proofs.Sets.{mask-members}
 use Rattle.base.proofs.Parts.{length-joined-list}
-use Rattle.base.proofs.Splice.{splice-append}
+use Rattle.base.proofs.Splice.{stored-behind}
 use Rattle.base.proofs.Word.{length-word}
 use Rattle.setup.specs.Setup.{slotCount}
 use Rattle.block.specs.Limits.{referenceSize}
@@ -22,10 +22,6 @@ use Rattle.table.specs.Layout.{countOffset, siteOffset, referencesOffset
 use Rattle.table.specs.Steps.{Place, rowWith, requestBytes, newRow, withReferences}
 use Rattle.table.proofs.RowBytes.{rowPart, references-put}
 use Rattle.table.proofs.Laid.{row-laid}
-
--- what is put right behind is put with it
-behind : (t t₁ t₂ a b : Bytes) (at n : ℕ) → at ≤ length t → t₁ ≡ splice t at a → at + length a ≡ n → t₂ ≡ splice t₁ n b → t₂ ≡ splice t at (a ++ b)
-behind t t₁ t₂ a b at n h e l f = f ∙ ap₂ (λ (x : Bytes) (k : ℕ). splice x k b) e (sym l) ∙ splice-append t at a h b
 
 -- ---- a row written field by field
 
@@ -55,10 +51,10 @@ module _ (t : Bytes) (at : ℕ) (d : Bytes) (site sequence references : ℕ) (re
       let l₂ : length (d ++ head) ≡ referencesOffset = length-append d head ∙ omega arith in
       let l₃ : length ((d ++ head) ++ mask) ≡ requestsOffset = length-append (d ++ head) mask ∙ omega (arith, length-word wordSize references) in
       let l₄ : length (((d ++ head) ++ mask) ++ requestBytes requests) ≡ markOffset = length-append ((d ++ head) ++ mask) (requestBytes requests) ∙ omega (arith, requests-length) in
-      let f₂ = behind t t₁ t₂ d head at (at + siteOffset) h e₁ (omega arith) e₂ in
-      let f₃ = behind t t₂ t₃ (d ++ head) mask at (at + referencesOffset) h f₂ (omega arith) (e₃ ∙ ap (splice t₂ (at + referencesOffset)) ew) in
-      let f₄ = behind t t₃ t₄ ((d ++ head) ++ mask) (requestBytes requests) at (at + requestsOffset) h f₃ (omega arith) e₄ in
-      let f₅ = behind t t₄ t₅ (((d ++ head) ++ mask) ++ requestBytes requests) (0 ∷ []) at (at + markOffset) h f₄ (omega arith) e₅ in
+      let f₂ = stored-behind t t₁ t₂ d head at (at + siteOffset) h e₁ (omega arith) e₂ in
+      let f₃ = stored-behind t t₂ t₃ (d ++ head) mask at (at + referencesOffset) h f₂ (omega arith) (e₃ ∙ ap (splice t₂ (at + referencesOffset)) ew) in
+      let f₄ = stored-behind t t₃ t₄ ((d ++ head) ++ mask) (requestBytes requests) at (at + requestsOffset) h f₃ (omega arith) e₄ in
+      let f₅ = stored-behind t t₄ t₅ (((d ++ head) ++ mask) ++ requestBytes requests) (0 ∷ []) at (at + markOffset) h f₄ (omega arith) e₅ in
       f₅ ∙ ap (splice t at) row
 
 -- ---- the row of another table
@@ -73,8 +69,8 @@ carried-written t t₁ t₂ t₃ row front mask rest at references h size ef e�
     let m : Bytes = wordBytes wordSize references in
     let la : length a ≡ referencesOffset = length-take-le referencesOffset row (omega arith) in
     let lm : length (a ++ m) ≡ requestsOffset = length-append a m ∙ omega (arith, length-word wordSize references) in
-    let f₂ = behind t t₁ t₂ a m at (at + referencesOffset) h (e₁ ∙ ap (splice t at) ef) (omega arith) (e₂ ∙ ap (splice t₁ (at + referencesOffset)) em) in
-    behind t t₂ t₃ (a ++ m) (drop requestsOffset row) at (at + requestsOffset) h f₂ (omega arith) (e₃ ∙ ap (splice t₂ (at + requestsOffset)) er)
+    let f₂ = stored-behind t t₁ t₂ a m at (at + referencesOffset) h (e₁ ∙ ap (splice t at) ef) (omega arith) (e₂ ∙ ap (splice t₁ (at + referencesOffset)) em) in
+    stored-behind t t₂ t₃ (a ++ m) (drop requestsOffset row) at (at + requestsOffset) h f₂ (omega arith) (e₃ ∙ ap (splice t₂ (at + requestsOffset)) er)
     ∙ ap (splice t at) (append-assoc a m (drop requestsOffset row))
 
 module _ (other : Bytes) (j : ℕ) (all : AllBytes other) (place : Place other j) (references : ℕ) (wide : references < 2 ^ maxPlaces) where

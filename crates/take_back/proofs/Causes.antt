@@ -11,7 +11,7 @@ use borrow.Author.Tests.{eqb-true, eq-eqb, lt-ltb, le-ltb, ltb-true, ltb-false}
 use Rattle.base.specs.List.{someIn}
 use Rattle.base.specs.Bytes.{Bytes}
 use Rattle.answer.specs.Checks.{Check}
-use Rattle.answer.specs.Promises.{Passed, elsewhere, different, Decided}
+use Rattle.answer.specs.Promises.{FirstHold, elsewhere, different, Decided}
 use Rattle.answer.proofs.Checks.{valuedOnly, no-value, absent, present}
 use Rattle.answer.proofs.Promises.{first-refused, second-refused, decided}
 use Rattle.table.specs.Layout.{countOf, markAt, viewOf}
@@ -27,7 +27,7 @@ module _ (t : Bytes) where
   unfolding takingBack different elsewhere
   told = decided checks 0 refl
 
-  held : Passed checks 2 ↔ SomeHeld t
+  held : FirstHold checks 2 ↔ SomeHeld t
   held = (λ p. record { formed = p .0 .1; some = ltb-true _ _ (p .1) }, λ h. ((tt, h .formed), lt-ltb _ _ (h .some)))
 
   interpreted-is : (eqb (markAt t (countOf t - 1)) 1 ≡ true) ↔ (markAt t (countOf t - 1) ≡ 1)

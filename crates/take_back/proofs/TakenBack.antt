@@ -9,7 +9,7 @@ use lib.Dec.{eqb}
 use borrow.Author.Tests.{eqb-true, eqb-false, ne-eqb, ltb-true}
 use Rattle.base.specs.Bytes.{Bytes}
 use Rattle.base.proofs.Tests.{by-test}
-use Rattle.answer.specs.Promises.{Passed, elsewhere, different}
+use Rattle.answer.specs.Promises.{FirstHold, elsewhere, different}
 use Rattle.answer.proofs.Promises.{all-passed}
 use Rattle.setup.specs.Setup.{Setup}
 use Rattle.table.specs.View.{View}
@@ -34,7 +34,7 @@ held-left s v h =
     }
 
 module _ (t : Bytes) (e : takingBack t .refusal ≡ 0) where
-  passes : Passed (takingBackChecks (inForm t) (viewOf t)) 3
+  passes : FirstHold (takingBackChecks (inForm t) (viewOf t)) 3
   unfolding takingBack different elsewhere
   passes = all-passed (takingBackChecks (inForm t) (viewOf t)) 0 refl e
 

@@ -9,7 +9,7 @@ use lib.ListN.{length}
 use borrow.Author.Tests.{eqb-true, eqb-false, lt-ltb}
 use Rattle.base.specs.Bytes.{Bytes}
 use Rattle.base.proofs.Tests.{by-test}
-use Rattle.answer.specs.declared.Answer.{Answer}
+use Rattle.answer.proofs.Checks.{number-of}
 use Rattle.answer.specs.Checks.{success, answerTo}
 use Rattle.block.specs.Limits.{referenceSize}
 use Rattle.table.specs.Layout.{countOf, markAt, viewOf, withRow}
@@ -55,7 +55,7 @@ module _ (digest : Bytes → Bytes) (sized : (b : Bytes) → length (digest b) �
   unfolding UndoneBy
   undone = (
     passes-back,
-    table-passed t′ (ap (λ (a : Answer). a .refusal) passes-back) ∙ ap withoutRow with-row
+    table-passed t′ (number-of passes-back) ∙ ap withoutRow with-row
         ∙ row-undone t (rowFor digest (viewOf t) b) (formed-of t was .size) (promises digest sized .causes t b verdict .none .0 e .1) (sized b) (formed-of t was .zeros),
   )
 

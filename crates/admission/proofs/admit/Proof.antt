@@ -11,6 +11,7 @@ use borrow.Author.Needs.{needs}
 use borrow.Author.Tests.{eq-eqb, ne-eqb, lt-ltb, le-ltb, not-true, not-false}
 use Rattle.base.specs.Bytes.{Bytes}
 use Rattle.sha256.specs.Sha256.{sha256}
+use Rattle.answer.proofs.Checks.{number-of}
 use Rattle.answer.specs.declared.Answer.{Answer}
 use Rattle.answer.specs.Checks.{refused, answerTo}
 use Rattle.block.specs.Layout.{siteOf}
@@ -73,7 +74,7 @@ module _ (t b : Bytes) (verdict : ℕ) where
               let n = refused-number r k in
               refusing a
               (e ∙ rw (formed, shape, lt-ltb (siteOf b) (setupOf t .sites) site, eq-eqb verdict 1 link, ← er, ne-eqb (answerOf r .refusal) 0 n) refl)
-              (λ z. n (ap (λ (x : Answer). x .refusal) (sym e) ∙ z))
+              (λ z. n (number-of (sym e) ∙ z))
 
           module _ (f : Fields) (ef : r ≡ Block f) where
             fields : f ≡ fieldsOf b

@@ -9,6 +9,7 @@ use Rattle.base.specs.Mask.{inMask}
 use Rattle.base.specs.Bytes.{Bytes}
 use Rattle.sha256.specs.Sha256.{sha256}
 use Rattle.sha256.proofs.Promises.{sha256-length}
+use Rattle.answer.proofs.Checks.{number-of}
 use Rattle.answer.specs.declared.Answer.{Answer}
 use Rattle.answer.specs.Promises.{elsewhere, different}
 use Rattle.answer.proofs.Promises.{all-passed}
@@ -104,7 +105,7 @@ put-row-requires c κs =
     let h = decided e in
     let d = digest (index (found (h .before) .before)) in
     let s = start d in (
-      room _ _ (formed-places _ (s .pre .0)) (ap (λ (x : Answer). x .refusal) (sym (h .held-answer .ensures)) ∙ e .if1 .left),
+      room _ _ (formed-places _ (s .pre .0)) (number-of (sym (h .held-answer .ensures)) ∙ e .if1 .left),
       ap length (d .digest .ensures) ∙ sha256-length (s .args .block .now),
     )
 

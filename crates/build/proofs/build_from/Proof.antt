@@ -13,7 +13,7 @@ use Rattle.base.specs.Mask.{inMask}
 use Rattle.base.specs.Bytes.{Bytes}
 use Rattle.answer.specs.declared.Answer.{Answer}
 use Rattle.answer.specs.Checks.{Check, refused}
-use Rattle.answer.specs.Promises.{checkAt, Passed}
+use Rattle.answer.specs.Promises.{checkAt, FirstHold}
 use Rattle.answer.proofs.Checks.{number-of}
 use Rattle.answer.proofs.Promises.{decides, past}
 use Rattle.block.specs.Limits.{requestSize}
@@ -55,17 +55,17 @@ module _ (seen : ℕ) (t : Bytes) (p : ℕ) (requests output : Bytes) where
   refusing a e n = (e, rw (← e, ne-eqb (a .refusal) 0 n))
 
   -- check k is the first that does not hold
-  way-refused : (k : ℕ) → k < length checks → checkAt checks k .number ≢ 0 → Passed checks k → checkAt checks k .holds ≡ false
+  way-refused : (k : ℕ) → k < length checks → checkAt checks k .number ≢ 0 → FirstHold checks k → checkAt checks k .holds ≡ false
       → (a : Answer) → a ≡ refused (checkAt checks k .number) (checkAt checks k .value) → Promised a output
   unfolding buildingFrom
   way-refused k h n passed fails a e =
       refusing a (e ∙ sym (decides checks (length (nextBlock (inMask seen) (viewOf t) p requests)) k h passed fails)) (λ z. n (sym (number-of e) ∙ z))
 
-  through : Passed checks 5 → buildingFrom (inMask seen) t p requests output ≡ nextAnswer (inMask seen) t p requests output
+  through : FirstHold checks 5 → buildingFrom (inMask seen) t p requests output ≡ nextAnswer (inMask seen) t p requests output
   unfolding buildingFrom nextAnswer
   through e = past checks _ 5 e
 
-  way-written : Passed checks 5 → (a : Answer) (output′ : Bytes) → a ≡ nextAnswer (inMask seen) t p requests output → output′ ≡ nextOutput (inMask seen) t p requests output
+  way-written : FirstHold checks 5 → (a : Answer) (output′ : Bytes) → a ≡ nextAnswer (inMask seen) t p requests output → output′ ≡ nextOutput (inMask seen) t p requests output
       → Promised a output′
   unfolding builtFrom nextOutput
   way-written passed a output′ e e′ = (e ∙ sym (through passed), rw (through passed) e′)
@@ -73,7 +73,7 @@ module _ (seen : ℕ) (t : Bytes) (p : ℕ) (requests output : Bytes) where
 -- ---- the places of the walk, and the checks that hold there
 
 abbrev Holding : tie.Start → ℕ → Type 0
-Holding s k = let a = s .args in Passed (checks (a .seen) (a .table .now) (a .site) (a .requests .now) (a .output .now)) k
+Holding s k = let a = s .args in FirstHold (checks (a .seen) (a .table .now) (a .site) (a .requests .now) (a .output .now)) k
 
 abbrev start : tie.Else1 → tie.Start
 start c = c .before .before .before .before .before

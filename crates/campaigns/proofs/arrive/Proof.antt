@@ -11,6 +11,7 @@ use borrow.Author.Needs.{needs}
 use borrow.Author.Tests.{eq-eqb, ne-eqb, le-leb, lt-leb, not-true, not-false}
 use Rattle.base.specs.Bytes.{Bytes}
 use Rattle.sha256.specs.Sha256.{sha256}
+use Rattle.answer.proofs.Checks.{number-of}
 use Rattle.answer.specs.Buffer.{putAnswers}
 use Rattle.answer.specs.declared.Answer.{Answer}
 use Rattle.answer.specs.Checks.{refused, answerTo}
@@ -100,7 +101,7 @@ module _ (t s : Bytes) (c : ℕ) (b : Bytes) (verdict : ℕ) (o : List ℕ) wher
             → s′ ≡ shelfBytes (shelvedAt a s c b .waiting) → Promised r t′ s′ o
         unfolding arrived outcomesOf putAnswers
         way-shelved z x r s′ er ex es =
-            let n : admission sha256 t b verdict .refusal ≡ 9 = ap (λ (x : Answer). x .refusal) (sym ea) ∙ z in
+            let n : admission sha256 t b verdict .refusal ≡ 9 = number-of (sym ea) ∙ z in
             let e : all ≡ withTable t (shelvedAt a s c b) =
             rw (eq-eqb (admission sha256 t b verdict .refusal) 9 n, ← ea) (shelved-any (hasPlace c ws) a t ws c b) in
             let none : shelvedAt a s c b .tries ≡ [] = shelved-tries (hasPlace c ws) a [] ws c b in
@@ -189,7 +190,7 @@ shelve-requires c κs =
     let q = start d .args in
     record {
       laid = formed-of _ (formed (form-of d)) .laid;
-      short = nine-short sha256 (q .table .now) (q .block .now) (q .verdict) (ap (λ (x : Answer). x .refusal) (sym (d .admit .ensures .0)) ∙ c .before .if4 .taken);
+      short = nine-short sha256 (q .table .now) (q .block .now) (q .verdict) (number-of (sym (d .admit .ensures .0)) ∙ c .before .if4 .taken);
     }
 
 returns-4 : tie.Need-returns-4

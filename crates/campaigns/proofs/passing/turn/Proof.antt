@@ -12,6 +12,7 @@ use borrow.Author.Tests.{eq-eqb, ne-eqb}
 use Rattle.base.specs.Bytes.{Bytes}
 use Rattle.base.proofs.Tests.{or-true, or-false}
 use Rattle.sha256.specs.Sha256.{sha256}
+use Rattle.answer.proofs.Checks.{number-of}
 use Rattle.answer.specs.Buffer.{putAnswer}
 use Rattle.answer.specs.declared.Answer.{Answer}
 use Rattle.shelf.specs.Layout.{Waiting, campaignAt, blockAt, waitingAt, waitingIn, shelfBytes}
@@ -71,7 +72,7 @@ module _ (t s : Bytes) (o : List ℕ) (c : ℕ) (p : Pass) (h : Standing s p) wh
       way-stays : a .refusal ≡ 9 → Promised by t′ s o
       unfolding turned
       way-stays z =
-          let r : admission sha256 t (here .block) 1 .refusal ≡ 9 = ap (λ (x : Answer). x .refusal) (sym tried) ∙ z in
+          let r : admission sha256 t (here .block) 1 .refusal ≡ 9 = number-of (sym tried) ∙ z in
           let e = eq-eqb (admission sha256 t (here .block) 1 .refusal) 9 r in
           let same = refused-table sha256 t (here .block) 1 (λ q. omega arith) in
           (rw (mine, e), (rw (mine, e) (left ∙ same), (rw (mine, e) (h .passable .laid .bytes), rw (mine, e))))
@@ -81,7 +82,7 @@ module _ (t s : Bytes) (o : List ℕ) (c : ℕ) (p : Pass) (h : Standing s p) wh
       unfolding turned
       way-goes n s′ es o′ eo y ey =
           let x = admission sha256 t (here .block) 1 in
-          let z = ne-eqb (x .refusal) 9 (λ q. n (ap (λ (x : Answer). x .refusal) tried ∙ q)) in
+          let z = ne-eqb (x .refusal) 9 (λ q. n (number-of tried ∙ q)) in
           let yr = ey ∙ ap (λ (v : Answer). p .admitted || eqb (v .refusal) 0) tried in
           let er = eo ∙ ap (λ (v : Answer). putAnswer o (p .ended) (outcome v)) tried in
           (rw (mine, z) (λ i. record { at = p .at; admitted = yr i; ended = p .ended + 1 }), (rw (mine, z) left, (rw (mine, z) es, rw (mine, z) er)))

@@ -6,7 +6,7 @@ use native.Mathlib.Omega.{arith}
 use lib.ListN.{length, length-append}
 use borrow.Author.Needs.{needs}
 use Rattle.base.specs.Bytes.{splice}
-use Rattle.base.proofs.Splice.{splice-append}
+use Rattle.base.proofs.Splice.{stored-behind}
 use Rattle.broadcast.specs.declared.SlotRecord.{SlotRecord}
 use Rattle.broadcast.proofs.Steps.{Sized}
 use Rattle.records.specs.Layout.{echoesOffset, readiesOffset, madeOffset, sentNumbers, flatten}
@@ -14,18 +14,14 @@ use Rattle.records.proofs.Typed.{held-sized}
 use Rattle.records.proofs.numbers.put_record.Statement.{statement}
 use Rattle.records.proofs.numbers.put_record.Tie as tie
 
--- what is put right behind a part is put with it
-behind : (b x y part more : List ℕ) (at n : ℕ) → at ≤ length b → length part ≡ n → x ≡ splice b at part → y ≡ splice x (at + n) more → y ≡ splice b at (part ++ more)
-behind b x y part more at n h l e f = f ∙ rw (e, ← l) (splice-append b at part h more)
-
 module _ (out a b c d : List ℕ) (at : ℕ) (s : SlotRecord) (sized : Sized s) (within : at ≤ length out) where
   all-put : a ≡ splice out at (sentNumbers (s .sent)) → b ≡ splice a (at + echoesOffset) (s .echoes) → c ≡ splice b (at + readiesOffset) (s .readies)
       → d ≡ splice c (at + madeOffset) (sentNumbers (s .made)) → d ≡ splice out at (flatten s)
   unfolding flatten
   all-put p q r t =
-      let two = behind out a b (sentNumbers (s .sent)) (s .echoes) at echoesOffset within refl p q in
-      let three = behind out b c (sentNumbers (s .sent) ++ s .echoes) (s .readies) at readiesOffset within (simp length-append (omega arith)) two r in
-      behind out c d ((sentNumbers (s .sent) ++ s .echoes) ++ s .readies) (sentNumbers (s .made)) at madeOffset within (simp length-append (omega arith)) three t
+      let two = stored-behind out a b (sentNumbers (s .sent)) (s .echoes) at (at + echoesOffset) within p refl q in
+      let three = stored-behind out b c (sentNumbers (s .sent) ++ s .echoes) (s .readies) at (at + readiesOffset) within two (simp length-append (omega arith)) r in
+      stored-behind out c d ((sentNumbers (s .sent) ++ s .echoes) ++ s .readies) (sentNumbers (s .made)) at (at + madeOffset) within three (simp length-append (omega arith)) t
       ∙ ap (splice out at) (simp append-assoc)
 
 -- the places on the way, each from the next one

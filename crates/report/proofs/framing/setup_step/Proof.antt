@@ -7,6 +7,7 @@ use native.Mathlib.Omega.{arith}
 use borrow.Author.Needs.{needs}
 use lib.ListN.{length}
 use Rattle.base.specs.Bytes.{Bytes}
+use Rattle.answer.proofs.Checks.{number-of}
 use Rattle.answer.specs.declared.Answer.{Answer}
 use Rattle.table.specs.Fresh.{freshAnswer}
 use Rattle.report.specs.Text.{names, setupLine}
@@ -42,7 +43,7 @@ abbrev start-of : tie.After-struct-known → tie.Start
 start-of c = start (made c .before .before .before .before .before)
 
 told : (c : tie.After-struct-known) → let a = start-of c .args in made c .fresh-in .result .refusal ≡ freshAnswer (setupIn (a .piece .now)) (a .table .now) .refusal
-told c = ap (λ (r : Answer). r .refusal) (made c .fresh-in .ensures .0)
+told c = number-of (made c .fresh-in .ensures .0)
 
 returns : tie.Need-returns
 returns c =
