@@ -27,13 +27,13 @@ use Rattle.block.specs.Promises.{Shaped}
 use Rattle.block.specs.declared.Reading.{Reading}
 use Rattle.block.specs.declared.Reading.the-variants.{Block, Misshapen, BadRequest, RepeatedReference}
 use Rattle.block.proofs.Shape.{shaped, well-shaped}
-use Rattle.block.proofs.Accepted.{reading-accepted}
+use Rattle.block.proofs.Acceptance.{reading-accepted}
 use Rattle.block.proofs.Causes as reader
 use Rattle.table.specs.View.{maxPlaces, View}
 use Rattle.table.specs.Layout.{setupOf, countOf, viewOf}
 use Rattle.table.specs.Rules.{hasDigest, placeOf}
 use Rattle.table.specs.Form.{inForm}
-use Rattle.table.proofs.Formed.{formed-of}
+use Rattle.table.proofs.InForm.{formed-of}
 use Rattle.admission.specs.Admission.{missing, heldChecks, admissionChecks, admission}
 use Rattle.admission.specs.Promises.{Whole, OfSite, Vouched, Readable, HeldAt, DigestHeld, MissingAt, ReferenceMissing, New, Linked, Parented, answer, Causes}
 

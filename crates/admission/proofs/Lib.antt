@@ -1,7 +1,7 @@
 -- The laws of admission. Other crates' proofs cite them.
 mod LookUp
-pub mod Listed
-pub mod Referring
+pub mod ReferenceList
+pub mod HeldReferences
 pub mod Causes
-pub mod Kept
+pub mod Effect
 pub mod Promises

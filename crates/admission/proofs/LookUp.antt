@@ -18,8 +18,8 @@ use Rattle.block.specs.Layout.{referenceAt}
 use Rattle.table.specs.Layout.{countOf, digestAt, viewOf}
 use Rattle.table.specs.Rules.{hasDigest, placeOf}
 use Rattle.table.specs.Form.{inForm}
-use Rattle.table.proofs.Formed.{formed-places}
-use Rattle.table.proofs.ByFirstByte.{only-place}
+use Rattle.table.proofs.InForm.{formed-places}
+use Rattle.table.proofs.DigestIndex.{only-place}
 
 -- whether reference i of the list is the digest at place j
 abbrev pub names : Bytes → Bytes → ℕ → ℕ → Bool

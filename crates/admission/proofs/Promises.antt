@@ -7,7 +7,7 @@ use Rattle.sha256.proofs.Promises.{sha256-length}
 use Rattle.block.specs.Limits.{referenceSize}
 use Rattle.admission.specs.Promises.{Promises}
 use Rattle.admission.proofs.Causes.{causes}
-use Rattle.admission.proofs.Kept.{shown, kept}
+use Rattle.admission.proofs.Effect.{shown, kept}
 
 pub promises : (digest : Bytes → Bytes) → ((b : Bytes) → length (digest b) ≡ referenceSize) → Promises digest
 promises digest sized =

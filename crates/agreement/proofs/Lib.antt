@@ -1,4 +1,4 @@
 -- The theorem of two sites; two listings; the watch.
-pub mod Theorem
-pub mod Agreed
-pub mod Watched
+pub mod TwoSites
+pub mod TwoListings
+pub mod Watch

@@ -15,13 +15,13 @@ use Rattle.setup.specs.Setup.{Setup, lawful}
 use Rattle.block.specs.Limits.{referenceSize}
 use Rattle.history.specs.Forks.{NoCollision}
 use Rattle.history.proofs.Ancestry.{OneHistory}
-use Rattle.history.proofs.Worlds.{across}
+use Rattle.history.proofs.Collections.{across}
 use Rattle.run.specs.Ledger.{Call, admit, interpret, retire, takeBack, Ledger, empty, taken, ledgerStep, ledgerAfter}
 use Rattle.run.specs.Run.{Site, started, siteAnswer, siteStep}
 use Rattle.run.specs.Promises.{ledgerOf}
 use Rattle.run.proofs.Runs.{Together, passed, refused, step-together}
 use Rattle.run.proofs.Growth.{after-unretired}
-use Rattle.run.proofs.Standing.{one-history-each, unretired-clear, safe-clear}
+use Rattle.run.proofs.LedgerPlaces.{one-history-each, unretired-clear, safe-clear}
 use Rattle.run.proofs.Promises.{start, run}
 use Rattle.arrival.specs.Full.{BlockBy, Full}
 use Rattle.arrival.specs.Building.{OwnIsBuilt, BuildsByRule, BuildersFull}

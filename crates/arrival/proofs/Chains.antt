@@ -12,7 +12,7 @@ use Rattle.history.specs.History.{History, blockOf}
 use Rattle.history.specs.Ancestry.{AncestorIn, refers, through}
 use Rattle.history.proofs.Histories.{parent-site, parent-sequence, Lineage, here, older}
 use Rattle.history.proofs.Ancestry.{OneHistory, child-of}
-use Rattle.history.proofs.Worlds.{HistoryIn}
+use Rattle.history.proofs.Collections.{HistoryIn}
 use Rattle.arrival.specs.Full.{RefersTo, InChain, itself, earlier, ReferredInChain}
 
 module _ (digest : Bytes → Bytes) (bs : List Bytes) where

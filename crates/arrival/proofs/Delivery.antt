@@ -21,10 +21,10 @@ use Rattle.broadcast.specs.Process.{madeOf, support}
 use Rattle.broadcast.proofs.Steps.{Entry, entryOf, entryOfKind, made-entry}
 use Rattle.broadcast.proofs.Steps.Entry.{echoEntry, readyEntry, deliveryEntry}
 use Rattle.broadcast.proofs.Support.{support-count}
-use Rattle.broadcast.proofs.Hears.{Heard}
-use Rattle.broadcast.proofs.Settled.Rule.{readyByEchoes, deliveryByReadies}
+use Rattle.broadcast.proofs.Hearing.{Heard}
+use Rattle.broadcast.proofs.ThresholdInvariant.Rule.{readyByEchoes, deliveryByReadies}
 use Rattle.records.specs.Layout.{madeOffset, recordSize, recordAt}
-use Rattle.records.proofs.Flattened.{record-flatten}
+use Rattle.records.proofs.RecordNumbers.{record-flatten}
 use Rattle.records.proofs.Parts.{entry-in}
 use Rattle.history.specs.History.{History, blockOf, slotRecord, meaning}
 use Rattle.history.specs.Ancestry.{historyOf}
@@ -32,7 +32,7 @@ use Rattle.history.specs.Forks.{forked}
 use Rattle.history.proofs.Meanings.{record-sized, record-settled}
 use Rattle.history.proofs.Ancestry.{OneHistory}
 use Rattle.history.proofs.Agreement.{World}
-use Rattle.history.proofs.Worlds.{HistoryIn, history-in, one-world}
+use Rattle.history.proofs.Collections.{HistoryIn, history-in, one-world}
 use Rattle.run.specs.Promises.{deliveredEntry}
 use Rattle.run.proofs.Promises.{delivered-is as delivered-entry}
 use Rattle.arrival.specs.Full.{BlockBy, Above, Full}

@@ -17,20 +17,20 @@ use Rattle.block.specs.Limits.{referenceSize}
 use Rattle.block.specs.Layout.{siteOf, sequenceOf, referencesOf}
 use Rattle.table.specs.View.{maxPlaces, View}
 use Rattle.table.specs.Layout.{countOf, digestAt, siteAt, rowAt, viewOf}
-use Rattle.table.proofs.Formed.{formed-of}
+use Rattle.table.proofs.InForm.{formed-of}
 use Rattle.watch.specs.Forks.{everywhere, ofSite}
 use Rattle.build.specs.Building.{nextSequence, isReferred, isOther, picked, nextBlock}
 use Rattle.build.proofs.Sequence.{next-above}
-use Rattle.build.proofs.Picked.{picked-held, picked-lower}
-use Rattle.build.proofs.Fits.{one-place}
+use Rattle.build.proofs.PickedPlaces.{picked-held, picked-lower}
+use Rattle.build.proofs.NextContent.{one-place}
 use Rattle.build.proofs.Fields.{next-numbered, next-refers}
 use Rattle.build.proofs.Promises.{built-block}
 use Rattle.run.specs.Ledger.{Ledger}
 use Rattle.run.specs.Run.{Site}
-use Rattle.run.proofs.Tied.{Tied}
+use Rattle.run.proofs.Simulation.{Tied}
 use Rattle.run.proofs.Runs.{Together}
-use Rattle.run.proofs.Standing.{Standing, standing}
-use Rattle.agreement.proofs.Watched.{of-site, site-of}
+use Rattle.run.proofs.LedgerPlaces.{Standing, standing}
+use Rattle.agreement.proofs.Watch.{of-site, site-of}
 use Rattle.arrival.specs.Full.{BlockBy, RefersTo}
 use Rattle.arrival.specs.Building.{BuiltFrom}
 use Rattle.arrival.proofs.Builders.{Picks}

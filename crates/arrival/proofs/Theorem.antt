@@ -15,7 +15,7 @@ use Rattle.history.specs.Ancestry.{historyOf}
 use Rattle.run.specs.Ledger.{Call, Ledger}
 use Rattle.run.specs.Run.{Site}
 use Rattle.run.specs.Promises.{ledgerOf, siteWith}
-use Rattle.run.proofs.Standing.{standing, one-history-each, unretired-clear}
+use Rattle.run.proofs.LedgerPlaces.{standing, one-history-each, unretired-clear}
 use Rattle.run.proofs.Runs.{Together}
 use Rattle.run.proofs.Promises.{run, site-keeps}
 use Rattle.arrival.specs.Full.{InChain}

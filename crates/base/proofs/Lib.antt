@@ -9,10 +9,10 @@ pub mod TopPlace
 pub mod List
 pub mod Prints
 pub mod Members
-pub mod Those
-pub mod Passing
+pub mod Selection
+pub mod PassingBelow
 pub mod Bytes
 pub mod Parts
 pub mod Splice
 pub mod Number
-pub mod Word
+pub mod LowFirst

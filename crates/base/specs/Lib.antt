@@ -5,5 +5,5 @@ pub mod Mask
 pub mod List
 pub mod Bytes
 pub mod Number
-pub mod Word
+pub mod LowFirst
 pub mod Steps

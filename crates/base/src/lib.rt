@@ -7,7 +7,7 @@ ghost use lib.ListN.{length, replicate};
 ghost use Rattle.base.specs.Mask.{inMask};
 ghost use Rattle.base.specs.Bytes.{sameBytes, allZero, splice};
 ghost use Rattle.base.specs.Number.{number};
-ghost use Rattle.base.specs.Word.{wordSize, word, wordBytes};
+ghost use Rattle.base.specs.LowFirst.{wordSize, word, wordBytes};
 
 // The bytes of a 64-bit number.
 pub const WORD_SIZE: usize = 8;

@@ -22,10 +22,10 @@ use Rattle.block.specs.declared.Request.{Request}
 use Rattle.block.specs.declared.Fields.{Fields}
 use Rattle.block.specs.declared.Reading.the-variants.{Block}
 use Rattle.block.proofs.Lists.{references-length, references-at, requests-length, requests-at}
-use Rattle.block.proofs.Admissible.{good-request, request-good}
+use Rattle.block.proofs.RequestCheck.{good-request, request-good}
 use Rattle.block.proofs.Shape.{reference-list-length, request-list-length, references-counted, requests-counted}
 use Rattle.block.proofs.Encoding.{encode-content, encode-length, encode-references, encode-requests, references-held, requests-held}
-use Rattle.block.proofs.Accepted.{Accepted, accepted-reading, reading-accepted}
+use Rattle.block.proofs.Acceptance.{Accepted, accepted-reading, reading-accepted}
 
 -- ---- from a fitting content to bytes
 

@@ -1,11 +1,11 @@
 -- The laws of one slot's process, a file for each idea. Other crates' proofs cite them.
 pub mod Steps
-pub mod Again
-pub mod Kept
+pub mod FirstMessage
+pub mod Monotonicity
 pub mod Support
 pub mod Quorum
-pub mod Sound
-pub mod Settled
-pub mod Hears
+pub mod OriginInvariant
+pub mod ThresholdInvariant
+pub mod Hearing
 mod Ways
 pub mod Promises

@@ -24,7 +24,7 @@ use Rattle.block.proofs.Causes.{bad-means}
 use Rattle.table.specs.Layout.{setupOf, viewOf}
 use Rattle.table.specs.Form.{inForm}
 use Rattle.watch.specs.Promises.{Shares}
-use Rattle.watch.proofs.Shared.{forked-shares}
+use Rattle.watch.proofs.ForkTest.{forked-shares}
 use Rattle.build.specs.Building.{maxSequence, nextSequence, wellListed, buildingChecks, buildingFrom}
 use Rattle.build.specs.Promises.{BySite, Listed, BadRequest, Asked, answer, needed, Able, Ended, Lasting}
 use Rattle.build.proofs.Sequence.{greatest-own, greatest-before, next-above, some-greatest}

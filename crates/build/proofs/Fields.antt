@@ -11,9 +11,9 @@ use Rattle.block.proofs.Encoding.{encode-references, references-held}
 use Rattle.table.specs.View.{View}
 use Rattle.table.specs.Layout.{digestAt, viewOf}
 use Rattle.table.specs.Form.{inForm}
-use Rattle.table.proofs.Formed.{formed-of}
+use Rattle.table.proofs.InForm.{formed-of}
 use Rattle.build.specs.Building.{nextSequence, picked, nextContent, nextBlock}
-use Rattle.build.proofs.Fits.{reference-size}
+use Rattle.build.proofs.NextContent.{reference-size}
 
 module _ (seen : ℕ → Bool) (v : View) (p : ℕ) (requests : Bytes) where
   pub next-site : siteOf (nextBlock seen v p requests) ≡ p

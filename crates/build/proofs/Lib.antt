@@ -3,15 +3,15 @@
 -- gathers them. Referred, Digests, Putting and References are about the code that picks, Written about the code that writes.
 pub mod Greatest
 pub mod Sequence
-pub mod Picked
+pub mod PickedPlaces
 pub mod Digests
-pub mod Fits
+pub mod NextContent
 pub mod Fields
-pub mod Shown
+pub mod ReadBack
 pub mod Causes
-pub mod Admissible
+pub mod Admission
 pub mod Promises
-pub mod Referred
+pub mod ReferredMask
 pub mod Putting
 pub mod References
-pub mod Written
+pub mod NextBytes

@@ -10,9 +10,9 @@ use Rattle.base.proofs.Splice.{splice-part-in, drop-splice}
 use Rattle.table.specs.Layout.{viewOf}
 use Rattle.build.specs.Building.{nextBlock, builtFrom}
 use Rattle.build.specs.Promises.{Admissible, answer, after, Promised}
-use Rattle.build.proofs.Fits.{next-reads}
+use Rattle.build.proofs.NextContent.{next-reads}
 use Rattle.build.proofs.Causes.{two, four, three, six, first-bad, sixteen, thirty, seventeen, none, value, no-value}
-use Rattle.build.proofs.Admissible.{next-admissible}
+use Rattle.build.proofs.Admission.{next-admissible}
 
 module _ (seen : ℕ → Bool) (t : Bytes) (p : ℕ) (requests output : Bytes) (done : answer seen t p requests output .refusal ≡ 0) where
   abbrev block : Bytes

@@ -9,7 +9,7 @@ use lib.ListN.{length}
 use Rattle.base.specs.List.{passing}
 use Rattle.base.specs.Bytes.{Bytes}
 use Rattle.base.proofs.Members.{at-member}
-use Rattle.base.proofs.Passing.{passing-here, passing-past, passing-from}
+use Rattle.base.proofs.PassingBelow.{passing-here, passing-past, passing-from}
 use Rattle.table.specs.View.{maxPlaces}
 use Rattle.table.specs.Layout.{tableSize}
 use Rattle.build.specs.Steps.{Room, fitting, putDigests}

@@ -11,10 +11,10 @@ use Rattle.base.specs.Mask.{inMask}
 use Rattle.base.specs.Bytes.{Bytes, splice}
 use Rattle.base.proofs.Tests.{true-not-false}
 use Rattle.base.proofs.Search.{first-passes, first-before}
-use Rattle.base.proofs.Passing.{passing-none, passing-one}
+use Rattle.base.proofs.PassingBelow.{passing-none, passing-one}
 use Rattle.table.specs.Layout.{countOf, viewOf}
 use Rattle.watch.specs.Promises.{Shares}
-use Rattle.watch.proofs.Shared.{forked-shares}
+use Rattle.watch.proofs.ForkTest.{forked-shares}
 use Rattle.build.specs.Building.{isGreatest, picked}
 use Rattle.build.specs.Steps.{Ready, Room, othersIn, fitting, digestsOf, putDigests}
 use Rattle.build.proofs.Sequence.{greatest-only}

@@ -1,12 +1,12 @@
 -- The laws of arrivals: of passes and their tries, then what is promised of a call.
 pub mod Inductions
 pub mod Tries
-pub mod Kept
-pub mod Last
-pub mod Apart
-pub mod Nines
+pub mod PassInvariants
+pub mod LastPass
+pub mod OwnPasses
+pub mod MissingReference
 pub mod Ways
 pub mod Causes
 pub mod Promises
-mod Left
-mod Going
+mod Turns
+mod LoopInvariants

@@ -11,7 +11,7 @@ use borrow.Author.Tests.{eqb-true, eqb-false, eq-eqb, ne-eqb}
 use Rattle.base.specs.Bytes.{Bytes, sameBytes}
 use Rattle.base.specs.List.{countIn, thoseIn}
 use Rattle.base.proofs.Tests.{by-test, true-not-false}
-use Rattle.base.proofs.Those.{count-in-append, those-append}
+use Rattle.base.proofs.Selection.{count-in-append, those-append}
 use Rattle.sha256.specs.Sha256.{sha256}
 use Rattle.sha256.proofs.Promises.{sha256-length}
 use Rattle.block.specs.Limits.{referenceSize}
@@ -19,19 +19,19 @@ use Rattle.shelf.specs.Layout.{Waiting, waitingIn, shelfBytes}
 use Rattle.shelf.specs.Rules.{reserved, maxShare, isFor, holds, hasPlace, isSame, waits}
 use Rattle.shelf.specs.Form.{inForm}
 use Rattle.shelf.specs.Steps.{AllFit}
-use Rattle.shelf.proofs.Formed.{Ruled, of-ruled, formed-of, formed-bytes}
-use Rattle.shelf.proofs.Ruled.{fair-of, ruled-with, place-for-two}
-use Rattle.shelf.proofs.Laid.{fit-append, waiting-laid}
+use Rattle.shelf.proofs.InForm.{Ruled, of-ruled, formed-of, formed-bytes}
+use Rattle.shelf.proofs.Rules.{fair-of, ruled-with, place-for-two}
+use Rattle.shelf.proofs.Layout.{fit-append, waiting-laid}
 use Rattle.table.specs.Form as table
 use Rattle.admission.specs.Admission.{admission, admitted}
-use Rattle.admission.proofs.Kept.{kept}
+use Rattle.admission.proofs.Effect.{kept}
 use Rattle.campaigns.specs.Passes.{Try, Passed, outcomesOf}
 use Rattle.campaigns.specs.Arriving.{Called, behind, listed, shelved, arrived}
 use Rattle.campaigns.specs.Promises.{only, timesWaiting, timesEnded, TriedFrom, Tested, WouldGet9, CallKeeps, Promises}
 use Rattle.campaigns.proofs.Tries.{tried-keeps}
-use Rattle.campaigns.proofs.Nines.{nine-accepted, nine-short}
-use Rattle.campaigns.proofs.Kept.{settled-ruled, settled-fit, settled-places, settled-accounted, settled-others, settled-tried}
-use Rattle.campaigns.proofs.Last.{Still, settled-still}
+use Rattle.campaigns.proofs.MissingReference.{nine-accepted, nine-short}
+use Rattle.campaigns.proofs.PassInvariants.{settled-ruled, settled-fit, settled-places, settled-accounted, settled-others, settled-tried}
+use Rattle.campaigns.proofs.LastPass.{Still, settled-still}
 use Rattle.campaigns.proofs.Ways.{passed, all, at20, at19, at9, at0, at-other, by-way, admission-elsewhere}
 use Rattle.campaigns.proofs.Causes.{causes}
 

@@ -16,7 +16,7 @@ use Rattle.answer.proofs.Checks.{number-of, never-answered}
 use Rattle.shelf.specs.Layout.{Waiting, waitingIn, shelfBytes}
 use Rattle.shelf.specs.Rules.{maxCampaign, hasPlace, waits}
 use Rattle.shelf.specs.Form.{inForm}
-use Rattle.shelf.proofs.Formed.{formed-of}
+use Rattle.shelf.proofs.InForm.{formed-of}
 use Rattle.table.specs.Layout.{setupOf, countOf, viewOf}
 use Rattle.table.specs.Form as table
 use Rattle.admission.specs.Admission.{admission, admitted}

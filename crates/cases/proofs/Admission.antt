@@ -6,8 +6,8 @@ use Rattle.cases.specs.Toy.{toy}
 use Rattle.cases.specs.Run.{good, tableAfter, answers}
 use Rattle.cases.specs.Blocks.{sites, fresh, unlawful, numbered, holding}
 use Rattle.cases.specs.Admission.{OrderCases, RowCases, ValueCases}
-use Rattle.cases.proofs.Told.{site-answers}
-use Rattle.cases.proofs.Opened.{openedLedger, openedTable}
+use Rattle.cases.proofs.LedgerRun.{site-answers}
+use Rattle.cases.proofs.Computing.{openedLedger, openedTable}
 use Rattle.cases.proofs.Full.{parent-before-full}
 
 -- a table of three sites, which no ledger has

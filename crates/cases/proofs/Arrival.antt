@@ -18,7 +18,7 @@ use Rattle.history.specs.Ancestry.{historyOf}
 use Rattle.history.specs.Forks.{forked}
 use Rattle.run.specs.Ledger.{Call, Ledger, empty}
 use Rattle.run.specs.Promises.{deliveredEntry}
-use Rattle.agreement.proofs.Theorem.{promised}
+use Rattle.agreement.proofs.TwoSites.{promised}
 use Rattle.arrival.specs.Full.{Full}
 use Rattle.arrival.specs.Arrival.{AllInterpreted, entryIn, Premises, Arrival}
 use Rattle.arrival.proofs.Theorem.{arrival}
@@ -27,10 +27,10 @@ use Rattle.cases.specs.Run.{zeros, callsOf, answersOf, Step, arriving}
 use Rattle.cases.specs.Blocks.{sites, threeSites, fourSites, echoing, readying}
 use Rattle.cases.specs.Arrival.{echoingBeside, readyingBeside, echoingAfter, readyingAfter, twoSites, AllButTwo, ledger, site, Run, NothingDelivered, Arrives, OneSiteFewer, LastNotFull, ArrivalCases}
 use Rattle.cases.proofs.Toy.{toyDigest}
-use Rattle.cases.proofs.Told.{told, ledgerFrom, ledger-left, allMarked, marked-held, marked-interpreted, madeBy, arriving-unretired, campaign}
-use Rattle.cases.proofs.Opened.{openedLedger}
+use Rattle.cases.proofs.LedgerRun.{told, ledgerFrom, ledger-left, allMarked, marked-held, marked-interpreted, madeBy, arriving-unretired, campaign}
+use Rattle.cases.proofs.Computing.{openedLedger}
 use Rattle.cases.proofs.Premises.{lawful-setup}
-use Rattle.cases.proofs.Covered.{holds, heldBy, refersTo, near, chainRefers, covers, uncovered, fullSite, is-full, earlierRequest, firstRequest, is-first, each, at-each, inRounds, rounds, misses, not-full}
+use Rattle.cases.proofs.ArrivalPremises.{holds, heldBy, refersTo, near, chainRefers, covers, uncovered, fullSite, is-full, earlierRequest, firstRequest, is-first, each, at-each, inRounds, rounds, misses, not-full}
 
 -- ---- the premises but two
 

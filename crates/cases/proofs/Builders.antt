@@ -35,10 +35,10 @@ use Rattle.cases.specs.Blocks.{sites, first}
 use Rattle.cases.specs.Building.{room}
 use Rattle.cases.specs.Builders.{builtTooEarly, firstBuilt, nextBuilt, ownTurns, otherTurns, builtLate, lateTurns, BuilderCases}
 use Rattle.cases.proofs.Toy.{toyDigest}
-use Rattle.cases.proofs.Told.{session, ledgerFrom, ledger-left}
-use Rattle.cases.proofs.Opened.{openedLedger, openedWatch}
+use Rattle.cases.proofs.LedgerRun.{session, ledgerFrom, ledger-left}
+use Rattle.cases.proofs.Computing.{openedLedger, openedWatch}
 use Rattle.cases.proofs.Premises.{collision, no-collision, lawful-setup}
-use Rattle.cases.proofs.Covered.{holds, is-held, refersTo, near, misses, not-full}
+use Rattle.cases.proofs.ArrivalPremises.{holds, is-held, refersTo, near, misses, not-full}
 
 -- ---- building
 

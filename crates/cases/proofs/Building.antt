@@ -1,7 +1,7 @@
 -- What sites build from small tables, and the order of the checks, by computing. Assumes nothing.
 use mathlib.Core.Path.{refl}
 use Rattle.cases.specs.Building.{returnedRow, returned, BuildingOrderCases, BuildingCases}
-use Rattle.cases.proofs.Opened.{openedWatch}
+use Rattle.cases.proofs.Computing.{openedWatch}
 
 pub order : BuildingOrderCases
 unfolding openedWatch

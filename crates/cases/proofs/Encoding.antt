@@ -1,6 +1,6 @@
 -- What calls a list of bytes is, by computing. Assumes nothing.
 use mathlib.Core.Path.{refl}
-use Rattle.base.specs.Word.{word}
+use Rattle.base.specs.LowFirst.{word}
 use Rattle.run.specs.Encoding.{firstSize, firstCall, firstCalls, callsIn}
 use Rattle.cases.specs.Encoding.{EncodingCases}
 

@@ -1,7 +1,7 @@
 -- The tables in form and out of it, by computing. Assumes nothing.
 use mathlib.Core.Path.{refl}
 use Rattle.cases.specs.Form.{FormCases}
-use Rattle.cases.proofs.Opened.{openedTable}
+use Rattle.cases.proofs.Computing.{openedTable}
 
 pub form : FormCases
 unfolding openedTable

@@ -15,7 +15,7 @@ use Rattle.cases.specs.Toy.{toy, block}
 use Rattle.cases.specs.Run.{good, placed, answers}
 use Rattle.cases.specs.Blocks.{numbered, holding}
 use Rattle.cases.proofs.Toy.{toyDigest}
-use Rattle.cases.proofs.Opened.{openedTable}
+use Rattle.cases.proofs.Computing.{openedTable}
 
 -- the answer of an admission at a table in form, and the table that it leaves
 unfoldable pub answerAt : Bytes → Bytes → Answer

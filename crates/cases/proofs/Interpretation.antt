@@ -2,8 +2,8 @@
 use mathlib.Core.Path.{refl}
 use Rattle.cases.specs.Blocks.{sites}
 use Rattle.cases.specs.Interpretation.{InterpretationOrderCases, InterpretationValueCases}
-use Rattle.cases.proofs.Opened.{openedLedger, openedTable}
-use Rattle.cases.proofs.Told.{session}
+use Rattle.cases.proofs.Computing.{openedLedger, openedTable}
+use Rattle.cases.proofs.LedgerRun.{session}
 
 pub order : InterpretationOrderCases
 unfolding openedLedger openedTable

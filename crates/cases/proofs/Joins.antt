@@ -20,7 +20,7 @@ use Rattle.cases.specs.Blocks.{fresh, stranger, numbered, four, holding}
 use Rattle.cases.specs.Form.{changed}
 use Rattle.cases.specs.Arrivals.{tableOf}
 use Rattle.cases.specs.Joins.{joining, unformed, otherOwner, twin, otherSite, closing, leftTable, rightTable, rising, leftRecords, rightRecords, thirdBuffer, tableFrom, bufferFrom, result, resultRecords, admittedResult, admittedExchanged, resultParts, exchangedParts, Stays, JoinOrderCases, JoinSetupCases, ClashCases, JoinFullCases, HandedBackCases, ResultCases, ResultPartCases, ReachedCases, leftSite, rightSite}
-use Rattle.cases.proofs.Opened.{openedLedger, openedTable}
+use Rattle.cases.proofs.Computing.{openedLedger, openedTable}
 use Rattle.cases.proofs.Full.{formed, full-formed}
 
 -- what joining is computed by

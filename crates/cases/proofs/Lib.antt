@@ -1,7 +1,7 @@
 -- The cases hold. Told is how most of them are computed.
 pub mod Toy
-pub mod Told
-pub mod Opened
+pub mod LedgerRun
+pub mod Computing
 pub mod TableBytes
 pub mod Form
 pub mod Full
@@ -16,7 +16,7 @@ pub mod Messages
 pub mod Process
 pub mod Records
 pub mod Premises
-mod Covered
+mod ArrivalPremises
 pub mod Arrival
 pub mod Builders
 pub mod Shelf

@@ -9,7 +9,7 @@ use Rattle.report.specs.Text.{ascii, digits, decimal, fieldText, ending, line, 
 use Rattle.report.specs.Arrivals.{firstArrival, arrivals, arrivalsIn}
 use Rattle.report.specs.Listing.{deliveryLines, siteArrived, arrivalRefusal, arrivalLines, listingFrom, listing}
 use Rattle.cases.specs.Listing.{sayingReady, before, ListingCases}
-use Rattle.cases.proofs.Opened.{openedLedger, openedWatch}
+use Rattle.cases.proofs.Computing.{openedLedger, openedWatch}
 
 unfoldable openedListing : Bool
 unfolding openedLedger openedWatch ascii digits decimal fieldText ending line names refusalLine deliveryLine deliveryText firstArrival arrivals arrivalsIn deliveryLines

@@ -1,7 +1,7 @@
 -- The rows of single messages hold. Assumes nothing.
 use mathlib.Core.Path.{refl}
 use Rattle.cases.specs.Messages.{MessageCases}
-use Rattle.cases.proofs.Opened.{openedLedger}
+use Rattle.cases.proofs.Computing.{openedLedger}
 
 pub messages : MessageCases
 unfolding openedLedger

@@ -14,15 +14,15 @@ use Rattle.records.specs.Layout.{flatten, numbersOf}
 use Rattle.history.specs.History.{meaning}
 use Rattle.history.specs.Forks.{forked, NoCollision}
 use Rattle.run.specs.Ledger.{Ledger, empty}
-use Rattle.agreement.specs.Promises.{Promised}
-use Rattle.agreement.proofs.Theorem.{promised}
+use Rattle.agreement.specs.TwoSites.{Promised}
+use Rattle.agreement.proofs.TwoSites.{promised}
 use Rattle.cases.specs.Toy.{toy}
 use Rattle.cases.specs.Run.{callsOf, answersOf}
 use Rattle.cases.specs.Blocks.{sites}
 use Rattle.cases.specs.Premises.{firstTurns, secondTurns, firstBuffer, secondBuffer, firstLedger, secondLedger, Met, ForkedCases, PremiseCases}
 use Rattle.cases.proofs.Toy.{toyDigest}
-use Rattle.cases.proofs.Told.{told, ledgerFrom, whole, answers-told, ledger-told}
-use Rattle.cases.proofs.Opened.{openedLedger}
+use Rattle.cases.proofs.LedgerRun.{told, ledgerFrom, whole, answers-told, ledger-told}
+use Rattle.cases.proofs.Computing.{openedLedger}
 
 -- ---- a test of all pairs shows that no two different blocks share a digest
 

@@ -4,8 +4,8 @@ use native.Mathlib.Omega.{arith}
 use Rattle.cases.specs.Blocks.{sites}
 use Rattle.cases.specs.Traps.{sharedOut}
 use Rattle.cases.specs.Process.{silent, asksLater, hearsLater, branching, branchingOn, readyOfTwo, echoesOfOthers, threeReadiesTwoEchoes, readyOfOne, otherOfOne, otherOfTwo, afterThird, otherReadyingThree, afterReadyingThree, onFirst, onAll, afterReadying, inOwnSlot, aside, ProcessCases}
-use Rattle.cases.proofs.Opened.{openedLedger}
-use Rattle.cases.proofs.Told.{campaign}
+use Rattle.cases.proofs.Computing.{openedLedger}
+use Rattle.cases.proofs.LedgerRun.{campaign}
 
 pub process : ProcessCases
 unfolding openedLedger silent asksLater hearsLater branching branchingOn readyOfTwo echoesOfOthers threeReadiesTwoEchoes readyOfOne otherOfOne otherOfTwo afterThird

@@ -16,8 +16,8 @@ use Rattle.cases.specs.Run.{zeros, Step, callsOf, answersOf, arriving}
 use Rattle.cases.specs.Blocks.{sites}
 use Rattle.cases.specs.Traps.{sharedOut}
 use Rattle.cases.specs.Records.{Numbers, chain, hearsAll, mixed, inSlotFive, RecordCases}
-use Rattle.cases.proofs.Opened.{openedLedger}
-use Rattle.cases.proofs.Told.{told, ledgerFrom, allMarked, marked-interpreted, whole, arriving-unretired, unretired-told, numbers-told}
+use Rattle.cases.proofs.Computing.{openedLedger}
+use Rattle.cases.proofs.LedgerRun.{told, ledgerFrom, allMarked, marked-interpreted, whole, arriving-unretired, unretired-told, numbers-told}
 
 -- computed in three: the answers, the marks, and the numbers of the block's meaning
 numbers : (s : Setup) (steps : List Step) (place slot : ℕ) (ns : List ℕ) → lawful s ≡ true → slot < slotCount → place < length steps

@@ -22,7 +22,7 @@ use Rattle.history.specs.History.{slotRecord}
 use Rattle.history.specs.Forks.{forked, NoCollision}
 use Rattle.run.specs.Ledger.{Ledger, empty, viewIn}
 use Rattle.run.specs.Promises.{RetiredClear, historyAt}
-use Rattle.agreement.proofs.Theorem.{promised}
+use Rattle.agreement.proofs.TwoSites.{promised}
 use Rattle.cases.specs.Toy.{toy}
 use Rattle.cases.specs.Run.{Turn, callsOf, answersOf, ledgerLeft, siteLeft, zeros}
 use Rattle.cases.specs.Blocks.{sites, fork, four}
@@ -31,8 +31,8 @@ use Rattle.cases.specs.Arrivals.{tableOf}
 use Rattle.cases.specs.Joins.{rising}
 use Rattle.cases.specs.Retiring.{RetiringOrderCases, afterFork, RetirableCases, lastOne, threeMarked, pairOf, rowsLeft, numbers, twins, LeftCases, afterwards, AfterwardsCases, forkRetired, ForkRetiredCases, inRound, makes, roundOf, rounds, GoingOnCases}
 use Rattle.cases.proofs.Toy.{toyDigest}
-use Rattle.cases.proofs.Opened.{openedLedger, openedWatch}
-use Rattle.cases.proofs.Told.{told, session, ledgerFrom, ledger-left, allMarked, marked-interpreted, whole, record-told}
+use Rattle.cases.proofs.Computing.{openedLedger, openedWatch}
+use Rattle.cases.proofs.LedgerRun.{told, session, ledgerFrom, ledger-left, allMarked, marked-interpreted, whole, record-told}
 use Rattle.cases.proofs.Premises.{lawful-setup, collision, no-collision}
 
 -- what retiring is computed by

@@ -7,7 +7,7 @@ use Rattle.shelf.specs.Layout.{waitingIn, entryBytes, shelfBytes}
 use Rattle.shelf.specs.Rules.{holds, hasPlace, waits, eachSound, shared, rulesHold}
 use Rattle.shelf.specs.Form.{inForm}
 use Rattle.cases.specs.Shelf.{lacking, longest, sharing, threeWaiting, ofThree, LimitCases, PlaceCases, SameBytesCases, ShelfBytesCases, ShelfFormCases}
-use Rattle.cases.proofs.Opened.{openedTable}
+use Rattle.cases.proofs.Computing.{openedTable}
 
 -- what the rules of the shelf and its form are computed by
 unfoldable pub openedShelf : Bool

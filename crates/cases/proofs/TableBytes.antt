@@ -5,7 +5,7 @@ use lib.ListN.{replicate}
 use Rattle.base.proofs.Bytes.{same-equal}
 use Rattle.table.specs.Layout.{layout}
 use Rattle.cases.specs.TableBytes.{sevenOwners, rowOf, rowWritten, TableBytesCases}
-use Rattle.cases.proofs.Opened.{openedTable}
+use Rattle.cases.proofs.Computing.{openedTable}
 
 table-written : layout sevenOwners (record { retired = 1; held = 2; row = rowOf })
     ≡ 7 ∷ 6 ∷ 5 ∷ 4 ∷ 3 ∷ 2 ∷ 1 ∷ 0 ∷ 6 ∷ 1 ∷ 2 ∷ (rowWritten 5 0 ++ (rowWritten 6 1 ++ replicate 3720 0))

@@ -20,7 +20,7 @@ use Rattle.history.specs.Forks.{forked, NoCollision}
 use Rattle.run.specs.Ledger.{Ledger}
 use Rattle.run.specs.Ledger.Call.{takeBack}
 use Rattle.run.specs.Promises.{Interpreted}
-use Rattle.agreement.proofs.Theorem.{promised}
+use Rattle.agreement.proofs.TwoSites.{promised}
 use Rattle.cases.specs.Toy.{toy}
 use Rattle.cases.specs.Run.{tableAfter, callsOf, answersOf, ledgerLeft, siteLeft, zeros, echoes}
 use Rattle.cases.specs.Blocks.{sites, fresh, numbered, holding}
@@ -29,8 +29,8 @@ use Rattle.cases.specs.Arrivals.{tableOf, chain}
 use Rattle.cases.specs.Retiring.{afterFork, forkRetired}
 use Rattle.cases.specs.TakingBack.{fourMarked, TakingBackOrderCases, three, twinOf, twinsHeld, BeforeCases, LetInCases, takenBackTurns, forkTakenBack, forkHeld, againTakenBack, CountedCases, alike, alikeTakenBack, alikeUnknown, SharedDigestCases}
 use Rattle.cases.proofs.Toy.{toyDigest}
-use Rattle.cases.proofs.Opened.{openedLedger, openedWatch}
-use Rattle.cases.proofs.Told.{session, ledgerFrom, ledger-left, whole, record-told, unretired-told}
+use Rattle.cases.proofs.Computing.{openedLedger, openedWatch}
+use Rattle.cases.proofs.LedgerRun.{session, ledgerFrom, ledger-left, whole, record-told, unretired-told}
 use Rattle.cases.proofs.Premises.{lawful-setup, collision, no-collision}
 use Rattle.cases.proofs.Full.{last-placed, last-leaves}
 use Rattle.cases.proofs.Arrivals.{passing}

@@ -1,7 +1,7 @@
 -- What the watch says of small tables, by computing. Assumes nothing.
 use mathlib.Core.Path.{refl}
 use Rattle.cases.specs.Watch.{twoOf, fourInRow, WatchCases}
-use Rattle.cases.proofs.Opened.{openedWatch}
+use Rattle.cases.proofs.Computing.{openedWatch}
 
 pub watch : WatchCases
 unfolding openedWatch twoOf fourInRow

@@ -5,7 +5,7 @@ use mathlib.Core.List.{[], _∷_, _++_}
 use Prim.Native.Nat.{ℕ, _+_, _-_, _^_}
 use lib.ListN.{take}
 use Rattle.base.specs.Bytes.{Bytes, splice}
-use Rattle.base.specs.Word.{wordSize, wordBytes}
+use Rattle.base.specs.LowFirst.{wordSize, wordBytes}
 use Rattle.table.specs.Layout.{ownersOffset, retiredOffset, countOffset, siteOffset, sequenceOffset, referencesOffset, markOffset, rowStart, tableSize, digestAt}
 use Rattle.table.specs.Form.{inForm}
 use Rattle.cases.specs.Blocks.{fresh, four, holding}

@@ -1,5 +1,5 @@
 -- A run of all campaigns, seen by one of them: an arrival of it alone, one call, and every list of calls. Then an arrival that is taken back.
-pub mod Own
+pub mod OwnArrival
 pub mod Steps
 pub mod Runs
 pub mod Undoing

@@ -14,13 +14,13 @@ use Rattle.block.specs.Limits.{referenceSize}
 use Rattle.shelf.specs.Layout.{Waiting, waitingIn}
 use Rattle.shelf.specs.Rules.{maxCampaign}
 use Rattle.shelf.specs.Form.{inForm, emptyShelf}
-use Rattle.shelf.proofs.Formed.{of-ruled, formed-bytes}
-use Rattle.shelf.proofs.Ruled.{ruled-empty}
-use Rattle.shelf.proofs.Laid.{empty-laid, waiting-laid}
+use Rattle.shelf.proofs.InForm.{of-ruled, formed-bytes}
+use Rattle.shelf.proofs.Rules.{ruled-empty}
+use Rattle.shelf.proofs.Layout.{empty-laid, waiting-laid}
 use Rattle.campaigns.specs.Promises.{only, timesWaiting}
 use Rattle.run.specs.Run.{started}
 use Rattle.run.specs.Promises.{siteWith}
-use Rattle.agreement.proofs.Theorem.{theorem}
+use Rattle.agreement.proofs.TwoSites.{theorem}
 use Rattle.arrival.proofs.Theorem as arrival
 use Rattle.controller.specs.Run.{ControllerCall, OwnCall, Alone, Controller, emptyStart, after, ownRun, aloneAfter, aloneReplies}
 use Rattle.controller.specs.Promises.{begin, plainCalls, RunKeeps, Independent, CampaignKeeps, ArrivalUndone}

@@ -11,7 +11,7 @@ use borrow.Author.Tests.{eqb-true, eqb-false}
 use Rattle.base.specs.Bytes.{Bytes, sameBytes}
 use Rattle.base.specs.List.{countIn}
 use Rattle.base.proofs.Tests.{by-test}
-use Rattle.base.proofs.Those.{count-in-append}
+use Rattle.base.proofs.Selection.{count-in-append}
 use Rattle.block.specs.Limits.{referenceSize}
 use Rattle.shelf.specs.Layout.{Waiting, waitingIn}
 use Rattle.shelf.specs.Rules.{maxCampaign}

@@ -12,7 +12,7 @@ use borrow.Author.Tests.{eqb-true, eqb-false, eq-eqb, ne-eqb, leb-true, leb-fals
 use Rattle.base.specs.Bytes.{Bytes, sameBytes}
 use Rattle.base.specs.List.{countIn}
 use Rattle.base.proofs.Tests.{by-test}
-use Rattle.base.proofs.Those.{count-in-those}
+use Rattle.base.proofs.Selection.{count-in-those}
 use Rattle.answer.proofs.Checks.{number-of}
 use Rattle.answer.specs.declared.Answer.{Answer}
 use Rattle.answer.specs.Checks.{answerTo, refused}
@@ -21,7 +21,7 @@ use Rattle.shelf.specs.Layout.{Waiting, waitingIn}
 use Rattle.shelf.specs.Rules.{maxCampaign, isFor, hasPlace}
 use Rattle.shelf.specs.Form.{inForm}
 use Rattle.admission.specs.Admission.{admission, admitted}
-use Rattle.admission.proofs.Kept.{refused-table}
+use Rattle.admission.proofs.Effect.{refused-table}
 use Rattle.campaigns.specs.Passes.{Try, outcomesOf}
 use Rattle.campaigns.specs.Arriving.{Arrived, Called, outcomesSize, unchanged, arrived}
 use Rattle.campaigns.specs.Promises.{only, timesWaiting, timesEnded, TriedFrom, Tested, CallKeeps}
@@ -30,7 +30,7 @@ use Rattle.campaigns.proofs.Promises.{call-keeps, called-waiting}
 use Rattle.run.specs.Ledger.{admit}
 use Rattle.run.specs.Run.{Site, siteStep, siteAfter}
 use Rattle.controller.specs.Run.{CampaignCall, arrives, made, isTaken, Controller, Alone, arrivalAt, replyTo, step, triesBy, takenBy, plainBy, aloneArrived, aloneReply, aloneStep}
-use Rattle.controller.proofs.Own.{seenBy, arrived-only}
+use Rattle.controller.proofs.OwnArrival.{seenBy, arrived-only}
 
 -- tries as plain calls
 tries-plain : (digest : Bytes → Bytes) (records : List ℕ) (ys : List Try) (t t′ : Bytes) → TriedFrom digest t ys t′

@@ -15,7 +15,7 @@ use Rattle.take_back.specs.Promises.{UndoneBy}
 use Rattle.run.specs.Ledger.{Call, takeBack}
 use Rattle.run.specs.Run.{siteAfter}
 use Rattle.run.specs.Promises.{siteWith}
-use Rattle.agreement.specs.Promises.{Promised}
+use Rattle.agreement.specs.TwoSites.{Promised}
 use Rattle.arrival.specs.Arrival.{Arrival}
 use Rattle.controller.specs.Run.{ControllerCall, made, Controller, Alone, emptyStart, arrivalAt, step, after, replies, outcomes, tries, taken, plainRun, ownRun, aloneAfter, aloneReplies}
 

@@ -15,7 +15,7 @@ use Rattle.broadcast.specs.declared.SlotRecord.{SlotRecord}
 use Rattle.broadcast.specs.Process.{support}
 use Rattle.broadcast.proofs.Steps.{Entry, entryOf}
 use Rattle.broadcast.proofs.Steps.Entry.{echoEntry}
-use Rattle.broadcast.proofs.Kept.{Kept, kept-same, kept-both}
+use Rattle.broadcast.proofs.Monotonicity.{Kept, kept-same, kept-both}
 use Rattle.broadcast.proofs.Quorum.{supporters-meet}
 use Rattle.history.specs.History.{History, node, blockOf, children, isParentOf, Ancestor, direct, further, slotRecord}
 use Rattle.history.proofs.Histories.{AncestorOrSelf, parent-site, parent-sequence, parent-cases}

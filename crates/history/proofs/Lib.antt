@@ -7,4 +7,4 @@ pub mod Agreement
 pub mod Admissions
 pub mod Ancestry
 pub mod Forks
-pub mod Worlds
+pub mod Collections

@@ -13,9 +13,9 @@ use Rattle.broadcast.specs.declared.SlotRecord.{SlotRecord}
 use Rattle.broadcast.specs.Record.{nothingMade}
 use Rattle.broadcast.specs.Process.{madeOf}
 use Rattle.broadcast.proofs.Steps.{Entry, entryOf, Sized}
-use Rattle.broadcast.proofs.Kept.{Kept, MadeOnce}
-use Rattle.broadcast.proofs.Hears.{Heard}
-use Rattle.broadcast.proofs.Settled.{Settled}
+use Rattle.broadcast.proofs.Monotonicity.{Kept, MadeOnce}
+use Rattle.broadcast.proofs.Hearing.{Heard}
+use Rattle.broadcast.proofs.ThresholdInvariant.{Settled}
 use Rattle.interpret.specs.Slot.{Direct, parentState}
 use Rattle.interpret.proofs.Order.{interpretSlot-sized}
 use Rattle.interpret.proofs.Records.{none-made, interpretSlot-kept, interpretSlot-once, interpretSlot-made, interpretSlot-sends, interpretSlot-heard, interpretSlot-settled}

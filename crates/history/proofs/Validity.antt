@@ -18,7 +18,7 @@ use Rattle.broadcast.specs.Process.{madeOf, support}
 use Rattle.broadcast.proofs.Steps.{entryOf, entryOfKind, made-entry}
 use Rattle.broadcast.proofs.Steps.Entry.{sendEntry, echoEntry, readyEntry, deliveryEntry}
 use Rattle.broadcast.proofs.Support.{supporter}
-use Rattle.broadcast.proofs.Sound.{Sound, blank-sound, nothingMade-sound, request-sound, receiveAll-sound, sound-more}
+use Rattle.broadcast.proofs.OriginInvariant.{Sound, blank-sound, nothingMade-sound, request-sound, receiveAll-sound, sound-more}
 use Rattle.interpret.specs.Slot.{parentState, messages, interpretSlot}
 use Rattle.history.specs.History.{History, Histories, node, blockOf, listOf, children, isParentOf, Ancestor, direct, further, slotRecord, directs}
 use Rattle.history.proofs.Histories.{child-ind, ancestor-ind, ancestor-trans, AncestorOrSelf, orSelf-trans, Lineage, here, older, lineage-orSelf, message-from, parent-cases}

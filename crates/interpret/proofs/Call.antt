@@ -19,7 +19,7 @@ use Rattle.table.specs.Rules.{refersUninterpreted}
 use Rattle.table.specs.Form.{inForm}
 use Rattle.table.specs.Steps.{rowOf}
 use Rattle.table.proofs.Views.{row-form}
-use Rattle.table.proofs.Formed.{formed-of}
+use Rattle.table.proofs.InForm.{formed-of}
 use Rattle.records.specs.Layout.{bufferSize, partStart}
 use Rattle.interpret.specs.Interpretation.{written, interpretation, marked, recorded}
 use Rattle.interpret.specs.Steps.{Ready}

@@ -1,5 +1,5 @@
 -- The laws of interpretation, a file for each idea. Other crates' proofs cite them.
-pub mod Rising
+pub mod RisingLists
 pub mod Messages
 pub mod Order
 pub mod Lowest
@@ -8,7 +8,7 @@ mod Turns
 mod Places
 pub mod FirstChecks
 pub mod Causes
-pub mod Kept
-pub mod Directs
+pub mod Effect
+pub mod Relocation
 mod Call
 pub mod Promises

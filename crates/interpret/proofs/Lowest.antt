@@ -10,7 +10,7 @@ use Rattle.broadcast.specs.declared.Kind.{Kind}
 use Rattle.broadcast.specs.declared.SlotRecord.{SlotRecord}
 use Rattle.broadcast.specs.Process.{message, madeOf, received, receiveAll}
 use Rattle.broadcast.proofs.Steps.{Sized, receiveAll-append, receiveAll-sized}
-use Rattle.broadcast.proofs.Again.{first, only-first}
+use Rattle.broadcast.proofs.FirstMessage.{first, only-first}
 use Rattle.interpret.specs.Slot.{Direct, insert, insertIf, numbers, messagesOf}
 use Rattle.interpret.specs.Steps.{leastOf, lowest}
 use Rattle.interpret.proofs.Messages.{numbers-from}

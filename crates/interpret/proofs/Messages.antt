@@ -12,7 +12,7 @@ use Rattle.broadcast.specs.declared.Kind.{Kind}
 use Rattle.broadcast.specs.declared.Kind.the-variants.{Send, Echo, Ready}
 use Rattle.broadcast.specs.Process.{Message, message, madeOf}
 use Rattle.interpret.specs.Slot.{Direct, insertIf, numbers, messagesOf, messages}
-use Rattle.interpret.proofs.Rising.{insert-from, insert-new, insert-old, Rising, insert-rising}
+use Rattle.interpret.proofs.RisingLists.{insert-from, insert-new, insert-old, Rising, insert-rising}
 
 -- what a number has behind it: one of the blocks made it
 pub record MadeBy (ds : List Direct) (k : Kind) (p v : ℕ) : Type 0 where

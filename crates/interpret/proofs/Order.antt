@@ -15,7 +15,7 @@ use Rattle.broadcast.specs.Process.{message}
 use Rattle.broadcast.proofs.Steps.{Sized, blank-sized, nothingMade-sized, request-sized, receiveAll-sized}
 use Rattle.table.specs.Rules.{isParent}
 use Rattle.interpret.specs.Slot.{Direct, parentState, numbers, messagesOf, messages, interpretSlot}
-use Rattle.interpret.proofs.Rising.{same-rising}
+use Rattle.interpret.proofs.RisingLists.{same-rising}
 use Rattle.interpret.proofs.Messages.{numbers-from, numbers-has, numbers-rising}
 
 -- ---- the same messages

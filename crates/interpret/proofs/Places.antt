@@ -13,7 +13,7 @@ use Rattle.base.specs.List.{passing}
 use Rattle.base.specs.Bytes.{Bytes}
 use Rattle.base.proofs.Count.{count-here, count-grows}
 use Rattle.base.proofs.Members.{at-member}
-use Rattle.base.proofs.Passing.{passing-here, passing-past, passing-from, passing-length}
+use Rattle.base.proofs.PassingBelow.{passing-here, passing-past, passing-from, passing-length}
 use Rattle.block.specs.Limits.{maxReferences}
 use Rattle.table.specs.View.{Row, View}
 use Rattle.table.specs.Layout.{rowAt}

@@ -13,9 +13,9 @@ use Rattle.broadcast.specs.Record.{none, nothingMade, withSend, inBoth}
 use Rattle.broadcast.specs.Process.{message, madeOf, onlyIf, request}
 use Rattle.broadcast.proofs.Steps.{Entry, entryOf, Sized, blank-sized, nothingMade-sized, request-sized}
 use Rattle.broadcast.proofs.Steps.Entry.{sendEntry, echoEntry, readyEntry, deliveryEntry}
-use Rattle.broadcast.proofs.Kept.{Kept, kept-both, nothingMade-kept, request-kept, receiveAll-kept, MadeOnce, once-both, request-once, receiveAll-once}
-use Rattle.broadcast.proofs.Hears.{Heard, receiveAll-heard}
-use Rattle.broadcast.proofs.Settled.{Settled, blank-settled, nothingMade-settled, request-settled, receiveAll-settled}
+use Rattle.broadcast.proofs.Monotonicity.{Kept, kept-both, nothingMade-kept, request-kept, receiveAll-kept, MadeOnce, once-both, request-once, receiveAll-once}
+use Rattle.broadcast.proofs.Hearing.{Heard, receiveAll-heard}
+use Rattle.broadcast.proofs.ThresholdInvariant.{Settled, blank-settled, nothingMade-settled, request-settled, receiveAll-settled}
 use Rattle.interpret.specs.Slot.{Direct, parentState, messages, interpretSlot}
 use Rattle.interpret.proofs.Messages.{messages-has}
 use Rattle.interpret.proofs.Order.{parentState-keeps}

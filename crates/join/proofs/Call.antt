@@ -21,7 +21,7 @@ use Rattle.records.specs.Layout.{bufferSize}
 use Rattle.join.specs.Join.{neitherRetired, sameSetup, joinedCount, joinAnswer, joinedTable, joinedRecords, joined, copied}
 use Rattle.join.specs.Promises.{BothFormed, OneSetup}
 use Rattle.join.specs.Steps.{sidesChecks, blocksChecks, blocksAnswer, blocksTable, blocksRecords, Passed}
-use Rattle.join.proofs.Passes.{setup-same, formed-both, whole-of, unretired-of}
+use Rattle.join.proofs.CheckedJoin.{setup-same, formed-both, whole-of, unretired-of}
 
 module _ (left right : Bytes) (leftRecords rightRecords third : List ℕ) where
   abbrev sides : Answer

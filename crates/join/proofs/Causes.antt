@@ -24,7 +24,7 @@ use Rattle.table.specs.Form.{inForm}
 use Rattle.records.specs.Layout.{bufferSize}
 use Rattle.join.specs.Join.{sameBlock, clashes, clashAt, neitherRetired, sameSetup, joinedCount, joinChecks, joinAnswer}
 use Rattle.join.specs.Promises.{BothFormed, Whole, Unretired, OneSetup, Clash, Apart, Causes}
-use Rattle.join.proofs.Passes.{setup-same, formed-both, whole-of, unretired-of}
+use Rattle.join.proofs.CheckedJoin.{setup-same, formed-both, whole-of, unretired-of}
 
 module _ (left right : Bytes) (leftRecords rightRecords third : List ℕ) where
   -- ---- what the tests mean

@@ -1,17 +1,17 @@
 -- The laws of joining, a file for each idea: what the checks show; the table, place by place; the records; the promises. Those that are not
 -- public serve the code.
-pub mod Referred
-pub mod Passes
+pub mod References
+pub mod CheckedJoin
 pub mod Causes
-pub mod Joining
-mod Placed
+pub mod TableInvariant
+mod PlaceLists
 mod Turns
-mod Clashing
-pub mod Standing
-pub mod Handed
-mod Handing
-mod Copied
+mod ClashByPlaces
+pub mod PlacesInvariant
+pub mod ThirdBuffer
+mod PartSteps
+mod CopyOrder
 mod Ways
 mod Call
-pub mod Shaped
+pub mod ResultShape
 pub mod Promises

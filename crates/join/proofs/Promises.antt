@@ -12,10 +12,10 @@ use Rattle.table.specs.Form.{inForm}
 use Rattle.join.specs.Join.{joinAnswer, joinedTable, joinedRecords, joined, copied}
 use Rattle.join.specs.Promises.{Shape, Copies, Promises}
 use Rattle.join.specs.Steps.{Passed}
-use Rattle.join.proofs.Passes.{passes, joined-passed, copied-passed, value-passed}
-use Rattle.join.proofs.Handed.{whole}
+use Rattle.join.proofs.CheckedJoin.{passes, joined-passed, copied-passed, value-passed}
+use Rattle.join.proofs.ThirdBuffer.{whole}
 use Rattle.join.proofs.Causes.{causes}
-use Rattle.join.proofs.Shaped.{shape, copies}
+use Rattle.join.proofs.ResultShape.{shape, copies}
 
 module _ (left right : Bytes) (leftRecords rightRecords third : List ℕ) where
   abbrev refusal : ℕ

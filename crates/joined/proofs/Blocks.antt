@@ -13,18 +13,18 @@ use Rattle.block.specs.Layout.{siteOf, sequenceOf, referencesOf, requestFor}
 use Rattle.block.specs.Reading.{reading, fieldsOf}
 use Rattle.block.specs.Promises.{Shaped}
 use Rattle.block.specs.declared.Reading.the-variants.{Block}
-use Rattle.block.proofs.Accepted.{reading-accepted}
+use Rattle.block.proofs.Acceptance.{reading-accepted}
 use Rattle.table.specs.View.{maxPlaces, View}
 use Rattle.table.specs.Layout.{countOf, digestAt, siteAt, sequenceAt, requestAt, rowAt, viewOf}
-use Rattle.table.proofs.Formed.{formed-of, formed-row, one-place}
+use Rattle.table.proofs.InForm.{formed-of, formed-row, one-place}
 use Rattle.admission.specs.Admission.{lists}
-use Rattle.admission.proofs.Listed.{lists-member, member-lists}
+use Rattle.admission.proofs.ReferenceList.{lists-member, member-lists}
 use Rattle.join.specs.Join.{refersBy, placeIn, joinedTable}
 use Rattle.join.specs.Steps.{Passed}
-use Rattle.join.proofs.Referred.{place-found, place-has, by-from, by-has}
-use Rattle.join.proofs.Joining.{Shows, Carried, Joining}
-use Rattle.join.proofs.Handed.{whole}
-use Rattle.run.proofs.Reached.{Rows}
+use Rattle.join.proofs.References.{place-found, place-has, by-from, by-has}
+use Rattle.join.proofs.TableInvariant.{Shows, Carried, Joining}
+use Rattle.join.proofs.ThirdBuffer.{whole}
+use Rattle.run.proofs.SiteInvariant.{Rows}
 
 shaped : (b : Bytes) → reading b ≡ Block (fieldsOf b) → Shaped b
 shaped b e = reading-accepted b (fieldsOf b) e .accepted .shape

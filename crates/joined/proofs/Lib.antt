@@ -1,6 +1,6 @@
 -- What makes a joined site one that calls could have reached: its records, its blocks; what is delivered in it; agreement; the theorem.
-mod Fixed
-mod Kept
+mod Parts
+mod Deliveries
 mod Blocks
-mod Agreed
+mod Agreement
 pub mod Promises

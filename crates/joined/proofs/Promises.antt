@@ -19,25 +19,25 @@ use Rattle.table.proofs.Canonical.{Canonical}
 use Rattle.records.specs.Layout.{bufferSize}
 use Rattle.join.specs.Join.{joinedTable, joinedRecords}
 use Rattle.join.specs.Steps.{Passed}
-use Rattle.join.proofs.Passes.{passes, joined-passed, copied-passed}
-use Rattle.join.proofs.Joining.{Joining}
-use Rattle.join.proofs.Handed.{whole, records-length}
+use Rattle.join.proofs.CheckedJoin.{passes, joined-passed, copied-passed}
+use Rattle.join.proofs.TableInvariant.{Joining}
+use Rattle.join.proofs.ThirdBuffer.{whole, records-length}
 use Rattle.run.specs.Ledger.{Call, Ledger}
 use Rattle.run.specs.Run.{Site, started, siteAfter}
 use Rattle.run.specs.Promises.{ledgerOf, siteWith}
-use Rattle.run.proofs.Standing.{Standing, standing}
+use Rattle.run.proofs.LedgerPlaces.{Standing, standing}
 use Rattle.run.proofs.Runs.{after-append}
 use Rattle.run.proofs.Growth.{none-retired}
 use Rattle.run.proofs.Promises.{run}
-use Rattle.run.proofs.Reached.{Fixed, Reached, reached, Rows, reached-rows}
-use Rattle.run.proofs.Retraced.{callsOf, retraced, calls-among}
-use Rattle.agreement.proofs.Theorem.{promised}
+use Rattle.run.proofs.SiteInvariant.{Fixed, Reached, reached, Rows, reached-rows}
+use Rattle.run.proofs.Reachability.{callsOf, retraced, calls-among}
+use Rattle.agreement.proofs.TwoSites.{promised}
 use Rattle.arrival.proofs.Theorem as arrival
 use Rattle.joined.specs.Promises.{joinOf, CanJoin, ShowsDelivered, Reachable, left, right, Covered}
-use Rattle.joined.proofs.Fixed.{restored-is, joined-fixed}
-use Rattle.joined.proofs.Kept.{delivered}
+use Rattle.joined.proofs.Parts.{restored-is, joined-fixed}
+use Rattle.joined.proofs.Deliveries.{delivered}
 use Rattle.joined.proofs.Blocks.{blockOf, placed-right, joined-rows}
-use Rattle.joined.proofs.Agreed.{agreed}
+use Rattle.joined.proofs.Agreement.{agreed}
 
 module _ (digest : Bytes → Bytes) (sized : (b : Bytes) → length (digest b) ≡ referenceSize) where
   -- two sites that calls reached, joined

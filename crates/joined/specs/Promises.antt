@@ -15,7 +15,7 @@ use Rattle.history.specs.Forks.{forked, NoCollision}
 use Rattle.run.specs.Ledger.{Call}
 use Rattle.run.specs.Run.{Site, siteAfter}
 use Rattle.run.specs.Promises.{deliveredEntry, ledgerOf, siteWith}
-use Rattle.agreement.specs.Promises.{Promised}
+use Rattle.agreement.specs.TwoSites.{Promised}
 use Rattle.arrival.specs.Arrival.{Arrival}
 
 -- what joining two sites leaves: the left's table, and the third buffer

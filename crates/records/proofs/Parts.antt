@@ -18,7 +18,7 @@ use Rattle.setup.specs.Setup.{slotCount}
 use Rattle.broadcast.specs.declared.SlotRecord.{SlotRecord}
 use Rattle.broadcast.proofs.Steps.{Sized}
 use Rattle.records.specs.Layout.{recordSize, flatten, recordAt, partSize, partStart, partOf, recordIn, numbersOf}
-use Rattle.records.proofs.Flattened.{record-from, flatten-length, record-flatten}
+use Rattle.records.proofs.RecordNumbers.{record-from, flatten-length, record-flatten}
 
 -- ---- eight records in a row
 

@@ -16,7 +16,7 @@ use Rattle.run.specs.Run.{Site, siteAnswer, siteStep, siteAfter}
 use Rattle.run.proofs.Growth.{NoneBack}
 use Rattle.report.specs.Arrivals.{Arrival, arrived, unread}
 use Rattle.report.specs.Listing.{admissionAnswer, interpretationCall, siteArrived, arrivalRefusal}
-use Rattle.report.specs.Shown.{callsOf}
+use Rattle.report.specs.ListingCalls.{callsOf}
 
 module _ (x : Site) (b : Bytes) (verdict : ℕ) where
   -- what the admission answers, and the table that it leaves
@@ -66,7 +66,7 @@ module _ (x : Site) (b : Bytes) (verdict : ℕ) where
   pub accepted : arrivalRefusal sha256 x b verdict ≡ 0 → number ≡ 0
   accepted z = by-test (eqb number 0) (λ y. eqb-true number 0 y) (λ n. sym (refused-refusal n) ∙ z)
 
-  -- the calls, as specs/Shown.antt lists them
+  -- the calls, as specs/ListingCalls.antt lists them
   abbrev pub callsAt : List Call
   callsAt = admit b verdict ∷ cond (eqb (admissionAnswer sha256 x b verdict .refusal) 0) (interpretationCall sha256 x b verdict ∷ []) []
 

@@ -21,11 +21,11 @@ use Rattle.report.specs.Promises.{Promises}
 use Rattle.report.specs.declared.Expected.{Expected}
 use Rattle.report.specs.declared.Expected.the-variants.{Length, Block, Skip, End}
 use Rattle.report.proofs.Setups.{unlawful-refused, lawful-made, table-made}
-use Rattle.report.proofs.Framed.{listingIn}
-use Rattle.report.proofs.Written.{Writes, stops, goes-on}
-use Rattle.report.proofs.Listed.{lists}
-use Rattle.report.proofs.Gathers.{within, stopped, written}
-use Rattle.report.proofs.InParts.{listed-in-parts, reached}
+use Rattle.report.proofs.Frames.{listingIn}
+use Rattle.report.proofs.EnoughTurns.{Writes, stops, goes-on}
+use Rattle.report.proofs.ArrivalLines.{lists}
+use Rattle.report.proofs.GatheredLines.{within, stopped, written}
+use Rattle.report.proofs.InputParts.{listed-in-parts, reached}
 
 wanted-small : (e : Expected) → wantedBy e ≤ pieceSize
 unfolding wantedBy

@@ -5,6 +5,6 @@ pub mod Listing
 pub mod Framing
 pub mod Gathering
 pub mod Promises
-pub mod Shown
+pub mod ListingCalls
 pub mod Lines
 pub mod Steps

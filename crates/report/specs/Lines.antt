@@ -1,5 +1,5 @@
--- What stands in the text of a listing: what `Shows` of specs/Shown.antt says is shown is a line of it, and no other line shows a delivery.
--- proofs/TextKept.antt shows it.
+-- What stands in the text of a listing: what `Shows` of specs/ListingCalls.antt says is shown is a line of it, and no other line shows a delivery.
+-- proofs/ListingText.antt shows it.
 use mathlib.Core.Path.{_≡_}
 use mathlib.Core.Bool.{true, cond}
 use mathlib.Core.Logic.{_↔_, _≢_, _⊎_}
@@ -16,7 +16,7 @@ use Rattle.report.specs.declared.Field.{Field}
 use Rattle.report.specs.Text.{lineFeed, names, refusalLine, deliveryLine}
 use Rattle.report.specs.Arrivals.{setupSize, setupIn, arrivalsIn}
 use Rattle.report.specs.Listing.{listing}
-use Rattle.report.specs.Shown.{Shows}
+use Rattle.report.specs.ListingCalls.{Shows}
 
 -- the lines of a text, each with its line feed, where `before` was met of the first; what stands behind the last line feed is in none
 unfoldable pub linesAfter : Bytes → Bytes → List Bytes

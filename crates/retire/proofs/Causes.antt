@@ -23,7 +23,7 @@ use Rattle.interpret.specs.Promises.{Whole}
 use Rattle.interpret.proofs.FirstChecks.{held, two, twelve, thirteen}
 use Rattle.retire.specs.Retiring.{waitsForFirst, followsFirst, firstInterpreted, referrersInterpreted, siteGoesOn, retirable, retiringChecks, retiring}
 use Rattle.retire.specs.Promises.{Follows, Retirable, Causes}
-use Rattle.retire.proofs.Retired.{first-marked, waits-none}
+use Rattle.retire.proofs.Effect.{first-marked, waits-none}
 
 -- ---- what check 29 says
 

@@ -7,7 +7,7 @@ use Rattle.table.specs.Writing.{withoutFirst}
 use Rattle.table.specs.Promises.{Shows}
 use Rattle.records.specs.Moving.{Moved}
 use Rattle.retire.specs.Promises.{Promises}
-use Rattle.retire.proofs.Retired.{table-passed, records-passed, shows-left, parts-left, refused, kept, sized}
+use Rattle.retire.proofs.Effect.{table-passed, records-passed, shows-left, parts-left, refused, kept, sized}
 use Rattle.retire.proofs.Causes.{causes, goes-on}
 
 pub promises : Promises

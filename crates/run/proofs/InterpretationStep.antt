@@ -15,12 +15,12 @@ use Rattle.table.specs.Layout.{setupOf, viewOf}
 use Rattle.records.specs.Layout.{partSize, partStart, partOf}
 use Rattle.records.proofs.Parts.{numbers-length, part-written, part-other}
 use Rattle.interpret.specs.Interpretation.{written, interpretation}
-use Rattle.interpret.proofs.Kept.{whole, low}
+use Rattle.interpret.proofs.Effect.{whole, low}
 use Rattle.history.specs.History.{History, slotRecord, meaning}
 use Rattle.history.proofs.Meanings.{record-sized}
 use Rattle.run.specs.Ledger.{interpret, Ledger, taken}
 use Rattle.run.specs.Run.{Site}
-use Rattle.run.proofs.Tied.{Tied}
+use Rattle.run.proofs.Simulation.{Tied}
 use Rattle.run.proofs.PlaceHistories.{PlaceHistories, written-is}
 
 meaning-length : (s : Setup) (h : History) → length (meaning s h) ≡ partSize

@@ -19,13 +19,13 @@ use Rattle.base.proofs.Members.{newest, newest-has}
 use Rattle.block.specs.Layout.{siteOf, sequenceOf, referencesOf}
 use Rattle.block.specs.Reading.{fieldsOf}
 use Rattle.block.specs.Promises.{Shaped}
-use Rattle.block.proofs.Accepted.{reading-accepted}
+use Rattle.block.proofs.Acceptance.{reading-accepted}
 use Rattle.table.specs.Layout.{countOf, digestAt, siteAt, sequenceAt, rowAt, viewOf}
 use Rattle.table.specs.Rules.{hasDigest, placeOf, parentRow, parents, parentRule}
-use Rattle.table.proofs.Formed.{one-place}
+use Rattle.table.proofs.InForm.{one-place}
 use Rattle.admission.specs.Admission.{lists, rowFor}
 use Rattle.admission.specs.Promises.{Parented}
-use Rattle.admission.proofs.Listed.{reference-from, lists-member, member-lists}
+use Rattle.admission.proofs.ReferenceList.{reference-from, lists-member, member-lists}
 use Rattle.history.specs.History.{History, Histories, node, end, _and_, blockOf, listOf, children, isParentOf}
 use Rattle.history.proofs.Histories.{parent-sequence}
 use Rattle.history.proofs.Admissions.{digestOf, Parented as HasParent, Admitted}

@@ -20,14 +20,14 @@ use Rattle.interpret.specs.Slot.{Direct, interpretSlot}
 use Rattle.interpret.specs.Interpretation.{directAt, directsBelow, recordFor, written, interpretation}
 use Rattle.interpret.proofs.Order.{interpretSlot-same}
 use Rattle.interpret.proofs.Causes.{causes}
-use Rattle.interpret.proofs.Kept.{below-from, below-has, here, ready}
+use Rattle.interpret.proofs.Effect.{below-from, below-has, here, ready}
 use Rattle.history.specs.History.{History, node, blockOf, children, isParentOf, slotRecord, directs, meaning}
 use Rattle.history.proofs.Histories.{directOf, directs-from, directs-has}
 use Rattle.history.proofs.Meanings.{record-sized}
 use Rattle.history.proofs.Admissions.{InTurn, admitted-in}
 use Rattle.run.specs.Ledger.{Ledger, viewIn}
 use Rattle.run.specs.Run.{Site}
-use Rattle.run.proofs.Tied.{Tied, few}
+use Rattle.run.proofs.Simulation.{Tied, few}
 
 -- a record worked out from the blocks that a history refers to, of which one at most is a parent, is the history's
 record-same : (s : Setup) (slot : ℕ) (h : History) (site sequence request : ℕ) (read : List Direct)

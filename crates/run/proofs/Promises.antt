@@ -14,7 +14,7 @@ use Rattle.block.specs.Limits.{referenceSize}
 use Rattle.table.specs.Layout.{rowStart}
 use Rattle.table.specs.Fresh.{emptyTable, freshTable}
 use Rattle.table.specs.Promises.{Empty}
-use Rattle.table.proofs.Formed.{formed-of}
+use Rattle.table.proofs.InForm.{formed-of}
 use Rattle.table.proofs.Promises.{promises as table-promises}
 use Rattle.records.specs.Layout.{recordSize, flatten, partOf}
 use Rattle.records.proofs.Parts.{entry-in}
@@ -30,7 +30,7 @@ use Rattle.run.specs.Run.{Site, started}
 use Rattle.run.specs.Promises.{Interpreted, deliveredEntry, RetiredClear, historyAt, Delivered, OwnerRequested, LedgerHistory, ledgerOf, siteWith, SiteKeeps, AnswersKeep}
 use Rattle.run.proofs.PlaceHistories.{histories, history-in}
 use Rattle.run.proofs.Runs.{Together, run-together, answers-together, answers-formed}
-use Rattle.run.proofs.Standing.{Standing, standing, block-in, interpreted-among, one-history-each, place-history, unretired-clear}
+use Rattle.run.proofs.LedgerPlaces.{Standing, standing, block-in, interpreted-among, one-history-each, place-history, unretired-clear}
 
 -- entry 3 of a slot in a block's meaning
 pub delivered-is : (s : Setup) (h : History) (slot : ℕ) → slot < slotCount

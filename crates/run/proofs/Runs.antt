@@ -23,11 +23,11 @@ use Rattle.admission.proofs.Causes.{decided-by}
 use Rattle.admission.proofs.Promises.{promises}
 use Rattle.take_back.specs.TakingBack.{takingBackChecks, takingBack, takenBack}
 use Rattle.interpret.specs.Interpretation.{interpretationChecks, interpretation, marked, recorded}
-use Rattle.interpret.proofs.Kept.{marked-passed, recorded-passed}
+use Rattle.interpret.proofs.Effect.{marked-passed, recorded-passed}
 use Rattle.retire.specs.Retiring.{retiringChecks, retiring, retiredTable, retiredRecords}
 use Rattle.run.specs.Ledger.{Call, admit, interpret, retire, takeBack, Ledger, taken, viewIn, ledgerAnswer, ledgerStep, ledgerAfter, ledgerAnswers}
 use Rattle.run.specs.Run.{Site, siteAnswer, siteStep, siteAfter, siteAnswers}
-use Rattle.run.proofs.Tied.{Tied, ledger-formed, answers-same, admitted-tied, interpreted-tied, retired-tied, taken-back-tied}
+use Rattle.run.proofs.Simulation.{Tied, ledger-formed, answers-same, admitted-tied, interpreted-tied, retired-tied, taken-back-tied}
 use Rattle.run.proofs.PlaceHistories.{PlaceHistories}
 use Rattle.run.proofs.AdmissionStep.{admits}
 use Rattle.run.proofs.InterpretationStep.{records-sized, interprets}

@@ -11,7 +11,7 @@ use Rattle.history.specs.History.{History}
 use Rattle.history.proofs.Admissions.{InTurn}
 use Rattle.run.specs.Ledger.{takeBack, Ledger, taken}
 use Rattle.run.specs.Run.{Site}
-use Rattle.run.proofs.Tied.{Tied, one-held}
+use Rattle.run.proofs.Simulation.{Tied, one-held}
 use Rattle.run.proofs.PlaceHistories.{PlaceHistories}
 
 module _ (digest : Bytes → Bytes) (s : Setup) (size : ℕ) (l : Ledger) (x : Site) (t : Tied digest s size l x) (g : PlaceHistories digest s l x)

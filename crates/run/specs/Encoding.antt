@@ -12,7 +12,7 @@ use Prim.Native.Nat.{ℕ, zero, suc, _+_}
 use lib.Dec.{eqb, leb}
 use lib.ListN.{length, getD, take, drop}
 use Rattle.base.specs.Bytes.{Bytes}
-use Rattle.base.specs.Word.{wordSize, wordAt}
+use Rattle.base.specs.LowFirst.{wordSize, wordAt}
 use Rattle.run.specs.Ledger.{Call, admit, interpret, retire, takeBack}
 
 -- the first byte of an admission, of an interpretation, of a retiring, and of a taking back

@@ -3,7 +3,7 @@ use mathlib.Core.Path.{_≡_}
 use Prim.Native.Nat.{_+_, _≤_}
 use lib.ListN.{length, getD}
 use Rattle.base.specs.Bytes.{Bytes}
-use Rattle.base.specs.Word.{wordAt}
+use Rattle.base.specs.LowFirst.{wordAt}
 use Rattle.run.specs.Encoding.{admissionByte, interpretationByte, admissionHeader, interpretationSize, bareSize}
 
 -- a whole call stands at the front

@@ -3,7 +3,7 @@ use answer::Answer;
 ghost use mathlib.Core.Path.{_≡_};
 ghost use Prim.Native.Nat.{_+_, _≤_};
 ghost use lib.ListN.{length};
-ghost use Rattle.base.specs.Word.{wordSize, wordAt};
+ghost use Rattle.base.specs.LowFirst.{wordSize, wordAt};
 ghost use Rattle.sha256.specs.Sha256.{sha256};
 ghost use Rattle.run.specs.Run.{siteAnswer, siteStep};
 ghost use Rattle.run.specs.Encoding.{firstSize, firstCall};

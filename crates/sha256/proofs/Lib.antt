@@ -1,4 +1,4 @@
 -- What the definition is held against, and what the proof of `digest` is made of.
 mod Hashing
-mod Padded
+mod PaddedMessage
 pub mod Promises

@@ -26,11 +26,11 @@ use Rattle.table.specs.View.{maxPlaces, Row, View, markedIf, SameBelow}
 use Rattle.table.specs.Layout.{ownersOffset, retiredOffset, countOffset, rowsOffset, markOffset, rowSize, rowStart, tableSize, setupOf, retiredOf, countOf, rowAt, viewOf, rowBytes, layout, withRow, withMark}
 use Rattle.table.specs.Form.{inForm}
 use Rattle.table.specs.Promises.{Marked}
-use Rattle.table.proofs.Formed.{Formed, formed-of}
+use Rattle.table.proofs.InForm.{Formed, formed-of}
 use Rattle.table.proofs.RowBytes.{rowPart, length-row, row-bytes-same, requestPairs, referenceMask}
-use Rattle.table.proofs.Put.{part-kept, part-here, grown}
-use Rattle.table.proofs.Marked as mark
-use Rattle.table.proofs.Marked.{marked}
+use Rattle.table.proofs.AddedRow.{part-kept, part-here, grown}
+use Rattle.table.proofs.MarkedPlace as mark
+use Rattle.table.proofs.MarkedPlace.{marked}
 
 abbrev pub Canonical : Bytes → Type 0
 Canonical t = (i : ℕ) → i < countOf t → rowBytes (rowAt t i) ≡ rowPart t i

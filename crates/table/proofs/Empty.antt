@@ -14,7 +14,7 @@ use Rattle.setup.proofs.Thresholds.{eight-owners}
 use Rattle.table.specs.View.{maxPlaces}
 use Rattle.table.specs.Layout.{ownersOffset, retiredOffset, countOffset, rowsOffset, rowSize, rowStart, setupOf, retiredOf, countOf, layout}
 use Rattle.table.specs.Fresh.{emptyTable}
-use Rattle.table.proofs.Formed.{Formed}
+use Rattle.table.proofs.InForm.{Formed}
 
 -- a site count, eight owners, nothing retired, no block, and n zeros
 module _ (sites : ℕ) (owners : Bytes) (eight : length owners ≡ slotCount) (n : ℕ) where

@@ -20,7 +20,7 @@ use Rattle.table.specs.Layout.{tableSize}
 use Rattle.table.specs.Fresh.{emptyTable, freshTable, freshAnswer, freshIn}
 use Rattle.table.specs.Promises.{Empty, FreshCauses, FreshInCauses}
 use Rattle.table.specs.declared.FreshTable.{FreshTable}
-use Rattle.table.proofs.Formed.{in-formed}
+use Rattle.table.proofs.InForm.{in-formed}
 use Rattle.table.proofs.Empty.{empty-shows, empty-formed}
 
 module _ (s : Setup) where

@@ -1,17 +1,17 @@
 -- The table's laws. Other crates' proofs cite them.
 pub mod Views
-pub mod Formed
+pub mod InForm
 mod Prints
-pub mod ByFirstByte
+pub mod DigestIndex
 pub mod RowBytes
-pub mod Put
-pub mod Marked
+pub mod AddedRow
+pub mod MarkedPlace
 pub mod Canonical
-pub mod Laid
-mod Written
-pub mod Cleared
-pub mod Lowered
-mod Moved
+pub mod Layout
+mod WriteSteps
+pub mod ClearedRow
+pub mod LoweredRows
+mod MoveSteps
 pub mod Empty
 mod Freshness
 pub mod Promises

@@ -12,13 +12,13 @@ use Rattle.base.specs.Bytes.{Bytes, partAt, parts, joined, splice}
 use Rattle.base.specs.List.{listBelow}
 use Rattle.base.specs.Mask.{maskBelow, inMask}
 use Rattle.base.specs.Number.{number, numberAt, pair}
-use Rattle.base.specs.Word.{wordSize, word, wordBytes}
+use Rattle.base.specs.LowFirst.{wordSize, word, wordBytes}
 use Rattle.base.proofs.List.{length-list, list-at, list-same}
 use Rattle.base.proofs.Mask.{mask-below}
 use Rattle.base.proofs.Sets.{mask-has, mask-same}
 use Rattle.base.proofs.Parts.{part-of-front, EachSize, parts-at, parts-joined, length-joined-list}
 use Rattle.base.proofs.Number.{number-pair, number-of-part}
-use Rattle.base.proofs.Word.{length-word, word-of-bytes}
+use Rattle.base.proofs.LowFirst.{length-word, word-of-bytes}
 use Rattle.setup.specs.Setup.{slotCount}
 use Rattle.block.specs.Limits.{referenceSize}
 use Rattle.table.specs.View.{maxPlaces, Row, SameRow}

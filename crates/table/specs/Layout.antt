@@ -19,7 +19,7 @@ use Rattle.base.specs.Mask.{maskBelow, inMask}
 use Rattle.base.specs.List.{listBelow}
 use Rattle.base.specs.Bytes.{Bytes, joined, splice}
 use Rattle.base.specs.Number.{numberAt, pair}
-use Rattle.base.specs.Word.{wordSize, wordAt, wordBytes}
+use Rattle.base.specs.LowFirst.{wordSize, wordAt, wordBytes}
 use Rattle.setup.specs.Setup.{Setup, slotCount}
 use Rattle.block.specs.Limits.{referenceSize}
 use Rattle.table.specs.View.{maxPlaces, Row, View}

@@ -10,7 +10,7 @@ use Rattle.base.specs.Search.{anyBelow}
 use Rattle.base.specs.List.{listBelow}
 use Rattle.base.specs.Mask.{maskBelow, inMask}
 use Rattle.base.specs.Number.{pair}
-use Rattle.base.specs.Word.{wordSize, wordBytes}
+use Rattle.base.specs.LowFirst.{wordSize, wordBytes}
 use Rattle.base.specs.Steps.{printCount, printsBelow}
 use Rattle.setup.specs.Setup.{maxSites, slotCount}
 use Rattle.block.specs.Layout.{requestsIn, countedRequest}

@@ -8,7 +8,7 @@ use lib.ListN.{take, drop, replicate}
 use Rattle.base.specs.Mask.{maskBelow}
 use Rattle.base.specs.List.{listBelow}
 use Rattle.base.specs.Bytes.{Bytes, joined, splice}
-use Rattle.base.specs.Word.{wordSize, wordBytes}
+use Rattle.base.specs.LowFirst.{wordSize, wordBytes}
 use Rattle.table.specs.View.{maxPlaces, Row, View}
 use Rattle.table.specs.Layout.{retiredOffset, countOffset, referencesOffset, rowSize, rowStart, countOf, rowAt}
 

@@ -1,6 +1,6 @@
 -- Taking back keeps its promises. Assumes nothing.
 use Rattle.take_back.specs.Promises.{Promises}
-use Rattle.take_back.proofs.TakenBack.{shows, refused, kept}
+use Rattle.take_back.proofs.Effect.{shows, refused, kept}
 use Rattle.take_back.proofs.Causes.{causes}
 use Rattle.take_back.proofs.Undoing.{undone, file-undone}
 

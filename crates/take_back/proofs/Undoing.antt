@@ -16,14 +16,14 @@ use Rattle.table.specs.Layout.{countOf, markAt, viewOf, withRow}
 use Rattle.table.specs.Writing.{withoutRow}
 use Rattle.table.specs.Form.{inForm}
 use Rattle.table.specs.Promises.{Grown}
-use Rattle.table.proofs.Formed.{formed-of}
-use Rattle.table.proofs.Cleared.{row-undone}
+use Rattle.table.proofs.InForm.{formed-of}
+use Rattle.table.proofs.ClearedRow.{row-undone}
 use Rattle.admission.specs.Admission.{rowFor, admission, admitted}
-use Rattle.admission.proofs.Kept.{refused-table}
+use Rattle.admission.proofs.Effect.{refused-table}
 use Rattle.admission.proofs.Promises.{promises}
 use Rattle.take_back.specs.TakingBack.{takingBack}
 use Rattle.take_back.specs.Promises.{UndoneBy, Brought, loaded, admittedOf}
-use Rattle.take_back.proofs.TakenBack.{table-passed}
+use Rattle.take_back.proofs.Effect.{table-passed}
 
 -- ---- straight after an admission
 

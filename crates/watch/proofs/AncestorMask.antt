@@ -18,8 +18,8 @@ use Rattle.base.proofs.Sets.{ones-members}
 use Rattle.table.specs.Layout.{countOf, viewOf}
 use Rattle.table.specs.Form.{inForm}
 use Rattle.watch.specs.Ancestors.{isAncestor, Ancestor, ancestorMask, ancestorAnswer, ancestors}
-use Rattle.watch.proofs.Ready.{places-fit, refers-lower}
-use Rattle.watch.proofs.Reached.{ancestor-lower, ancestor-bit}
+use Rattle.watch.proofs.InForm.{places-fit, refers-lower}
+use Rattle.watch.proofs.AncestorTest.{ancestor-lower, ancestor-bit}
 use Rattle.watch.proofs.Causes.{ancestors-found, ancestors-refused, answer-none}
 
 module _ (t : Bytes) (i : ℕ) where

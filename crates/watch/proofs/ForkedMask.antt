@@ -20,8 +20,8 @@ use Rattle.table.specs.Layout.{setupOf, siteAt, viewOf}
 use Rattle.table.specs.Form.{inForm}
 use Rattle.watch.specs.Forks.{everywhere, forkedIn, forks}
 use Rattle.watch.specs.Promises.{Shares}
-use Rattle.watch.proofs.Shared.{forked-shares}
-use Rattle.watch.proofs.Ready.{row-formed}
+use Rattle.watch.proofs.ForkTest.{forked-shares}
+use Rattle.watch.proofs.InForm.{row-formed}
 use Rattle.watch.proofs.Causes.{forks-reported, forks-refused}
 
 module _ (t : Bytes) where

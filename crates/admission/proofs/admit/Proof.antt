@@ -21,10 +21,10 @@ use Rattle.block.specs.declared.Reading.{Reading}
 use Rattle.block.specs.declared.Reading.the-variants.{Block, Misshapen, BadRequest, RepeatedReference}
 use Rattle.block.proofs.Reading.{the-type}
 use Rattle.block.proofs.Shape.{shaped}
-use Rattle.block.proofs.Accepted.{reading-accepted}
+use Rattle.block.proofs.Acceptance.{reading-accepted}
 use Rattle.table.specs.Layout.{setupOf}
 use Rattle.table.specs.Form.{inForm}
-use Rattle.table.proofs.Formed.{formed-places}
+use Rattle.table.proofs.InForm.{formed-places}
 use Rattle.admission.specs.Admission.{admission, admitted}
 use Rattle.admission.specs.Steps.{heldAnswer, entered}
 use Rattle.admission.proofs.admit.Statement.{statement}

@@ -19,11 +19,11 @@ use Rattle.block.specs.declared.Fields.{Fields}
 use Rattle.table.specs.View.{maxPlaces, SameRow}
 use Rattle.table.specs.Layout.{countOf, viewOf, withRow}
 use Rattle.table.specs.Steps.{Place, Places, Indexed, newRow}
-use Rattle.table.proofs.Formed.{formed-places}
-use Rattle.table.proofs.Put.{put-same}
+use Rattle.table.proofs.InForm.{formed-places}
+use Rattle.table.proofs.AddedRow.{put-same}
 use Rattle.admission.specs.Admission.{rowFor, heldChecks}
 use Rattle.admission.specs.Steps.{Ready, firstMissing, placesListed, heldAnswer, entered}
-use Rattle.admission.proofs.Referring.{listed}
+use Rattle.admission.proofs.HeldReferences.{listed}
 use Rattle.admission.proofs.enter.Statement.{statement}
 use Rattle.admission.proofs.enter.Tie as tie
 

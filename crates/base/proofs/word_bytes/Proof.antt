@@ -1,7 +1,7 @@
 -- `word_bytes` meets its contract: its digits are the definition's. Assumes nothing.
 use mathlib.Core.Path.{refl}
 use borrow.Author.Needs.{needs}
-use Rattle.base.specs.Word.{wordBytes}
+use Rattle.base.specs.LowFirst.{wordBytes}
 use Rattle.base.proofs.word_bytes.Statement.{statement}
 use Rattle.base.proofs.word_bytes.Tie as tie
 

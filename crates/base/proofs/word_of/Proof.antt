@@ -7,8 +7,8 @@ use lib.Pow.{pow-pos}
 use lib.ListN.{length, getD, drop}
 use lib.Seq.{drop-length}
 use borrow.Author.Needs.{needs}
-use Rattle.base.specs.Word.{wordSize, word}
-use Rattle.base.proofs.Word.{word-drop, word-room, word-more}
+use Rattle.base.specs.LowFirst.{wordSize, word}
+use Rattle.base.proofs.LowFirst.{word-drop, word-room, word-more}
 use Rattle.base.proofs.word_of.Statement.{statement}
 use Rattle.base.proofs.word_of.Tie as tie
 

@@ -3,7 +3,7 @@ use mathlib.Core.Path.{ap, _∙_}
 use mathlib.Core.Bool.{Bool}
 use Prim.Native.Nat.{ℕ}
 use borrow.Author.Needs.{needs}
-use Rattle.watch.proofs.Everywhere.{everywhere-mask}
+use Rattle.watch.proofs.FullMask.{everywhere-mask}
 use Rattle.build.specs.Building.{buildingFrom, builtFrom}
 use Rattle.build.proofs.build.Statement.{statement}
 use Rattle.build.proofs.build.Tie as tie

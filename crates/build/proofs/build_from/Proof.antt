@@ -21,7 +21,7 @@ use Rattle.block.specs.Reading.{badRequestAt}
 use Rattle.block.specs.Steps.{firstBad}
 use Rattle.table.specs.Layout.{setupOf, viewOf}
 use Rattle.table.specs.Form.{inForm}
-use Rattle.table.proofs.Formed.{formed-of, formed-places}
+use Rattle.table.proofs.InForm.{formed-of, formed-places}
 use Rattle.build.specs.Building.{wellListed, nextBlock, buildingChecks, buildingFrom, builtFrom}
 use Rattle.build.specs.Steps.{Listed, nextAnswer, nextOutput}
 use Rattle.build.proofs.Causes.{well-listed}

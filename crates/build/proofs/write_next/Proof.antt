@@ -9,8 +9,8 @@ use Rattle.block.specs.Limits.{maxReferences}
 use Rattle.block.specs.Steps.{Writable}
 use Rattle.table.specs.Layout.{viewOf}
 use Rattle.build.specs.Building.{maxSequence, nextSequence}
-use Rattle.build.proofs.Picked.{picked-few}
-use Rattle.build.proofs.Written.{front-is, encoding-is, writable, way-past, way-short, way-written}
+use Rattle.build.proofs.PickedPlaces.{picked-few}
+use Rattle.build.proofs.NextBytes.{front-is, encoding-is, writable, way-past, way-short, way-written}
 use Rattle.build.proofs.write_next.Statement.{statement}
 use Rattle.build.proofs.write_next.Tie as tie
 

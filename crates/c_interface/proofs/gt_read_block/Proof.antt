@@ -11,7 +11,7 @@ use Rattle.block.specs.declared.Fields.{Fields}
 use Rattle.block.specs.declared.Reading.{Reading}
 use Rattle.block.specs.declared.Reading.the-variants.{Block}
 use Rattle.block.proofs.Reading.{the-type}
-use Rattle.block.proofs.Refused.{when-refused, when-accepted}
+use Rattle.block.proofs.LetElse.{when-refused, when-accepted}
 use Rattle.c_interface.specs.Calls.{done, noFields, blockReading}
 use Rattle.c_interface.specs.declared.BlockReading.{BlockReading}
 use Rattle.c_interface.proofs.gt_read_block.Statement.{statement}

@@ -20,8 +20,8 @@ use Rattle.block.specs.declared.Reading.{Reading}
 use Rattle.block.specs.declared.Reading.the-variants.{Block}
 use Rattle.block.proofs.Reading.{the-type}
 use Rattle.block.proofs.Shape.{reference-list-length}
-use Rattle.block.proofs.Refused.{when-refused, when-accepted}
-use Rattle.block.proofs.Accepted.{AcceptedAs, reading-accepted}
+use Rattle.block.proofs.LetElse.{when-refused, when-accepted}
+use Rattle.block.proofs.Acceptance.{AcceptedAs, reading-accepted}
 use Rattle.c_interface.specs.Calls.{noSuchEntry, putAnswer, putOutput, referenceAnswer, referenceOutput}
 use Rattle.c_interface.proofs.gt_reference.Statement.{statement}
 use Rattle.c_interface.proofs.gt_reference.Tie as tie

@@ -20,8 +20,8 @@ use Rattle.block.specs.declared.Reading.{Reading}
 use Rattle.block.specs.declared.Reading.the-variants.{Block}
 use Rattle.block.proofs.Reading.{the-type}
 use Rattle.block.proofs.Shape.{request-list-length}
-use Rattle.block.proofs.Refused.{when-refused, when-accepted}
-use Rattle.block.proofs.Accepted.{AcceptedAs, reading-accepted}
+use Rattle.block.proofs.LetElse.{when-refused, when-accepted}
+use Rattle.block.proofs.Acceptance.{AcceptedAs, reading-accepted}
 use Rattle.c_interface.specs.Calls.{done, noSuchEntry, withoutRequest, requested}
 use Rattle.c_interface.specs.declared.Requested.{Requested}
 use Rattle.c_interface.proofs.gt_request.Statement.{statement}

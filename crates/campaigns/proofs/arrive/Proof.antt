@@ -18,14 +18,14 @@ use Rattle.answer.specs.Checks.{refused, answerTo}
 use Rattle.shelf.specs.Layout.{Waiting, waitingIn, shelfBytes}
 use Rattle.shelf.specs.Rules.{campaignCount, maxCampaign, hasPlace}
 use Rattle.shelf.specs.Form.{inForm}
-use Rattle.shelf.proofs.Formed.{formed-of}
+use Rattle.shelf.proofs.InForm.{formed-of}
 use Rattle.admission.specs.Admission.{admission, admitted}
-use Rattle.admission.proofs.Kept.{refused-table}
+use Rattle.admission.proofs.Effect.{refused-table}
 use Rattle.campaigns.specs.Passes.{Try, outcomesOf, settled}
 use Rattle.campaigns.specs.Arriving.{Arrived, Called, outcomesSize, listed, arrived, arrival}
 use Rattle.campaigns.specs.Steps.{shelvedAt}
 use Rattle.campaigns.specs.declared.Arrival.{Arrival}
-use Rattle.campaigns.proofs.Nines.{withTable, shelved-any, shelved-tries, nine-short}
+use Rattle.campaigns.proofs.MissingReference.{withTable, shelved-any, shelved-tries, nine-short}
 use Rattle.campaigns.proofs.arrive.Statement.{statement}
 use Rattle.campaigns.proofs.arrive.Tie as tie
 

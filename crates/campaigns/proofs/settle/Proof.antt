@@ -10,8 +10,8 @@ use Rattle.sha256.specs.Sha256.{sha256}
 use Rattle.answer.specs.Buffer.{putAnswers}
 use Rattle.shelf.specs.Layout.{waitingIn, shelfBytes}
 use Rattle.campaigns.specs.Passes.{outcomesOf, settled}
-use Rattle.campaigns.proofs.Left.{Came, restOf}
-use Rattle.campaigns.proofs.Going.{Settling, ahead, settles-on, settles-down}
+use Rattle.campaigns.proofs.Turns.{Came, restOf}
+use Rattle.campaigns.proofs.LoopInvariants.{Settling, ahead, settles-on, settles-down}
 use Rattle.campaigns.proofs.settle.Statement.{statement}
 use Rattle.campaigns.proofs.settle.Tie as tie
 

@@ -12,8 +12,8 @@ use Rattle.answer.specs.declared.Answer.{Answer}
 use Rattle.answer.specs.Checks.{refused}
 use Rattle.shelf.specs.Layout.{maxWaiting, Waiting, waitingIn, shelfBytes}
 use Rattle.shelf.specs.Rules.{hasPlace, waits}
-use Rattle.shelf.proofs.Laid.{laid-sized, laid-fits}
-use Rattle.shelf.proofs.Ruled.{place-free}
+use Rattle.shelf.proofs.Layout.{laid-sized, laid-fits}
+use Rattle.shelf.proofs.Rules.{place-free}
 use Rattle.campaigns.specs.Arriving.{behind, shelved}
 use Rattle.campaigns.specs.Steps.{Shelvable, shelvedAt}
 use Rattle.campaigns.proofs.shelve.Statement.{statement}

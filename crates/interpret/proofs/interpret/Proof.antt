@@ -7,7 +7,7 @@ use borrow.Author.Needs.{needs}
 use borrow.Author.Tests.{not-true, not-false}
 use Rattle.table.specs.Layout.{countOf, markAt}
 use Rattle.table.specs.Form.{inForm}
-use Rattle.table.proofs.Formed.{formed-of}
+use Rattle.table.proofs.InForm.{formed-of}
 use Rattle.interpret.specs.Steps.{Ready}
 use Rattle.interpret.proofs.Call.{way2, way12, way13, way14, way15, way0, ready}
 use Rattle.interpret.proofs.interpret.Statement.{statement}

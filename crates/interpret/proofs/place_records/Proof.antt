@@ -11,8 +11,8 @@ use Rattle.base.specs.Bytes.{Bytes, joined}
 use Rattle.setup.specs.Setup.{slotCount}
 use Rattle.table.specs.Layout.{setupOf, viewOf}
 use Rattle.records.specs.Layout.{recordSize, flatten, partSize, numbersOf}
-use Rattle.records.proofs.Typed.{held-sized}
-use Rattle.records.proofs.Flattened.{flatten-length}
+use Rattle.records.proofs.EntryCounts.{held-sized}
+use Rattle.records.proofs.RecordNumbers.{flatten-length}
 use Rattle.records.proofs.Parts.{put-more}
 use Rattle.interpret.specs.Interpretation.{recordFor}
 use Rattle.interpret.specs.Steps.{referredBy}

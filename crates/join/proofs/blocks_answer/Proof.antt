@@ -1,7 +1,7 @@
 -- `blocks_answer` meets its contract: one law for each way out. Assumes nothing.
 use native.Mathlib.Omega.{arith}
 use borrow.Author.Needs.{needs}
-use Rattle.table.proofs.Formed.{formed-of}
+use Rattle.table.proofs.InForm.{formed-of}
 use Rattle.join.proofs.Ways.{way24, way25, way0}
 use Rattle.join.proofs.blocks_answer.Statement.{statement}
 use Rattle.join.proofs.blocks_answer.Tie as tie

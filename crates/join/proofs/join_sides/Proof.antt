@@ -1,6 +1,6 @@
 -- `join_sides` meets its contract: the left's parts, those of the right's blocks that are not in the left, and then the rows. Assumes nothing.
 use borrow.Author.Needs.{needs}
-use Rattle.join.proofs.Copied.{all-copied}
+use Rattle.join.proofs.CopyOrder.{all-copied}
 use Rattle.join.proofs.join_sides.Statement.{statement}
 use Rattle.join.proofs.join_sides.Tie as tie
 

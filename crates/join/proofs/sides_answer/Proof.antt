@@ -6,7 +6,7 @@ use borrow.Author.Needs.{needs}
 use borrow.Author.Tests.{not-true, not-false}
 use Rattle.table.specs.Layout.{tableSize}
 use Rattle.table.specs.Form.{inForm}
-use Rattle.table.proofs.Formed.{formed-of}
+use Rattle.table.proofs.InForm.{formed-of}
 use Rattle.join.specs.Join.{neitherRetired}
 use Rattle.join.specs.Promises.{BothFormed}
 use Rattle.join.proofs.Ways.{way2, way2-right, way12-left, way12-right, way12, way31, way23, way-on}

@@ -13,7 +13,7 @@ use Rattle.report.specs.Framing.{wanted}
 use Rattle.report.specs.Gathering.{Gathering, gathering, Progress, progress}
 use Rattle.report.specs.declared.State.{State}
 use Rattle.report.specs.declared.Gathered.{Gathered}
-use Rattle.report.proofs.Gathers.{within}
+use Rattle.report.proofs.GatheredLines.{within}
 use Rattle.listing.proofs.turn.Statement.{statement}
 use Rattle.listing.proofs.turn.Tie as tie
 

@@ -8,9 +8,9 @@ use borrow.Author.Tests.{not-true, not-false}
 use Rattle.table.specs.Layout.{countOf}
 use Rattle.table.specs.Form.{inForm}
 use Rattle.table.specs.Steps.{LastPlace}
-use Rattle.table.proofs.Formed.{formed-of, last-place}
+use Rattle.table.proofs.InForm.{formed-of, last-place}
 use Rattle.records.specs.Moving.{movedParts}
-use Rattle.retire.proofs.Turns.{out2, out12, out13, out29, out0}
+use Rattle.retire.proofs.Ways.{out2, out12, out13, out29, out0}
 use Rattle.retire.proofs.retire.Statement.{statement}
 use Rattle.retire.proofs.retire.Tie as tie
 

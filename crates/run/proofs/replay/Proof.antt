@@ -1,12 +1,12 @@
--- `replay` meets its contract: the loop keeps what proofs/Replayed.antt says of each turn. Assumes nothing.
+-- `replay` meets its contract: the loop keeps what proofs/ReplayInvariant.antt says of each turn. Assumes nothing.
 use mathlib.Core.Path.{ap, _∙_}
 use Prim.Native.Nat.{_+_, _-_, _≤_}
 use lib.ListN.{length}
 use borrow.Author.Needs.{needs}
 use Rattle.base.proofs.Parts.{rest-part}
 use Rattle.run.specs.Run.{Site}
-use Rattle.run.proofs.Encoded.{first-whole}
-use Rattle.run.proofs.Replayed.{Running, starts, finished, fits, goes-on}
+use Rattle.run.proofs.FrontCall.{first-whole}
+use Rattle.run.proofs.ReplayInvariant.{Running, starts, finished, fits, goes-on}
 use Rattle.run.proofs.replay.Statement.{statement}
 use Rattle.run.proofs.replay.Tie as tie
 

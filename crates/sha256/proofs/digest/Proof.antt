@@ -8,7 +8,7 @@ use denote.Ref.{now}
 use Rattle.sha256.specs.declared.rounds.State.{State}
 use Rattle.sha256.specs.Sha256.{pad, H0, hash, bytes, sha256}
 use Rattle.sha256.specs.Steps.{tailBlocks}
-use Rattle.sha256.proofs.Padded.{whole, end, hashed}
+use Rattle.sha256.proofs.PaddedMessage.{whole, end, hashed}
 use borrow.Author.Needs.{needs}
 use Rattle.sha256.proofs.digest.Statement.{statement}
 use Rattle.sha256.proofs.digest.Tie as tie

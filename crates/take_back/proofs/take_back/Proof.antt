@@ -8,8 +8,8 @@ use borrow.Author.Tests.{not-true, not-false}
 use Rattle.table.specs.Layout.{countOf}
 use Rattle.table.specs.Form.{inForm}
 use Rattle.table.specs.Steps.{LastPlace}
-use Rattle.table.proofs.Formed.{formed-of, last-place}
-use Rattle.take_back.proofs.Turns.{out2, out32, out33, out0}
+use Rattle.table.proofs.InForm.{formed-of, last-place}
+use Rattle.take_back.proofs.Ways.{out2, out32, out33, out0}
 use Rattle.take_back.proofs.take_back.Statement.{statement}
 use Rattle.take_back.proofs.take_back.Tie as tie
 

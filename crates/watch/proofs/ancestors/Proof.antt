@@ -9,8 +9,8 @@ use Rattle.table.specs.View.{maxPlaces}
 use Rattle.table.specs.Layout.{countOf, viewOf}
 use Rattle.table.specs.Form.{inForm}
 use Rattle.watch.specs.Ancestors.{ancestorMask, ancestors}
-use Rattle.watch.proofs.Ready.{ready, held-place, places-fit, refers-lower}
-use Rattle.watch.proofs.Gathered.{gathered-ancestors}
+use Rattle.watch.proofs.InForm.{ready, held-place, places-fit, refers-lower}
+use Rattle.watch.proofs.AncestorPass.{gathered-ancestors}
 use Rattle.watch.proofs.ancestors.Statement.{statement}
 use Rattle.watch.proofs.ancestors.Tie as tie
 

@@ -5,7 +5,7 @@ use borrow.Author.Needs.{needs}
 use borrow.Author.Tests.{not-true, not-false}
 use Rattle.table.specs.Form.{inForm}
 use Rattle.watch.specs.Forks.{forks}
-use Rattle.watch.proofs.Ready.{ready}
+use Rattle.watch.proofs.InForm.{ready}
 use Rattle.watch.proofs.forks.Statement.{statement}
 use Rattle.watch.proofs.forks.Tie as tie
 

@@ -19,10 +19,10 @@ use Rattle.table.specs.Layout.{countOf, viewOf}
 use Rattle.table.specs.Rules.{placeOf, parentRule}
 use Rattle.table.specs.Steps.{rowOf}
 use Rattle.table.proofs.Views.{same-refl, rule-reads}
-use Rattle.table.proofs.Formed.{formed-places}
+use Rattle.table.proofs.InForm.{formed-places}
 use Rattle.admission.specs.Admission.{missing, rowFor, heldChecks}
 use Rattle.admission.specs.Steps.{Ready, heldAnswer}
-use Rattle.admission.proofs.Referring.{first-missing, listed}
+use Rattle.admission.proofs.HeldReferences.{first-missing, listed}
 use Rattle.admission.proofs.held.held_answer.Statement.{statement}
 use Rattle.admission.proofs.held.held_answer.Tie as tie
 

@@ -16,7 +16,7 @@ use Rattle.block.specs.Layout.{referenceAt}
 use Rattle.table.specs.Layout.{countOf, viewOf}
 use Rattle.table.specs.Rules.{placeOf}
 use Rattle.table.specs.Steps.{Indexed}
-use Rattle.table.proofs.Formed.{formed-places}
+use Rattle.table.proofs.InForm.{formed-places}
 use Rattle.admission.proofs.LookUp.{names, namedBy, named-put, named-skip, absent, is-absent, is-there}
 use Rattle.admission.proofs.held.look_up.Statement.{statement}
 use Rattle.admission.proofs.held.look_up.Tie as tie

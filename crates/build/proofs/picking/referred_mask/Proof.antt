@@ -8,7 +8,7 @@ use borrow.Author.Needs.{needs}
 use Rattle.table.specs.View.{maxPlaces}
 use Rattle.table.specs.Layout.{countOf}
 use Rattle.table.specs.Steps.{Places}
-use Rattle.build.proofs.Referred.{referredBelow, referred-none, referred-here, referred-past}
+use Rattle.build.proofs.ReferredMask.{referredBelow, referred-none, referred-here, referred-past}
 use Rattle.build.proofs.picking.referred_mask.Statement.{statement}
 use Rattle.build.proofs.picking.referred_mask.Tie as tie
 

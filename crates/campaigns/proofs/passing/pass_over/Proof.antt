@@ -10,11 +10,11 @@ use Rattle.base.specs.Bytes.{Bytes}
 use Rattle.sha256.specs.Sha256.{sha256}
 use Rattle.answer.specs.Buffer.{putAnswers}
 use Rattle.shelf.specs.Layout.{waitingIn, shelfBytes}
-use Rattle.shelf.proofs.Laid.{laid-size, laid-count}
+use Rattle.shelf.proofs.Layout.{laid-size, laid-count}
 use Rattle.campaigns.specs.Passes.{outcomesOf, admits, pass}
 use Rattle.campaigns.specs.declared.Pass.{Pass}
-use Rattle.campaigns.proofs.Left.{Result, leftOf, left-none}
-use Rattle.campaigns.proofs.Going.{Going, goes-on, goes-down}
+use Rattle.campaigns.proofs.Turns.{Result, leftOf, left-none}
+use Rattle.campaigns.proofs.LoopInvariants.{Going, goes-on, goes-down}
 use Rattle.campaigns.proofs.passing.pass_over.Statement.{statement}
 use Rattle.campaigns.proofs.passing.pass_over.Tie as tie
 

@@ -18,9 +18,9 @@ use Rattle.answer.specs.declared.Answer.{Answer}
 use Rattle.shelf.specs.Layout.{Waiting, campaignAt, blockAt, waitingAt, waitingIn, shelfBytes}
 use Rattle.shelf.specs.Rules.{isFor}
 use Rattle.shelf.specs.Steps.{noWaiting, without}
-use Rattle.shelf.proofs.Laid.{laid-size, laid-entry, laid-entry-of}
+use Rattle.shelf.proofs.Layout.{laid-size, laid-entry, laid-entry-of}
 use Rattle.admission.specs.Admission.{admission, admitted}
-use Rattle.admission.proofs.Kept.{refused-table}
+use Rattle.admission.proofs.Effect.{refused-table}
 use Rattle.campaigns.specs.Passes.{outcome}
 use Rattle.campaigns.specs.Steps.{Standing, turned}
 use Rattle.campaigns.specs.declared.Pass.{Pass}

@@ -3,7 +3,7 @@ use Prim.Native.Nat.{_≤_}
 use native.Mathlib.Omega.{arith}
 use borrow.Author.Needs.{needs}
 use Rattle.setup.specs.Setup.{maxSites}
-use Rattle.records.proofs.Typed.{held-sized}
+use Rattle.records.proofs.EntryCounts.{held-sized}
 use Rattle.interpret.specs.Steps.{directsOf}
 use Rattle.interpret.proofs.Turns.{heard-kinds}
 use Rattle.interpret.proofs.hearing.hear_all.Statement.{statement}

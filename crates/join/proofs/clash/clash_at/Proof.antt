@@ -5,9 +5,9 @@ use Prim.Native.Nat.{_<_}
 use native.Mathlib.Omega.{arith}
 use borrow.Author.Needs.{needs}
 use Rattle.table.specs.Layout.{countOf, digestAt, viewOf}
-use Rattle.table.proofs.Formed.{formed-of}
+use Rattle.table.proofs.InForm.{formed-of}
 use Rattle.join.specs.Join.{sameBlock, placeIn}
-use Rattle.join.proofs.Clashing.{none-there, one-there}
+use Rattle.join.proofs.ClashByPlaces.{none-there, one-there}
 use Rattle.join.proofs.clash.clash_at.Statement.{statement}
 use Rattle.join.proofs.clash.clash_at.Tie as tie
 

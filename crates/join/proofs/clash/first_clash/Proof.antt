@@ -6,7 +6,7 @@ use borrow.Author.Needs.{needs}
 use Rattle.base.specs.Search.{firstBelow}
 use Rattle.base.proofs.Search.{first-none, first-past, first-hit, first-end}
 use Rattle.table.specs.Layout.{countOf, viewOf}
-use Rattle.table.proofs.Formed.{formed-of}
+use Rattle.table.proofs.InForm.{formed-of}
 use Rattle.join.specs.Join.{clashAt}
 use Rattle.join.specs.Promises.{BothFormed}
 use Rattle.join.specs.Steps.{Held}

@@ -10,10 +10,10 @@ use Rattle.setup.specs.Setup.{slotCount}
 use Rattle.table.specs.View.{maxPlaces}
 use Rattle.table.specs.Layout.{siteAt, sequenceAt, referencesAt, requestAt, viewOf}
 use Rattle.table.specs.Steps.{Place}
-use Rattle.table.proofs.Formed.{formed-of}
+use Rattle.table.proofs.InForm.{formed-of}
 use Rattle.join.specs.Join.{refersWithin}
 use Rattle.join.specs.Steps.{withinBy}
-use Rattle.join.proofs.Clashing.{within-is, other-site, other-sequence, other-request, other-reference, last-test}
+use Rattle.join.proofs.ClashByPlaces.{within-is, other-site, other-sequence, other-request, other-reference, last-test}
 use Rattle.join.proofs.clash.same_block.Statement.{statement}
 use Rattle.join.proofs.clash.same_block.Tie as tie
 

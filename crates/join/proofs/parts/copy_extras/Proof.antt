@@ -8,11 +8,11 @@ use borrow.Author.Needs.{needs}
 use Rattle.base.specs.Bytes.{splice}
 use Rattle.table.specs.View.{maxPlaces}
 use Rattle.table.specs.Layout.{countOf, viewOf}
-use Rattle.table.proofs.Formed.{formed-of}
+use Rattle.table.proofs.InForm.{formed-of}
 use Rattle.records.specs.Layout.{bufferSize, partStart}
 use Rattle.join.specs.Join.{handedBack}
 use Rattle.join.specs.Steps.{Sides, Joinable, Numbered, extrasBelow}
-use Rattle.join.proofs.Handing.{copy-length, extra-more, held-more, extra-low}
+use Rattle.join.proofs.PartSteps.{copy-length, extra-more, held-more, extra-low}
 use Rattle.join.proofs.parts.copy_extras.Statement.{statement}
 use Rattle.join.proofs.parts.copy_extras.Tie as tie
 

@@ -6,11 +6,11 @@ use lib.ListN.{length}
 use borrow.Author.Needs.{needs}
 use Rattle.table.specs.View.{maxPlaces}
 use Rattle.table.specs.Layout.{countOf, viewOf}
-use Rattle.table.proofs.Formed.{formed-of}
+use Rattle.table.proofs.InForm.{formed-of}
 use Rattle.records.specs.Layout.{bufferSize}
 use Rattle.join.specs.Join.{copiedBelow}
 use Rattle.join.specs.Steps.{Sides, Joinable, Held}
-use Rattle.join.proofs.Handing.{copy-length, copy-more}
+use Rattle.join.proofs.PartSteps.{copy-length, copy-more}
 use Rattle.join.proofs.parts.copy_left.Statement.{statement}
 use Rattle.join.proofs.parts.copy_left.Tie as tie
 

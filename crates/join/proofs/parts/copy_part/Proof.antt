@@ -7,7 +7,7 @@ use borrow.Author.Needs.{needs}
 use Rattle.base.specs.Bytes.{splice}
 use Rattle.table.specs.Layout.{viewOf}
 use Rattle.records.specs.Layout.{partStart}
-use Rattle.join.proofs.Handing.{handed-short}
+use Rattle.join.proofs.PartSteps.{handed-short}
 use Rattle.join.proofs.parts.copy_part.Statement.{statement}
 use Rattle.join.proofs.parts.copy_part.Tie as tie
 

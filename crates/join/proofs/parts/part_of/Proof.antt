@@ -5,10 +5,10 @@ use Prim.Native.Nat.{_<_}
 use borrow.Author.Needs.{needs}
 use Rattle.table.specs.View.{maxPlaces}
 use Rattle.table.specs.Layout.{viewOf}
-use Rattle.table.proofs.Formed.{formed-places}
+use Rattle.table.proofs.InForm.{formed-places}
 use Rattle.join.specs.Join.{interpretedAt}
-use Rattle.join.proofs.Referred.{interpreted-low}
-use Rattle.join.proofs.Handing.{from-left, from-right, from-neither}
+use Rattle.join.proofs.References.{interpreted-low}
+use Rattle.join.proofs.PartSteps.{from-left, from-right, from-neither}
 use Rattle.join.proofs.parts.part_of.Statement.{statement}
 use Rattle.join.proofs.parts.part_of.Tie as tie
 

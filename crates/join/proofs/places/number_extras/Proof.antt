@@ -6,9 +6,9 @@ use native.Mathlib.Omega.{arith}
 use borrow.Author.Needs.{needs}
 use Rattle.table.specs.View.{maxPlaces}
 use Rattle.table.specs.Layout.{countOf}
-use Rattle.table.proofs.Formed.{formed-of}
+use Rattle.table.proofs.InForm.{formed-of}
 use Rattle.join.specs.Promises.{BothFormed, placeBehind}
-use Rattle.join.proofs.Placed.{NumberedBelow, number-start, number-held, number-extra}
+use Rattle.join.proofs.PlaceLists.{NumberedBelow, number-start, number-held, number-extra}
 use Rattle.join.proofs.places.number_extras.Statement.{statement}
 use Rattle.join.proofs.places.number_extras.Tie as tie
 

@@ -6,9 +6,9 @@ use borrow.Author.Needs.{needs}
 use Rattle.table.specs.Layout.{countOf, viewOf}
 use Rattle.table.specs.Rules.{placeOf}
 use Rattle.table.specs.Steps.{indexOf}
-use Rattle.table.proofs.Formed.{formed-of}
+use Rattle.table.proofs.InForm.{formed-of}
 use Rattle.join.specs.Promises.{BothFormed}
-use Rattle.join.proofs.Placed.{HeldBelow, held-next, found-few}
+use Rattle.join.proofs.PlaceLists.{HeldBelow, held-next, found-few}
 use Rattle.join.proofs.places.place_all.Statement.{statement}
 use Rattle.join.proofs.places.place_all.Tie as tie
 

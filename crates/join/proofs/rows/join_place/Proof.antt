@@ -7,7 +7,7 @@ use borrow.Author.Needs.{needs}
 use Rattle.table.specs.Layout.{countOf, withRow}
 use Rattle.table.specs.Steps.{rowWith}
 use Rattle.join.specs.Steps.{renumberedBy}
-use Rattle.join.proofs.Standing.{table-sized, right-place, each, next-place, put-is, mark-is, leave-is}
+use Rattle.join.proofs.PlacesInvariant.{table-sized, right-place, each, next-place, put-is, mark-is, leave-is}
 use Rattle.join.proofs.rows.join_place.Statement.{statement}
 use Rattle.join.proofs.rows.join_place.Tie as tie
 

@@ -7,10 +7,10 @@ use borrow.Author.Needs.{needs}
 use Rattle.base.specs.Bytes.{Bytes}
 use Rattle.table.specs.View.{maxPlaces}
 use Rattle.table.specs.Layout.{countOf, viewOf}
-use Rattle.table.proofs.Formed.{formed-of}
+use Rattle.table.proofs.InForm.{formed-of}
 use Rattle.join.specs.Join.{joinPlace, joinBelow}
 use Rattle.join.specs.Steps.{Joinable, Numbered}
-use Rattle.join.proofs.Joining.{below-size}
+use Rattle.join.proofs.TableInvariant.{below-size}
 use Rattle.join.proofs.rows.join_rows.Statement.{statement}
 use Rattle.join.proofs.rows.join_rows.Tie as tie
 

@@ -10,7 +10,7 @@ use Rattle.base.proofs.Splice.{stored-behind}
 use Rattle.broadcast.specs.declared.SlotRecord.{SlotRecord}
 use Rattle.broadcast.proofs.Steps.{Sized}
 use Rattle.records.specs.Layout.{echoesOffset, readiesOffset, madeOffset, sentNumbers, flatten}
-use Rattle.records.proofs.Typed.{held-sized}
+use Rattle.records.proofs.EntryCounts.{held-sized}
 use Rattle.records.proofs.numbers.put_record.Statement.{statement}
 use Rattle.records.proofs.numbers.put_record.Tie as tie
 

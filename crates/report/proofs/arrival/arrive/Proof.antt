@@ -6,7 +6,7 @@ use Rattle.block.specs.Promises.{Shaped}
 use Rattle.run.specs.Run.{Site}
 use Rattle.report.specs.Listing.{siteArrived}
 use Rattle.report.specs.Framing.{linesOf}
-use Rattle.report.proofs.Arrived.{refused-table, refused-records, refused-lines, taken-table, taken-records, uninterpreted-lines, shape-there, place-there, delivered-lines}
+use Rattle.report.proofs.ArrivalStep.{refused-table, refused-records, refused-lines, taken-table, taken-records, uninterpreted-lines, shape-there, place-there, delivered-lines}
 use Rattle.report.proofs.arrival.arrive.Statement.{statement}
 use Rattle.report.proofs.arrival.arrive.Tie as tie
 

@@ -12,8 +12,8 @@ use Rattle.setup.specs.Setup.{slotCount}
 use Rattle.report.specs.Text.{deliveryText}
 use Rattle.report.specs.Listing.{delivery, deliveryLines}
 use Rattle.report.specs.Framing.{lineSize, linesSize}
-use Rattle.report.proofs.Behind.{Put, put-nothing, put-behind, put-keeps}
-use Rattle.report.proofs.Handed.{Front, handed-lines}
+use Rattle.report.proofs.Appending.{Put, put-nothing, put-behind, put-keeps}
+use Rattle.report.proofs.LinesOut.{Front, handed-lines}
 use Rattle.report.proofs.arrival.delivery_lines.Statement.{statement}
 use Rattle.report.proofs.arrival.delivery_lines.Tie as tie
 

@@ -3,7 +3,7 @@ use native.Mathlib.Omega.{arith}
 use borrow.Author.Needs.{needs}
 use borrow.Author.Tests.{eq-eqb, ne-eqb}
 use Rattle.report.specs.Text.{deliveryLine, deliveryText}
-use Rattle.report.proofs.Behind.{put-nothing}
+use Rattle.report.proofs.Appending.{put-nothing}
 use Rattle.report.proofs.arrival.put_delivery.Statement.{statement}
 use Rattle.report.proofs.arrival.put_delivery.Tie as tie
 

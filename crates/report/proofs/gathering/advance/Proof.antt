@@ -9,8 +9,8 @@ use Rattle.base.specs.Bytes.{Bytes, splice}
 use Rattle.sha256.specs.Sha256.{sha256}
 use Rattle.report.specs.Framing.{wanted, siteStepped, linesSize}
 use Rattle.report.specs.Gathering.{siteWith}
-use Rattle.report.proofs.Handed.{handed-fits}
-use Rattle.report.proofs.Advanced.{piece-cut, step-advances, step-lines}
+use Rattle.report.proofs.LinesOut.{handed-fits}
+use Rattle.report.proofs.GatheringStep.{piece-cut, step-advances, step-lines}
 use Rattle.report.proofs.gathering.advance.Statement.{statement}
 use Rattle.report.proofs.gathering.advance.Tie as tie
 

@@ -9,9 +9,9 @@ use Rattle.base.specs.Bytes.{Bytes, splice}
 use Rattle.run.specs.Run.{Site}
 use Rattle.report.specs.Gathering.{siteWith, Gathering, isDue, gatheredOf}
 use Rattle.report.specs.declared.Gathered.{Gathered}
-use Rattle.report.proofs.AllDue.{work}
-use Rattle.report.proofs.Advanced.{soFar, Leads, leads-start, leads-end, leads-less, leads-next, same-size, has-room}
-use Rattle.report.proofs.Behind.{Put}
+use Rattle.report.proofs.Termination.{work}
+use Rattle.report.proofs.GatheringStep.{soFar, Leads, leads-start, leads-end, leads-less, leads-next, same-size, has-room}
+use Rattle.report.proofs.Appending.{Put}
 use Rattle.report.proofs.gathering.gather.Statement.{statement}
 use Rattle.report.proofs.gathering.gather.Tie as tie
 

@@ -6,7 +6,7 @@ use native.Mathlib.Omega.{arith}
 use borrow.Author.Needs.{needs}
 use borrow.Author.Tests.{not-true, not-false}
 use Rattle.report.specs.Framing.{wanted}
-use Rattle.report.proofs.Due.{nothing-wanted, bytes-there, bytes-missing, none-to-come}
+use Rattle.report.proofs.DueStep.{nothing-wanted, bytes-there, bytes-missing, none-to-come}
 use Rattle.report.proofs.gathering.is_due.Statement.{statement}
 use Rattle.report.proofs.gathering.is_due.Tie as tie
 

@@ -1,7 +1,7 @@
 -- `names` meets its contract. Assumes nothing.
 use borrow.Author.Needs.{needs}
 use Rattle.report.specs.Text.{names}
-use Rattle.report.proofs.Handed.{at-front, handed-lines}
+use Rattle.report.proofs.LinesOut.{at-front, handed-lines}
 use Rattle.report.proofs.text.names.Statement.{statement}
 use Rattle.report.proofs.text.names.Tie as tie
 

@@ -5,8 +5,8 @@ use borrow.Author.Needs.{needs}
 use lib.ListN.{replicate}
 use Rattle.report.specs.Text.{names, setupLine}
 use Rattle.report.specs.Framing.{linesSize}
-use Rattle.report.proofs.Behind.{put-behind, put-keeps}
-use Rattle.report.proofs.Handed.{at-front, handed-lines}
+use Rattle.report.proofs.Appending.{put-behind, put-keeps}
+use Rattle.report.proofs.LinesOut.{at-front, handed-lines}
 use Rattle.report.proofs.text.names_and_refusal.Statement.{statement}
 use Rattle.report.proofs.text.names_and_refusal.Tie as tie
 

@@ -5,7 +5,7 @@ use Prim.Native.Nat.{_+_}
 use native.Mathlib.Omega.{arith}
 use borrow.Author.Needs.{needs}
 use Rattle.report.specs.Text.{fieldText}
-use Rattle.report.proofs.Behind.{Put, put-behind}
+use Rattle.report.proofs.Appending.{Put, put-behind}
 use Rattle.report.proofs.text.put_field.Statement.{statement}
 use Rattle.report.proofs.text.put_field.Tie as tie
 

@@ -11,7 +11,7 @@ use Rattle.report.specs.Text.{fieldText, fieldCount, ending, line}
 use Rattle.report.specs.Framing.{fieldSize}
 use Rattle.report.specs.declared.Field.{Field}
 use Rattle.report.specs.declared.Field.the-variants.{Number}
-use Rattle.report.proofs.Behind.{Put, put-nothing, put-behind, put-keeps}
+use Rattle.report.proofs.Appending.{Put, put-nothing, put-behind, put-keeps}
 use Rattle.report.proofs.text.put_line.Statement.{statement}
 use Rattle.report.proofs.text.put_line.Tie as tie
 

@@ -1,7 +1,7 @@
 -- `refused` meets its contract. Assumes nothing.
 use borrow.Author.Needs.{needs}
 use Rattle.report.specs.Text.{refusedLine}
-use Rattle.report.proofs.Handed.{handed-lines}
+use Rattle.report.proofs.LinesOut.{handed-lines}
 use Rattle.report.proofs.text.refused.Statement.{statement}
 use Rattle.report.proofs.text.refused.Tie as tie
 

@@ -3,7 +3,7 @@ use mathlib.Core.Path.{ap, _∙_}
 use Prim.Native.Nat.{ℕ, _+_}
 use native.Mathlib.Omega.{arith}
 use borrow.Author.Needs.{needs}
-use Rattle.run.proofs.Encoded.{way-empty, way-retiring, way-taking-back, way-short, way-interpretation, way-other, way-cut, way-cut-block, way-admission}
+use Rattle.run.proofs.FrontCall.{way-empty, way-retiring, way-taking-back, way-short, way-interpretation, way-other, way-cut, way-cut-block, way-admission}
 use Rattle.run.proofs.call.first_size.Statement.{statement}
 use Rattle.run.proofs.call.first_size.Tie as tie
 

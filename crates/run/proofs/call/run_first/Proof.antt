@@ -3,9 +3,9 @@ use Prim.Native.Nat.{_+_, _≤_}
 use native.Mathlib.Omega.{arith}
 use lib.ListN.{length}
 use borrow.Author.Needs.{needs}
-use Rattle.base.specs.Word.{wordAt}
+use Rattle.base.specs.LowFirst.{wordAt}
 use Rattle.run.specs.Encoding.{admissionHeader, interpretationSize}
-use Rattle.run.proofs.First.{ran-admission, ran-interpretation, ran-retiring, ran-taking-back}
+use Rattle.run.proofs.FrontCallRun.{ran-admission, ran-interpretation, ran-retiring, ran-taking-back}
 use Rattle.run.proofs.call.run_first.Statement.{statement}
 use Rattle.run.proofs.call.run_first.Tie as tie
 

@@ -3,7 +3,7 @@ use mathlib.Core.Path.{ap, _∙_}
 use Prim.Native.Nat.{ℕ}
 use lib.ListN.{take, drop}
 use borrow.Author.Needs.{needs}
-use Rattle.base.specs.Word.{wordSize, word}
+use Rattle.base.specs.LowFirst.{wordSize, word}
 use Rattle.base.proofs.Parts.{part-size}
 use Rattle.run.proofs.call.word_at.Statement.{statement}
 use Rattle.run.proofs.call.word_at.Tie as tie

@@ -7,7 +7,7 @@ use mathlib.Core.List.{List, _∷_, _++_}
 use lib.ListN.{length, take, drop, set, length-take, length-drop, length-replicate, replicate-append-replicate}
 use lib.Seq.{take-length, take-all, drop-at, set-at}
 use denote.Ref.{now}
-use Rattle.sha256.proofs.Padded.{zs}
+use Rattle.sha256.proofs.PaddedMessage.{zs}
 use borrow.Author.Needs.{needs}
 use Rattle.sha256.proofs.padding.put_rest.Statement.{statement}
 use Rattle.sha256.proofs.padding.put_rest.Tie as tie

@@ -9,7 +9,7 @@ use denote.Ref.{now}
 use Rattle.base.specs.Bytes.{splice}
 use Rattle.sha256.specs.Sha256.{bytesOf, pad}
 use Rattle.sha256.specs.Steps.{tailBlocks}
-use Rattle.sha256.proofs.Padded.{whole, end, bits, rest, tail-is}
+use Rattle.sha256.proofs.PaddedMessage.{whole, end, bits, rest, tail-is}
 use borrow.Author.Needs.{needs}
 use Rattle.sha256.proofs.padding.put_tail.Statement.{statement}
 use Rattle.sha256.proofs.padding.put_tail.Tie as tie

@@ -14,8 +14,8 @@ use Rattle.base.proofs.List.{length-list, list-at}
 use Rattle.table.specs.Layout.{countOf, digestAt, viewOf}
 use Rattle.table.specs.Rules.{hasDigest}
 use Rattle.table.specs.Steps.{Indexed, lastOf, byteCount}
-use Rattle.table.proofs.Formed.{formed-places}
-use Rattle.table.proofs.ByFirstByte.{last-le, not-past, only-place}
+use Rattle.table.proofs.InForm.{formed-places}
+use Rattle.table.proofs.DigestIndex.{last-le, not-past, only-place}
 use Rattle.table.proofs.index.find.Statement.{statement}
 use Rattle.table.proofs.index.find.Tie as tie
 

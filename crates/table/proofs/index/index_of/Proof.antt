@@ -8,8 +8,8 @@ use Rattle.base.specs.Bytes.{Bytes}
 use Rattle.base.specs.List.{listBelow}
 use Rattle.table.specs.Layout.{countOf}
 use Rattle.table.specs.Steps.{Places, lastOf, byteCount, indexBelow}
-use Rattle.table.proofs.Formed.{formed-of, formed-places}
-use Rattle.table.proofs.ByFirstByte.{index-more}
+use Rattle.table.proofs.InForm.{formed-of, formed-places}
+use Rattle.table.proofs.DigestIndex.{index-more}
 use Rattle.table.proofs.index.index_of.Statement.{statement}
 use Rattle.table.proofs.index.index_of.Tie as tie
 

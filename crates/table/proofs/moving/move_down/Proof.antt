@@ -1,6 +1,6 @@
 -- `move_down` meets its contract: the rows, zeros at the old last place, then the mark and the count. Assumes nothing.
 use borrow.Author.Needs.{needs}
-use Rattle.table.proofs.Moved.{down-is}
+use Rattle.table.proofs.MoveSteps.{down-is}
 use Rattle.table.proofs.moving.move_down.Statement.{statement}
 use Rattle.table.proofs.moving.move_down.Tie as tie
 

@@ -9,8 +9,8 @@ use Rattle.base.proofs.Splice.{length-splice}
 use Rattle.table.specs.View.{maxPlaces}
 use Rattle.table.specs.Layout.{rowsOffset, tableSize}
 use Rattle.table.specs.Writing.{movedRows}
-use Rattle.table.proofs.Lowered.{rows-length}
-use Rattle.table.proofs.Moved.{rows-turn, none-moved}
+use Rattle.table.proofs.LoweredRows.{rows-length}
+use Rattle.table.proofs.MoveSteps.{rows-turn, none-moved}
 use Rattle.table.proofs.moving.move_rows.Statement.{statement}
 use Rattle.table.proofs.moving.move_rows.Tie as tie
 

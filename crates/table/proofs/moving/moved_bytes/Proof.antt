@@ -9,7 +9,7 @@ use Rattle.base.specs.Bytes.{Bytes}
 use Rattle.base.proofs.Parts.{part-size}
 use Rattle.table.specs.Layout.{rowSize, rowStart}
 use Rattle.table.proofs.RowBytes.{rowPart}
-use Rattle.table.proofs.Moved.{moved-is}
+use Rattle.table.proofs.MoveSteps.{moved-is}
 use Rattle.table.proofs.moving.moved_bytes.Statement.{statement}
 use Rattle.table.proofs.moving.moved_bytes.Tie as tie
 

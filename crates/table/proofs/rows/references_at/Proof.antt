@@ -1,7 +1,7 @@
 -- `references_at` meets its contract. Assumes nothing.
 use Prim.Native.Nat.{_+_}
 use borrow.Author.Needs.{needs}
-use Rattle.base.specs.Word.{wordSize}
+use Rattle.base.specs.LowFirst.{wordSize}
 use Rattle.base.proofs.Parts.{part-size}
 use Rattle.table.specs.Layout.{rowStart, referencesOffset}
 use Rattle.table.proofs.rows.references_at.Statement.{statement}

@@ -1,6 +1,6 @@
 -- `clear_last` meets its contract: zeros, then the count. Assumes nothing.
 use borrow.Author.Needs.{needs}
-use Rattle.table.proofs.Cleared.{cleared-is}
+use Rattle.table.proofs.ClearedRow.{cleared-is}
 use Rattle.table.proofs.writing.clear_last.Statement.{statement}
 use Rattle.table.proofs.writing.clear_last.Tie as tie
 

@@ -7,7 +7,7 @@ use Rattle.base.specs.Bytes.{splice}
 use Rattle.base.proofs.Parts.{part-size}
 use Rattle.table.specs.Layout.{rowSize, rowStart}
 use Rattle.table.specs.Steps.{rowWith, withReferences}
-use Rattle.table.proofs.Written.{carried-bytes, row-counted}
+use Rattle.table.proofs.WriteSteps.{carried-bytes, row-counted}
 use Rattle.table.proofs.writing.put_carried.Statement.{statement}
 use Rattle.table.proofs.writing.put_carried.Tie as tie
 

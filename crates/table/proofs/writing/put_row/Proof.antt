@@ -1,7 +1,7 @@
 -- `put_row` meets its contract: the row, then the count. Assumes nothing.
 use borrow.Author.Needs.{needs}
 use Rattle.table.specs.Steps.{newRow}
-use Rattle.table.proofs.Written.{row-counted}
+use Rattle.table.proofs.WriteSteps.{row-counted}
 use Rattle.table.proofs.writing.put_row.Statement.{statement}
 use Rattle.table.proofs.writing.put_row.Tie as tie
 

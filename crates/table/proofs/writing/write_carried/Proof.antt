@@ -4,7 +4,7 @@ use native.Mathlib.Omega.{arith}
 use borrow.Author.Needs.{needs}
 use Rattle.base.proofs.Parts.{rest-part}
 use Rattle.table.specs.Layout.{requestsOffset}
-use Rattle.table.proofs.Written.{carried-written}
+use Rattle.table.proofs.WriteSteps.{carried-written}
 use Rattle.table.proofs.writing.write_carried.Statement.{statement}
 use Rattle.table.proofs.writing.write_carried.Tie as tie
 

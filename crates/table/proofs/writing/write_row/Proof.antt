@@ -1,6 +1,6 @@
 -- `write_row` meets its contract: the fields are put one behind the other, in the layout's order. Assumes nothing.
 use borrow.Author.Needs.{needs}
-use Rattle.table.proofs.Written.{row-written}
+use Rattle.table.proofs.WriteSteps.{row-written}
 use Rattle.table.proofs.writing.write_row.Statement.{statement}
 use Rattle.table.proofs.writing.write_row.Tie as tie
 

@@ -17,7 +17,7 @@ use Rattle.setup.specs.Setup.{maxSites}
 use Rattle.table.specs.Layout.{setupOf, countOf, siteAt, viewOf}
 use Rattle.watch.specs.Forks.{everywhere, repeatedAt, forkedIn}
 use Rattle.watch.specs.Steps.{Ready, sequencePrint, sequencePrintsMet}
-use Rattle.watch.proofs.OnePass.{print-lt, forkedBelow, forked-put, forked-skip}
+use Rattle.watch.proofs.ForkPass.{print-lt, forkedBelow, forked-put, forked-skip}
 use Rattle.watch.proofs.sites.forked_mask.Statement.{statement}
 use Rattle.watch.proofs.sites.forked_mask.Tie as tie
 

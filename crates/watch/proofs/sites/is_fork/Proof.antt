@@ -8,8 +8,8 @@ use borrow.Author.Tests.{not-true}
 use Rattle.base.specs.Mask.{inMask}
 use Rattle.table.specs.Layout.{viewOf}
 use Rattle.watch.specs.Forks.{everywhere, repeatedAt}
-use Rattle.watch.proofs.Everywhere.{everywhere-mask}
-use Rattle.watch.proofs.OnePass.{print-lt, new-sequence}
+use Rattle.watch.proofs.FullMask.{everywhere-mask}
+use Rattle.watch.proofs.ForkPass.{print-lt, new-sequence}
 use Rattle.watch.proofs.sites.is_fork.Statement.{statement}
 use Rattle.watch.proofs.sites.is_fork.Tie as tie
 

@@ -1,0 +1,50 @@
+-- What a listing shows, and the theorem of two sites: two listings of one setup never show two numbers for one slot while at most f sites
+-- forked, told first by what is shown and then by the lines of their texts; proofs/TwoListings.antt shows it.
+use mathlib.Core.Path.{_≡_}
+use mathlib.Core.Bool.{true}
+use mathlib.Core.List.{List, _++_, List·Memᴰ}
+use Prim.Native.Nat.{ℕ, _≤_, _<_}
+use lib.ListN.{length, drop}
+use Rattle.base.specs.Bytes.{Bytes}
+use Rattle.base.specs.Count.{countBelow}
+use Rattle.sha256.specs.Sha256.{sha256}
+use Rattle.setup.specs.Setup.{Setup, lawful, faults, slotCount}
+use Rattle.records.specs.Layout.{bufferSize}
+use Rattle.history.specs.Forks.{forked, NoCollision}
+use Rattle.run.specs.Run.{started}
+use Rattle.run.specs.Promises.{ledgerOf}
+use Rattle.report.specs.declared.Delivery.{Delivery}
+use Rattle.report.specs.Text.{deliveryLine}
+use Rattle.report.specs.Arrivals.{Arrival, setupSize, setupIn, arrivalsIn}
+use Rattle.report.specs.ListingCalls.{callsOf, Settled, Shows}
+use Rattle.report.specs.Lines.{linesIn, text}
+
+-- two inputs of one setup, each listed with a record buffer of any content
+module _ (s : Setup) (buffer₁ buffer₂ : List ℕ) (arrivals₁ arrivals₂ : List Arrival) where
+  -- the blocks that either listing admitted
+  abbrev pub blocks : List Bytes
+  blocks =
+      ledgerOf sha256 s buffer₁ (callsOf (started s buffer₁) arrivals₁) .blocks
+      ++ ledgerOf sha256 s buffer₂ (callsOf (started s buffer₂) arrivals₂) .blocks
+
+  pub record Agreed : Type 0 where
+    -- every block that is admitted is interpreted, so no line needs 12 to 15
+    pub settled : length buffer₁ ≡ bufferSize → Settled (started s buffer₁) arrivals₁
+    -- where at most f sites forked, the lines of the two listings have one number for a slot
+    pub oneNumber : NoCollision sha256 blocks → countBelow (forked blocks) (s .sites) ≤ faults (s .sites)
+        → (slot v w : ℕ) → slot < slotCount → Shows (started s buffer₁) arrivals₁ slot v → Shows (started s buffer₂) arrivals₂ slot w → v ≡ w
+
+-- two inputs of one lawful setup, each listed with a record buffer of any content
+module _ (buffer₁ buffer₂ : List ℕ) (input₁ input₂ : Bytes) where
+  abbrev pub setup : Setup
+  setup = setupIn input₁
+
+  -- the blocks that either listing admitted
+  abbrev pub admitted : List Bytes
+  admitted = blocks setup buffer₁ buffer₂ (arrivalsIn (drop setupSize input₁)) (arrivalsIn (drop setupSize input₂))
+
+  pub record OneNumber : Type 0 where
+    -- where at most f sites forked, the deliveries' lines of the two texts have one number for a slot
+    pub oneNumber : lawful setup ≡ true → setupIn input₂ ≡ setup → NoCollision sha256 admitted → countBelow (forked admitted) (setup .sites) ≤ faults (setup .sites)
+        → (d e : Delivery) → List·Memᴰ (deliveryLine d) (linesIn (text buffer₁ input₁)) → List·Memᴰ (deliveryLine e) (linesIn (text buffer₂ input₂))
+        → d .slot ≡ e .slot → d .number ≡ e .number

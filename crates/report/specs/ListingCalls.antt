@@ -1,0 +1,40 @@
+-- The calls that the arrivals of a listing make, and what its lines show. proofs/InterpretationInvariant.antt shows that no interpretation is refused, and
+-- proofs/Deliveries.antt that what is shown is delivered in the ledger of these calls.
+use mathlib.Core.Path.{_≡_}
+use mathlib.Core.Bool.{cond}
+use mathlib.Core.Logic.{_≢_}
+use mathlib.Core.List.{List, [], _∷_, _++_}
+use Prim.Native.Nat.{ℕ}
+use lib.Dec.{eqb}
+use Rattle.base.specs.Bytes.{Bytes}
+use Rattle.sha256.specs.Sha256.{sha256}
+use Rattle.records.specs.Layout.{deliveredIn}
+use Rattle.run.specs.Ledger.{Call, admit}
+use Rattle.run.specs.Run.{Site}
+use Rattle.report.specs.Arrivals.{Arrival, arrived, unread}
+use Rattle.report.specs.Listing.{admissionAnswer, interpretationCall, siteArrived, arrivalRefusal}
+
+-- the calls that arrivals make at a site
+unfoldable pub callsOf : Site → List Arrival → List Call
+callsOf x [] = []
+callsOf x (unread ∷ rest) = callsOf x rest
+callsOf x (arrived b verdict ∷ rest) =
+    admit b verdict
+    ∷ (cond (eqb (admissionAnswer sha256 x b verdict .refusal) 0) (interpretationCall sha256 x b verdict ∷ []) []
+    ++ callsOf (siteArrived sha256 x b verdict) rest)
+
+-- no interpretation is refused: what a line's refusal shows is the admission's
+unfoldable pub Settled : Site → List Arrival → Type 0
+Settled x [] = Unit {0}
+Settled x (unread ∷ rest) = Settled x rest
+Settled x (arrived b verdict ∷ rest) =
+    (arrivalRefusal sha256 x b verdict ≡ admissionAnswer sha256 x b verdict .refusal) × Settled (siteArrived sha256 x b verdict) rest
+
+-- a line of the listing shows this number delivered in the slot
+pub data Shows : Site → List Arrival → ℕ → ℕ → Type 0 where
+  here : {x : Site} {b : Bytes} {verdict slot v : ℕ} {rest : List Arrival} → arrivalRefusal sha256 x b verdict ≡ 0
+      → deliveredIn (siteArrived sha256 x b verdict .records) (admissionAnswer sha256 x b verdict .value) slot ≡ v → v ≢ 0
+      → Shows x (arrived b verdict ∷ rest) slot v
+  later : {x : Site} {b : Bytes} {verdict slot v : ℕ} {rest : List Arrival} → Shows (siteArrived sha256 x b verdict) rest slot v
+      → Shows x (arrived b verdict ∷ rest) slot v
+  past : {x : Site} {slot v : ℕ} {rest : List Arrival} → Shows x rest slot v → Shows x (unread ∷ rest) slot v

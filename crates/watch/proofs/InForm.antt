@@ -1,0 +1,37 @@
+-- What the test for form shows of a table, as the watch needs it. Assumes nothing.
+use mathlib.Core.Path.{_≡_}
+use mathlib.Core.Bool.{true}
+use Prim.Native.Nat.{ℕ, _≤_, _<_}
+use native.Mathlib.Omega.{arith}
+use Rattle.base.specs.Bytes.{Bytes}
+use Rattle.setup.proofs.Thresholds.{sites-lawful, sites-few}
+use Rattle.table.specs.View.{maxPlaces}
+use Rattle.table.specs.Layout.{setupOf, countOf, viewOf}
+use Rattle.table.specs.Form.{inForm}
+use Rattle.table.specs.Steps.{Place}
+use Rattle.table.proofs.Views.{RowForm, row-form}
+use Rattle.table.proofs.InForm.{formed-of, formed-places}
+use Rattle.watch.specs.Steps.{Ready}
+use Rattle.watch.proofs.AncestorTest.{RefersLower}
+
+module _ (t : Bytes) (e : inForm t ≡ true) where
+  pub places-fit : countOf t ≤ maxPlaces
+  places-fit = formed-of t e .held .fits
+
+  pub row-formed : (i : ℕ) → i < countOf t → RowForm (setupOf t) (viewOf t) i
+  row-formed i h = row-form (setupOf t) (viewOf t) i (formed-of t e .held .rows i h)
+
+  pub refers-lower : RefersLower (viewOf t)
+  refers-lower i h = row-formed i h .lower
+
+  pub ready : Ready t
+  ready =
+      let f = formed-of t e in
+      record {
+        sized = formed-places t e;
+        few = sites-few (setupOf t .sites) (sites-lawful (setupOf t) (f .held .lawful));
+        sites = λ i h. row-formed i h .site;
+      }
+
+  pub held-place : (i : ℕ) → i < countOf t → Place t i
+  held-place i h = record { size = formed-of t e .size; place = omega (arith, places-fit) }
