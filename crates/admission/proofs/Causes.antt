@@ -23,7 +23,6 @@ use Rattle.answer.proofs.Promises.{first-refused, second-refused, asOne, in-lin
 use Rattle.setup.specs.Setup.{Setup}
 use Rattle.block.specs.Layout.{siteOf, referenceCount, referenceList, referenceAt}
 use Rattle.block.specs.Reading.{wellShaped, fieldsOf, reading, answerOf}
-use Rattle.block.specs.Promises.{Shaped}
 use Rattle.block.specs.declared.Reading.{Reading}
 use Rattle.block.specs.declared.Reading.the-variants.{Block, Misshapen, BadRequest, RepeatedReference}
 use Rattle.block.proofs.Shape.{shaped, well-shaped}
@@ -33,9 +32,9 @@ use Rattle.table.specs.View.{maxPlaces, View}
 use Rattle.table.specs.Layout.{setupOf, countOf, viewOf}
 use Rattle.table.specs.Rules.{hasDigest, placeOf}
 use Rattle.table.specs.Form.{inForm}
-use Rattle.table.proofs.InForm.{formed-of}
+use Rattle.table.proofs.InForm.{table-form}
 use Rattle.admission.specs.Admission.{missing, heldChecks, admissionChecks, admission}
-use Rattle.admission.specs.Promises.{Whole, OfSite, Vouched, Readable, HeldAt, DigestHeld, MissingAt, ReferenceMissing, New, Linked, Parented, answer, Causes}
+use Rattle.admission.specs.Promises.{BlockShaped, OfSite, Vouched, Readable, HeldAt, DigestHeld, MissingAt, ReferenceMissing, New, Linked, Parented, answer, Causes}
 
 -- ---- what each check says
 
@@ -76,7 +75,7 @@ reader-accepts b = (go (reading b) refl, λ e. rw e)
 
 -- a table in form that has no room holds 64
 full : (t : Bytes) → inForm t ≡ true → (ltb (countOf t) maxPlaces ≡ false) ↔ (countOf t ≡ maxPlaces)
-full t f = (λ e. omega (arith, ltb-false (countOf t) maxPlaces e, formed-of t f .held .fits), λ e. le-ltb (countOf t) maxPlaces (omega arith))
+full t f = (λ e. omega (arith, ltb-false (countOf t) maxPlaces e, table-form t f .held .fits), λ e. le-ltb (countOf t) maxPlaces (omega arith))
 
 -- ---- the checks in their order, each by itself
 
@@ -118,18 +117,18 @@ module _ (digest : Bytes → Bytes) (t b : Bytes) (verdict : ℕ) where
 
   -- ---- what the first of them say
 
-  whole : FirstHold all 2 ↔ Whole t b
+  whole : FirstHold all 2 ↔ BlockShaped t b
   whole = (λ p. record { formed = p .0 .1; shape = shaped b (p .1) }, λ w. ((tt, w .formed), well-shaped b (w .shape)))
 
   of-site : FirstHold all 3 ↔ OfSite t b
-  of-site = (λ p. record { isWhole = whole .0 (p .0); site = ltb-true _ _ (p .1) }, λ o. (whole .1 (o .isWhole), lt-ltb _ _ (o .site)))
+  of-site = (λ p. record { blockShaped = whole .0 (p .0); site = ltb-true _ _ (p .1) }, λ o. (whole .1 (o .blockShaped), lt-ltb _ _ (o .site)))
 
   vouched : FirstHold all 4 ↔ Vouched t b verdict
   vouched = (λ p. record { ofSite = of-site .0 (p .0); link = eqb-true _ _ (p .1) }, λ v. (of-site .1 (v .ofSite), eq-eqb _ _ (v .link)))
 
   -- a block that is vouched for has the shape that the reader's checks 6 and 7 want
   shape-of : Vouched t b verdict → FirstHold (reader.checks b) 1
-  shape-of v = (tt, well-shaped b (v .ofSite .isWhole .shape))
+  shape-of v = (tt, well-shaped b (v .ofSite .blockShaped .shape))
 
   readable : FirstHold all 6 ↔ Readable t b verdict
   readable = (
@@ -137,11 +136,11 @@ module _ (digest : Bytes → Bytes) (t b : Bytes) (verdict : ℕ) where
         let v = vouched .0 (p .0 .0) in
         let o = v .ofSite in
         let accepted = reader-accepts b .0 (reader.told b .none .1 ((shape-of v, p .0 .1), p .1)) in
-        record { formed = o .isWhole .formed; site = o .site; link = v .link; accepted = accepted },
+        record { formed = o .blockShaped .formed; site = o .site; link = v .link; accepted = accepted },
     λ r.
         let q = reader.told b .none .0 (reader-accepts b .1 (r .accepted)) in
-        let w : Whole t b = record { formed = r .formed; shape = shaped b (q .0 .0 .1) } in
-        ((vouched .1 (record { ofSite = record { isWhole = w; site = r .site }; link = r .link }), q .0 .1), q .1),
+        let w : BlockShaped t b = record { formed = r .formed; shape = shaped b (q .0 .0 .1) } in
+        ((vouched .1 (record { ofSite = record { blockShaped = w; site = r .site }; link = r .link }), q .0 .1), q .1),
   )
 
   new : FirstHold all 7 ↔ New digest t b verdict

@@ -25,7 +25,7 @@ use Rattle.table.specs.Rules.{rowInForm}
 use Rattle.table.specs.Form.{inForm}
 use Rattle.table.specs.Promises.{Grown}
 use Rattle.table.proofs.Views.{RowForm, row-form, form-row, same-sym, rule-same, rule-formed}
-use Rattle.table.proofs.InForm.{Formed, formed-of, in-formed}
+use Rattle.table.proofs.InForm.{TableForm, table-form, in-formed}
 use Rattle.table.proofs.AddedRow.{grown, grown-formed}
 use Rattle.admission.specs.Admission.{lists, rowFor, admission, admitted}
 use Rattle.admission.specs.Promises.{Readable, Parented}
@@ -70,8 +70,8 @@ module _ (digest : Bytes → Bytes) (t t′ b : Bytes) (verdict : ℕ) (p : Pare
   abbrev readable : Readable t b verdict
   readable = p .linked .isNew .readable
 
-  form : Formed t
-  form = formed-of t (readable .formed)
+  form : TableForm t
+  form = table-form t (readable .formed)
 
   -- "digests all different"
   differ : (i j : ℕ) → i < j → j < countOf t → digestAt t i ≢ digestAt t j
@@ -122,7 +122,7 @@ module _ (digest : Bytes → Bytes) (t b : Bytes) (verdict : ℕ) where
     pub shown : admission digest t b verdict .refusal ≡ 0 → Grown t after row
     shown e =
         let c = causes digest t b verdict .none .0 e in
-        rw (entered e) (grown t row (formed-of t (c .0 .linked .isNew .readable .formed) .size) (c .1) (sized b))
+        rw (entered e) (grown t row (table-form t (c .0 .linked .isNew .readable .formed) .size) (c .1) (sized b))
 
     pub kept : inForm t ≡ true → inForm after ≡ true
     kept f = by-test (eqb (admission digest t b verdict .refusal) 0) (λ y. grows (eqb-true _ _ y)) (λ n. ap inForm (refused n) ∙ f)
@@ -130,4 +130,4 @@ module _ (digest : Bytes → Bytes) (t b : Bytes) (verdict : ℕ) where
         grows : admission digest t b verdict .refusal ≡ 0 → inForm after ≡ true
         grows e =
             let c = causes digest t b verdict .none .0 e in
-            in-formed after (grown-formed t after row (formed-of t f) (c .1) (shown e) (row-in-form digest t after b verdict (c .0) (shown e)))
+            in-formed after (grown-formed t after row (table-form t f) (c .1) (shown e) (row-in-form digest t after b verdict (c .0) (shown e)))

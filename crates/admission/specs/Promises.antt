@@ -18,12 +18,12 @@ use Rattle.table.specs.Promises.{Grown}
 use Rattle.admission.specs.Admission.{rowFor, admission, admitted}
 
 -- checks 2 and 3 hold, then 4, then 5
-pub record Whole (t b : Bytes) : Type 0 where
+pub record BlockShaped (t b : Bytes) : Type 0 where
   pub formed : inForm t ≡ true
   pub shape : Shaped b
 
 pub record OfSite (t b : Bytes) : Type 0 where
-  pub isWhole : Whole t b
+  pub blockShaped : BlockShaped t b
   pub site : siteOf b < setupOf t .sites
 
 pub record Vouched (t b : Bytes) (verdict : ℕ) : Type 0 where
@@ -79,7 +79,7 @@ module _ (digest : Bytes → Bytes) where
     pub record Causes : Type 0 where
       pub two : (answer .refusal ≡ 2) ↔ (inForm t ≡ false)
       pub three : (answer .refusal ≡ 3) ↔ ((inForm t ≡ true) × (Shaped b → ⊥))
-      pub four : (answer .refusal ≡ 4) ↔ (Whole t b × (setupOf t .sites ≤ siteOf b))
+      pub four : (answer .refusal ≡ 4) ↔ (BlockShaped t b × (setupOf t .sites ≤ siteOf b))
       pub five : (answer .refusal ≡ 5) ↔ (OfSite t b × (verdict ≢ 1))
       -- the reader's own, with its index
       pub six : (answer .refusal ≡ 6) ↔ (Vouched t b verdict × (answerOf (reading b) .refusal ≡ 6))

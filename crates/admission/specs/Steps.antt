@@ -30,7 +30,7 @@ abbrev pub placesListed : Bytes → ℕ → Bytes → ℕ
 placesListed t k list = maskBelow (λ j. among list (digestAt t j)) k
 
 -- a table with its index and a block that checks 2 to 7 let pass, the mask of the places that the block refers to, and its first missing reference
-pub record Ready (t index b : Bytes) (references none : ℕ) : Type 0 where
+pub record LookedUp (t index b : Bytes) (references none : ℕ) : Type 0 where
   pub indexed : Indexed t index
   pub shaped : Shaped b
   pub places : references ≡ placesListed t (countOf t) (referenceList b)

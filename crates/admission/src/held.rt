@@ -6,7 +6,7 @@ ghost use lib.Dec.{eqb};
 ghost use Rattle.sha256.specs.Sha256.{sha256};
 ghost use Rattle.table.specs.Layout.{countOf, viewOf};
 ghost use Rattle.table.specs.Steps.{Indexed};
-ghost use Rattle.admission.specs.Steps.{Ready, firstMissing, placesListed, heldAnswer};
+ghost use Rattle.admission.specs.Steps.{LookedUp, firstMissing, placesListed, heldAnswer};
 
 // A list's references among the blocks that are held: their places, as a mask, and the index of the first that no place holds, or as many as
 // there are.
@@ -57,7 +57,7 @@ pub fn held_answer(
     references: u64,
     missing: usize,
 ) -> Answer
-    requires { ⌜ Ready (now table) (now index) (now block) references missing × (now digest ≡ sha256 (now block)) ⌝ }
+    requires { ⌜ LookedUp (now table) (now index) (now block) references missing × (now digest ≡ sha256 (now block)) ⌝ }
     ensures { λ r. ⌜ r ≡ heldAnswer (now (table .entry)) (now (block .entry)) ⌝ }
 {
     let k = table::rows::count_of(table);

@@ -21,10 +21,10 @@ use Rattle.history.proofs.Ancestry.{OneHistory, history-agree}
 use Rattle.history.proofs.Collections.{history-in as block-history, across, Either, one-delivery}
 use Rattle.run.specs.Ledger.{Call, Ledger}
 use Rattle.run.specs.Promises.{Interpreted, RetiredClear, Delivered, ledgerOf, siteWith}
-use Rattle.run.proofs.Runs.{Together}
+use Rattle.run.proofs.Runs.{RunInvariant}
 use Rattle.run.proofs.LedgerPlaces.{standing, interpreted-among, one-history-each, safe-clear}
 use Rattle.run.proofs.Promises.{delivered-is, run, site-keeps, answers-keep}
-use Rattle.agreement.specs.TwoSites.{Promised}
+use Rattle.agreement.specs.TwoSites.{TwoSites}
 
 module _ (digest : Bytes → Bytes) (sized : (b : Bytes) → length (digest b) ≡ referenceSize) (s : Setup) (law : lawful s ≡ true)
     (buffer₁ buffer₂ : List ℕ) (calls₁ calls₂ : List Call) where
@@ -34,10 +34,10 @@ module _ (digest : Bytes → Bytes) (sized : (b : Bytes) → length (digest b) �
   abbrev l₂ : Ledger
   l₂ = ledgerOf digest s buffer₂ calls₂
 
-  run₁ : Together digest sized s (length buffer₁) l₁ (siteWith digest s buffer₁ calls₁)
+  run₁ : RunInvariant digest sized s (length buffer₁) l₁ (siteWith digest s buffer₁ calls₁)
   run₁ = run digest sized s law buffer₁ calls₁
 
-  run₂ : Together digest sized s (length buffer₂) l₂ (siteWith digest s buffer₂ calls₂)
+  run₂ : RunInvariant digest sized s (length buffer₂) l₂ (siteWith digest s buffer₂ calls₂)
   run₂ = run digest sized s law buffer₂ calls₂
 
   module _ (safe : NoCollision digest (l₁ .blocks ++ l₂ .blocks)) where
@@ -93,7 +93,7 @@ module _ (digest : Bytes → Bytes) (sized : (b : Bytes) → length (digest b) �
         (l₂ .block j) (subst (λ (b : Bytes). List·Memᴰ b (l₁ .blocks)) e here) (standing digest sized s (length buffer₂) l₂ _ run₂ .among j (n .below)))
         ∙ sym (site-keeps digest sized s law (length buffer₂) l₂ _ run₂ .shown clear₂ j n)
 
-  pub promised : Promised digest s buffer₁ buffer₂ calls₁ calls₂
+  pub promised : TwoSites digest s buffer₁ buffer₂ calls₁ calls₂
   promised =
       record {
         first = site-keeps digest sized s law (length buffer₁) l₁ _ run₁;
@@ -105,5 +105,5 @@ module _ (digest : Bytes → Bytes) (sized : (b : Bytes) → length (digest b) �
       }
 
 -- the digest that runs
-pub theorem : (s : Setup) → lawful s ≡ true → (buffer₁ buffer₂ : List ℕ) (calls₁ calls₂ : List Call) → Promised sha256 s buffer₁ buffer₂ calls₁ calls₂
+pub theorem : (s : Setup) → lawful s ≡ true → (buffer₁ buffer₂ : List ℕ) (calls₁ calls₂ : List Call) → TwoSites sha256 s buffer₁ buffer₂ calls₁ calls₂
 theorem s law = promised sha256 sha256-length s law

@@ -20,7 +20,7 @@ use Rattle.block.specs.Layout.{siteOf, sequenceOf, referencesOf}
 use Rattle.table.specs.View.{maxPlaces}
 use Rattle.table.specs.Layout.{siteAt, viewOf}
 use Rattle.watch.specs.Forks.{everywhere, ofSite, forks}
-use Rattle.watch.specs.Ancestors.{Ancestor, direct, further}
+use Rattle.watch.specs.Ancestors.{PlaceAncestor, direct, further}
 use Rattle.watch.specs.Promises.{Shares}
 use Rattle.watch.proofs.Promises.{promises}
 use Rattle.history.specs.Ancestry.{AncestorIn, refers, through}
@@ -29,22 +29,22 @@ use Rattle.history.proofs.Forks.{Fork, fork-forked, forked-fork}
 use Rattle.run.specs.Ledger.{Call, Ledger}
 use Rattle.run.specs.Run.{Site}
 use Rattle.run.specs.Promises.{ledgerOf, siteWith}
-use Rattle.run.proofs.Simulation.{Tied}
-use Rattle.run.proofs.Runs.{Together}
-use Rattle.run.proofs.LedgerPlaces.{Standing, standing}
+use Rattle.run.proofs.Simulation.{Simulates}
+use Rattle.run.proofs.Runs.{RunInvariant}
+use Rattle.run.proofs.LedgerPlaces.{LedgerPlaces, standing}
 use Rattle.run.proofs.Promises.{run}
 use Rattle.agreement.specs.Watch.{NamedAncestor, WatchKeeps}
 
 module _ (digest : Bytes → Bytes) (sized : (b : Bytes) → length (digest b) ≡ referenceSize) (s : Setup) (size : ℕ) (l : Ledger) (x : Site)
-    (together : Together digest sized s size l x) where
-  abbrev t : Tied digest s size l x
-  t = together .tied
+    (invariant : RunInvariant digest sized s size l x) where
+  abbrev t : Simulates digest s size l x
+  t = invariant .simulated
 
   abbrev table : Bytes
   table = x .table
 
-  stand : Standing digest l table
-  stand = standing digest sized s size l x together
+  stand : LedgerPlaces digest l table
+  stand = standing digest sized s size l x invariant
 
   -- ---- forks
 
@@ -108,7 +108,7 @@ module _ (digest : Bytes → Bytes) (sized : (b : Bytes) → length (digest b) �
 
   -- ---- ancestors
 
-  ancestor-of-block : {a i : ℕ} → i < l .held → Ancestor (viewOf table) a i → (a < l .held) × AncestorIn digest (l .blocks) (l .block a) (l .block i)
+  ancestor-of-block : {a i : ℕ} → i < l .held → PlaceAncestor (viewOf table) a i → (a < l .held) × AncestorIn digest (l .blocks) (l .block a) (l .block i)
   ancestor-of-block {a} {i} h (direct k e) = let ka = stand .held a k in (ka, refers (stand .among a ka) (stand .lists i a h ka e))
   ancestor-of-block {a} {i} h (further {c = c} w k e) =
       let kc = stand .held c k in
@@ -118,7 +118,7 @@ module _ (digest : Bytes → Bytes) (sized : (b : Bytes) → length (digest b) �
   -- a place above which place i stands, and its block
   record AncestorPlace (i : ℕ) (b : Bytes) : Type 0 where
     place : ℕ
-    above : Ancestor (viewOf table) place i
+    above : PlaceAncestor (viewOf table) place i
     holds : l .block place ≡ b
 
   block-of-ancestor : l .retired ≡ [] → {b e : Bytes} → AncestorIn digest (l .blocks) b e → (i : ℕ) → i < l .held → e ≡ l .block i → AncestorPlace i b

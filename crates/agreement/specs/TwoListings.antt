@@ -16,23 +16,23 @@ use Rattle.run.specs.Promises.{ledgerOf}
 use Rattle.report.specs.declared.Delivery.{Delivery}
 use Rattle.report.specs.Text.{deliveryLine}
 use Rattle.report.specs.Arrivals.{Arrival, setupSize, setupIn, arrivalsIn}
-use Rattle.report.specs.ListingCalls.{callsOf, Settled, Shows}
+use Rattle.report.specs.ListingCalls.{arrivalCalls, NoneRefused, ListingShows}
 use Rattle.report.specs.Lines.{linesIn, text}
 
 -- two inputs of one setup, each listed with a record buffer of any content
 module _ (s : Setup) (buffer₁ buffer₂ : List ℕ) (arrivals₁ arrivals₂ : List Arrival) where
   -- the blocks that either listing admitted
-  abbrev pub blocks : List Bytes
-  blocks =
-      ledgerOf sha256 s buffer₁ (callsOf (started s buffer₁) arrivals₁) .blocks
-      ++ ledgerOf sha256 s buffer₂ (callsOf (started s buffer₂) arrivals₂) .blocks
+  abbrev pub blocksOfArrivals : List Bytes
+  blocksOfArrivals =
+      ledgerOf sha256 s buffer₁ (arrivalCalls (started s buffer₁) arrivals₁) .blocks
+      ++ ledgerOf sha256 s buffer₂ (arrivalCalls (started s buffer₂) arrivals₂) .blocks
 
-  pub record Agreed : Type 0 where
+  pub record TwoListings : Type 0 where
     -- every block that is admitted is interpreted, so no line needs 12 to 15
-    pub settled : length buffer₁ ≡ bufferSize → Settled (started s buffer₁) arrivals₁
+    pub settled : length buffer₁ ≡ bufferSize → NoneRefused (started s buffer₁) arrivals₁
     -- where at most f sites forked, the lines of the two listings have one number for a slot
-    pub oneNumber : NoCollision sha256 blocks → countBelow (forked blocks) (s .sites) ≤ faults (s .sites)
-        → (slot v w : ℕ) → slot < slotCount → Shows (started s buffer₁) arrivals₁ slot v → Shows (started s buffer₂) arrivals₂ slot w → v ≡ w
+    pub oneNumber : NoCollision sha256 blocksOfArrivals → countBelow (forked blocksOfArrivals) (s .sites) ≤ faults (s .sites)
+        → (slot v w : ℕ) → slot < slotCount → ListingShows (started s buffer₁) arrivals₁ slot v → ListingShows (started s buffer₂) arrivals₂ slot w → v ≡ w
 
 -- two inputs of one lawful setup, each listed with a record buffer of any content
 module _ (buffer₁ buffer₂ : List ℕ) (input₁ input₂ : Bytes) where
@@ -40,11 +40,11 @@ module _ (buffer₁ buffer₂ : List ℕ) (input₁ input₂ : Bytes) where
   setup = setupIn input₁
 
   -- the blocks that either listing admitted
-  abbrev pub admitted : List Bytes
-  admitted = blocks setup buffer₁ buffer₂ (arrivalsIn (drop setupSize input₁)) (arrivalsIn (drop setupSize input₂))
+  abbrev pub blocksOfInputs : List Bytes
+  blocksOfInputs = blocksOfArrivals setup buffer₁ buffer₂ (arrivalsIn (drop setupSize input₁)) (arrivalsIn (drop setupSize input₂))
 
-  pub record OneNumber : Type 0 where
+  pub record TwoTexts : Type 0 where
     -- where at most f sites forked, the deliveries' lines of the two texts have one number for a slot
-    pub oneNumber : lawful setup ≡ true → setupIn input₂ ≡ setup → NoCollision sha256 admitted → countBelow (forked admitted) (setup .sites) ≤ faults (setup .sites)
+    pub oneNumber : lawful setup ≡ true → setupIn input₂ ≡ setup → NoCollision sha256 blocksOfInputs → countBelow (forked blocksOfInputs) (setup .sites) ≤ faults (setup .sites)
         → (d e : Delivery) → List·Memᴰ (deliveryLine d) (linesIn (text buffer₁ input₁)) → List·Memᴰ (deliveryLine e) (linesIn (text buffer₂ input₂))
         → d .slot ≡ e .slot → d .number ≡ e .number

@@ -30,7 +30,7 @@ module _ (digest : Bytes → Bytes) (s : Setup) (buffer₁ buffer₂ : List ℕ)
   abbrev pub DeliveredAtEither : ℕ → ℕ → Type 0
   DeliveredAtEither slot v = Delivered digest s ledger₁ slot v ⊎ Delivered digest s ledger₂ slot v
 
-  pub record Promised : Type 0 where
+  pub record TwoSites : Type 0 where
     -- each site keeps to its ledger
     pub first : SiteKeeps digest s ledger₁ site₁
     pub second : SiteKeeps digest s ledger₂ site₂

@@ -1,4 +1,8 @@
--- The laws of answers: what a number says of a call's checks, and answers put into a buffer. Other crates' proofs cite them.
+-- The laws of answers.
+
+-- a list of checks, one step at a time
 pub mod Checks
+-- which check of a list decided: one law for every list of checks
 pub mod Promises
+-- answers put into a buffer one behind the other
 pub mod Buffer

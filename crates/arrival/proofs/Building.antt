@@ -19,7 +19,7 @@ use Rattle.history.proofs.Collections.{across}
 use Rattle.run.specs.Ledger.{Call, admit, interpret, retire, takeBack, Ledger, empty, taken, ledgerStep, ledgerAfter}
 use Rattle.run.specs.Run.{Site, started, siteAnswer, siteStep}
 use Rattle.run.specs.Promises.{ledgerOf}
-use Rattle.run.proofs.Runs.{Together, passed, refused, step-together}
+use Rattle.run.proofs.Runs.{RunInvariant, passed, refused, step-invariant}
 use Rattle.run.proofs.Growth.{after-unretired}
 use Rattle.run.proofs.LedgerPlaces.{one-history-each, unretired-clear, safe-clear}
 use Rattle.run.proofs.Promises.{start, run}
@@ -31,7 +31,7 @@ use Rattle.arrival.proofs.Picking.{picks}
 -- ---- each call keeps the site's blocks built by the rule, and so does every list of calls
 
 module _ (digest : Bytes → Bytes) (sized : (b : Bytes) → length (digest b) ≡ referenceSize) (s : Setup) (p size : ℕ) where
-  call-built : (l : Ledger) (x : Site) → Together digest sized s size l x → l .retired ≡ [] → Built digest p (l .blocks) → (c : Call) → OwnIsBuilt digest p x c
+  call-built : (l : Ledger) (x : Site) → RunInvariant digest sized s size l x → l .retired ≡ [] → Built digest p (l .blocks) → (c : Call) → OwnIsBuilt digest p x c
       → siteAnswer digest x c .refusal ≡ 0 → Built digest p (taken l c .blocks)
   unfolding taken OwnIsBuilt
   call-built l x t none k (admit b verdict) own e = (λ by. picks digest sized s size l x t none p b (own by e), k)
@@ -39,19 +39,19 @@ module _ (digest : Bytes → Bytes) (sized : (b : Bytes) → length (digest b) �
   call-built l x t none k retire own e = k
   call-built l x t none k takeBack own e = built-behind digest p (l .blocks) k
 
-  step-built : (l : Ledger) (x : Site) → Together digest sized s size l x → l .retired ≡ [] → Built digest p (l .blocks) → (c : Call) → OwnIsBuilt digest p x c
+  step-built : (l : Ledger) (x : Site) → RunInvariant digest sized s size l x → l .retired ≡ [] → Built digest p (l .blocks) → (c : Call) → OwnIsBuilt digest p x c
       → Built digest p (ledgerStep digest s size l c .blocks)
   step-built l x t none k c own = by-test (eqb (siteAnswer digest x c .refusal) 0)
       (λ y. let e : siteAnswer digest x c .refusal ≡ 0 = eqb-true _ 0 y in rw (passed digest sized s size l x t c e) (call-built l x t none k c own e))
       (λ n. rw (refused digest sized s size l x t c (eqb-false _ 0 n)) k)
 
-  calls-built : (l : Ledger) (x : Site) → Together digest sized s size l x → Built digest p (l .blocks) → (cs : List Call) → BuildsByRule digest p x cs
+  calls-built : (l : Ledger) (x : Site) → RunInvariant digest sized s size l x → Built digest p (l .blocks) → (cs : List Call) → BuildsByRule digest p x cs
       → ledgerAfter digest s size l cs .retired ≡ [] → Built digest p (ledgerAfter digest s size l cs .blocks)
   unfolding ledgerAfter BuildsByRule
   calls-built l x t k [] own none = k
   calls-built l x t k (c ∷ cs) own none =
       let before : l .retired ≡ [] = after-unretired digest s size l (c ∷ cs) none in
-      calls-built (ledgerStep digest s size l c) (siteStep digest x c) (step-together digest sized s size l x t c) (step-built l x t before k c (own .0)) cs (own .1) none
+      calls-built (ledgerStep digest s size l c) (siteStep digest x c) (step-invariant digest sized s size l x t c) (step-built l x t before k c (own .0)) cs (own .1) none
 
 -- ---- from the empty table on
 

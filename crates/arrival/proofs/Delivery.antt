@@ -31,7 +31,7 @@ use Rattle.history.specs.Ancestry.{historyOf}
 use Rattle.history.specs.Forks.{forked}
 use Rattle.history.proofs.Meanings.{record-sized, record-settled}
 use Rattle.history.proofs.Ancestry.{OneHistory}
-use Rattle.history.proofs.Agreement.{World}
+use Rattle.history.proofs.Agreement.{Collection}
 use Rattle.history.proofs.Collections.{HistoryIn, history-in, one-world}
 use Rattle.run.specs.Promises.{deliveredEntry}
 use Rattle.run.proofs.Promises.{delivered-is as delivered-entry}
@@ -57,7 +57,7 @@ module _ (digest : Bytes → Bytes) (bs : List Bytes) (g : OneHistory digest bs)
   abbrev W : History → Type 0
   W = HistoryIn digest bs
 
-  world : World W (forked bs)
+  world : Collection W (forked bs)
   world = one-world digest bs g
 
   abbrev record-at : Bytes → SlotRecord

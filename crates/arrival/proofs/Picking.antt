@@ -17,7 +17,7 @@ use Rattle.block.specs.Limits.{referenceSize}
 use Rattle.block.specs.Layout.{siteOf, sequenceOf, referencesOf}
 use Rattle.table.specs.View.{maxPlaces, View}
 use Rattle.table.specs.Layout.{countOf, digestAt, siteAt, rowAt, viewOf}
-use Rattle.table.proofs.InForm.{formed-of}
+use Rattle.table.proofs.InForm.{table-form}
 use Rattle.watch.specs.Forks.{everywhere, ofSite}
 use Rattle.build.specs.Building.{nextSequence, isReferred, isOther, picked, nextBlock}
 use Rattle.build.proofs.Sequence.{next-above}
@@ -27,18 +27,18 @@ use Rattle.build.proofs.Fields.{next-numbered, next-refers}
 use Rattle.build.proofs.Promises.{built-block}
 use Rattle.run.specs.Ledger.{Ledger}
 use Rattle.run.specs.Run.{Site}
-use Rattle.run.proofs.Simulation.{Tied}
-use Rattle.run.proofs.Runs.{Together}
-use Rattle.run.proofs.LedgerPlaces.{Standing, standing}
+use Rattle.run.proofs.Simulation.{Simulates}
+use Rattle.run.proofs.Runs.{RunInvariant}
+use Rattle.run.proofs.LedgerPlaces.{LedgerPlaces, standing}
 use Rattle.agreement.proofs.Watch.{of-site, site-of}
 use Rattle.arrival.specs.Full.{BlockBy, RefersTo}
 use Rattle.arrival.specs.Building.{BuiltFrom}
 use Rattle.arrival.proofs.Builders.{Picks}
 
 module _ (digest : Bytes → Bytes) (sized : (b : Bytes) → length (digest b) ≡ referenceSize) (s : Setup) (size : ℕ) (l : Ledger) (x : Site)
-    (together : Together digest sized s size l x) (none : l .retired ≡ []) (p : ℕ) (b : Bytes) (w : BuiltFrom (x .table) p b) where
-  abbrev t : Tied digest s size l x
-  t = together .tied
+    (invariant : RunInvariant digest sized s size l x) (none : l .retired ≡ []) (p : ℕ) (b : Bytes) (w : BuiltFrom (x .table) p b) where
+  abbrev t : Simulates digest s size l x
+  t = invariant .simulated
 
   abbrev table : Bytes
   table = x .table
@@ -46,8 +46,8 @@ module _ (digest : Bytes → Bytes) (sized : (b : Bytes) → length (digest b) �
   abbrev v : View
   v = viewOf table
 
-  stand : Standing digest l table
-  stand = standing digest sized s size l x together
+  stand : LedgerPlaces digest l table
+  stand = standing digest sized s size l x invariant
 
   -- ---- what it shows
 
@@ -72,7 +72,7 @@ module _ (digest : Bytes → Bytes) (sized : (b : Bytes) → length (digest b) �
       let u = Memᴰ·of-map (digestAt table) (picked everywhere v p) (subst (List·Memᴰ (digest (l .block i))) refers-are r) in
       let k = member-at (picked everywhere v p) (u .0) 0 (u .1) in
       let below : u .0 < countOf table = subst (λ (j : ℕ). j < countOf table) (k .2) (picked-held everywhere v p (k .0) (k .1)) in
-      let same : u .0 ≡ i = one-place table (formed-of table (t .formed)) (u .0) i below (stand .counted i h) (u .2 ∙ sym (digest-is i h)) in
+      let same : u .0 ≡ i = one-place table (table-form table (t .formed)) (u .0) i below (stand .counted i h) (u .2 ∙ sym (digest-is i h)) in
       Memᴰ·cast (sym same) (u .1)
 
   -- ---- the rule
@@ -82,7 +82,7 @@ module _ (digest : Bytes → Bytes) (sized : (b : Bytes) → length (digest b) �
       let u = stand .allPlaced none d (y .held) in
       let own : siteOf (l .block (u .0)) ≡ p = ap siteOf (sym (u .2)) ∙ y .bySite in
       let k = stand .counted (u .0) (u .1) in
-      omega (arith, numbered, t .rows (u .0) k .sequence, ap sequenceOf (u .2), next-above everywhere v p (u .0) k (of-site digest sized s size l x together p (u .0) (u .1) own))
+      omega (arith, numbered, t .rows (u .0) k .sequence, ap sequenceOf (u .2), next-above everywhere v p (u .0) k (of-site digest sized s size l x invariant p (u .0) (u .1) own))
 
   -- a block of the site refers to place j, or the block itself does, where it refers to a place of another site that refers to place j
   closed-at : (i j : ℕ) → i < l .held → j < l .held → siteOf (l .block i) ≢ p → siteOf (l .block j) ≢ p → RefersTo digest b (l .block i)
@@ -93,7 +93,7 @@ module _ (digest : Bytes → Bytes) (sized : (b : Bytes) → length (digest b) �
       let h : u .0 < l .held = stand .held (u .0) (u .1) in
       let own = and-left (ofSite v everywhere p (u .0)) (rowAt table (u .0) .refersTo j) (u .2) in
       let lists = and-right (ofSite v everywhere p (u .0)) (rowAt table (u .0) .refersTo j) (u .2) in
-      inr (l .block (u .0), record { held = stand .among (u .0) h; bySite = site-of digest sized s size l x together p (u .0) h own }, stand .lists (u .0) j h hj lists))
+      inr (l .block (u .0), record { held = stand .among (u .0) h; bySite = site-of digest sized s size l x invariant p (u .0) h own }, stand .lists (u .0) j h hj lists))
       (λ z.
       let other : isOther everywhere v p j ≡ true = rw (
         lt-ltb j maxPlaces (stand .fits j hj),

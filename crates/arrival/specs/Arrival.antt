@@ -93,7 +93,7 @@ module _ (digest : Bytes → Bytes) where
     ledger = ledgerOf digest s buffer calls
 
     -- with nothing retired
-    pub record Arrival : Type 0 where
+    pub record ArrivalPromise : Type 0 where
       pub arrives : ledger .retired ≡ [] → (slot v : ℕ) (last : Bytes) → slot < slotCount → Premises s (ledger .blocks) slot v last
           → DeliveredInChain s (ledger .blocks) slot v last
       pub shown : ledger .retired ≡ [] → AllInterpreted ledger → (slot v : ℕ) (last : Bytes) → slot < slotCount → Premises s (ledger .blocks) slot v last

@@ -9,7 +9,7 @@ use lib.Dec.{eqb, lit<}
 use lib.ListN.{length, getD, take, drop, replicate}
 use lib.Seq.{getD-take, getD-drop, length-take-le}
 use borrow.Author.Tests.{eqb-true, eq-eqb}
-use Rattle.base.specs.Bytes.{Bytes, AllBytes, sameBytes, allZero, joined}
+use Rattle.base.specs.Bytes.{Bytes, AllBytes, sameBytes, allZero, concat}
 use Rattle.base.proofs.Tests.{true-not-false, not-true-false, and-left, and-right}
 
 pub same-equal : (a b : Bytes) → sameBytes a b ≡ true → a ≡ b
@@ -88,7 +88,7 @@ bytes-append [] b p q i = q i
 bytes-append (x ∷ a) b p q zero = p 0
 bytes-append (x ∷ a) b p q (suc i) = bytes-append a b (λ j. p (suc j)) q i
 
-pub bytes-joined : (xs : List Bytes) → ((i : ℕ) → i < length xs → AllBytes (getD xs i [])) → AllBytes (joined xs)
-unfolding joined
-bytes-joined [] p i = lit< tt
-bytes-joined (x ∷ xs) p i = bytes-append x (joined xs) (p 0 (omega arith)) (bytes-joined xs (λ j h. p (suc j) (suc-le-suc h))) i
+pub bytes-concat : (xs : List Bytes) → ((i : ℕ) → i < length xs → AllBytes (getD xs i [])) → AllBytes (concat xs)
+unfolding concat
+bytes-concat [] p i = lit< tt
+bytes-concat (x ∷ xs) p i = bytes-append x (concat xs) (p 0 (omega arith)) (bytes-concat xs (λ j h. p (suc j) (suc-le-suc h))) i

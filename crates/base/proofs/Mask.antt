@@ -160,7 +160,3 @@ pub disjoint-bit : (a b p : ℕ) → bitAnd a b ≡ 0 → bitAt a p ≡ 1 → bi
 disjoint-bit a b p z h =
     let e : min (bitAt a p) (bitAt b p) ≡ 0 = sym (bit-and a b p) ∙ ap (λ (x : ℕ). bitAt x p) z ∙ ap (λ (x : ℕ). x % 2) (zero-div (2 ^ p)) in
     omega arith
-
--- all places of a are places of b: the code's test `a & !b == 0`
-pub subset-bit : (w a b p : ℕ) → b < 2 ^ w → p < w → bitAnd a ((2 ^ w - 1) - b) ≡ 0 → bitAt a p ≡ 1 → bitAt b p ≡ 1
-subset-bit w a b p hb hp z h = omega (arith, disjoint-bit a ((2 ^ w - 1) - b) p z h, bit-not w b p hb hp, bit-lt b p)

@@ -6,7 +6,7 @@ use native.Mathlib.Nat.{mul-suc, mul-zero, add-comm, le-of-eq, le-of-suc-le-suc}
 use native.Mathlib.Omega.{arith}
 use lib.ListN.{length, getD, take, drop, length-append, length-drop, take-append-drop}
 use lib.Seq.{take-at, drop-at, take-add, take-all, take-take, drop-drop, ext-getD}
-use Rattle.base.specs.Bytes.{Bytes, partAt, parts, joined}
+use Rattle.base.specs.Bytes.{Bytes, partAt, parts, concat}
 use Rattle.base.specs.List.{listBelow}
 use Rattle.base.proofs.List.{length-list, list-at, list-more}
 
@@ -50,42 +50,42 @@ parts-list k size b =
     (λ i h. parts-at k size b i (omega (arith, length-parts k size b)) ∙ sym (list-at (partAt size b) k i [] (omega (arith, length-parts k size b))))
 
 -- parts joined are the bytes that were cut
-pub joined-parts : (k size : ℕ) (b : Bytes) → joined (parts k size b) ≡ take (size * k) b
-unfolding parts joined
-joined-parts zero size b = rw (mul-zero size)
-joined-parts (suc k) size b = rw (joined-parts k size (drop size b), ← take-add size (size * k) b) (ap (λ (n : ℕ). take n b) (size-more size k))
+pub concat-parts : (k size : ℕ) (b : Bytes) → concat (parts k size b) ≡ take (size * k) b
+unfolding parts concat
+concat-parts zero size b = rw (mul-zero size)
+concat-parts (suc k) size b = rw (concat-parts k size (drop size b), ← take-add size (size * k) b) (ap (λ (n : ℕ). take n b) (size-more size k))
 
 -- byte strings of one size, joined
 module _ (size : ℕ) where
   abbrev pub EachSize : List Bytes → Type 0
   EachSize xs = (i : ℕ) → i < length xs → length (getD xs i []) ≡ size
 
-  pub length-joined : (xs : List Bytes) → EachSize xs → length (joined xs) ≡ size * length xs
-  unfolding joined
+  pub length-joined : (xs : List Bytes) → EachSize xs → length (concat xs) ≡ size * length xs
+  unfolding concat
   length-joined [] e = sym (mul-zero size)
   length-joined (x ∷ xs) e = rw (length-append, e 0 (omega arith), length-joined xs (λ i h. e (suc i) (suc-le-suc h))) (size-more size (length xs))
 
   -- cut in parts of that size they are what was joined
-  pub parts-joined : (xs : List Bytes) (rest : Bytes) → EachSize xs → parts (length xs) size (joined xs ++ rest) ≡ xs
-  unfolding parts joined
+  pub parts-joined : (xs : List Bytes) (rest : Bytes) → EachSize xs → parts (length xs) size (concat xs ++ rest) ≡ xs
+  unfolding parts concat
   parts-joined [] rest e = refl
   parts-joined (x ∷ xs) rest e =
       let l : length x ≡ size = e 0 (omega arith) in
-      rw (append-assoc x (joined xs) rest, take-at x (joined xs ++ rest) size l, drop-at x (joined xs ++ rest) size l, parts-joined xs rest (λ i h. e (suc i) (suc-le-suc h)))
+      rw (append-assoc x (concat xs) rest, take-at x (concat xs ++ rest) size l, drop-at x (concat xs ++ rest) size l, parts-joined xs rest (λ i h. e (suc i) (suc-le-suc h)))
 
   -- the values of a function at the numbers below k, joined
-  pub length-joined-list : (f : ℕ → Bytes) (k : ℕ) → ((i : ℕ) → length (f i) ≡ size) → length (joined (listBelow f k)) ≡ size * k
+  pub length-joined-list : (f : ℕ → Bytes) (k : ℕ) → ((i : ℕ) → length (f i) ≡ size) → length (concat (listBelow f k)) ≡ size * k
   length-joined-list f k e =
       length-joined (listBelow f k) (λ i h. ap length (list-at f k i [] (omega (arith, length-list f k))) ∙ e i)
       ∙ ap (λ (n : ℕ). size * n) (length-list f k)
 
 -- two lists joined one after the other
-pub joined-append : (xs ys : List Bytes) → joined (xs ++ ys) ≡ joined xs ++ joined ys
-unfolding joined
-joined-append [] ys = refl
-joined-append (x ∷ xs) ys = ap (λ (z : Bytes). x ++ z) (joined-append xs ys) ∙ sym (append-assoc x (joined xs) (joined ys))
+pub concat-append : (xs ys : List Bytes) → concat (xs ++ ys) ≡ concat xs ++ concat ys
+unfolding concat
+concat-append [] ys = refl
+concat-append (x ∷ xs) ys = ap (λ (z : Bytes). x ++ z) (concat-append xs ys) ∙ sym (append-assoc x (concat xs) (concat ys))
 
 -- one more joined at the end
-pub joined-list-more : (f : ℕ → Bytes) (k : ℕ) → joined (listBelow f (k + 1)) ≡ joined (listBelow f k) ++ f k
-unfolding joined
-joined-list-more f k = ap joined (list-more f k) ∙ joined-append (listBelow f k) (f k ∷ []) ∙ ap (λ (z : Bytes). joined (listBelow f k) ++ z) (append-nil (f k))
+pub concat-list-more : (f : ℕ → Bytes) (k : ℕ) → concat (listBelow f (k + 1)) ≡ concat (listBelow f k) ++ f k
+unfolding concat
+concat-list-more f k = ap concat (list-more f k) ∙ concat-append (listBelow f k) (f k ∷ []) ∙ ap (λ (z : Bytes). concat (listBelow f k) ++ z) (append-nil (f k))

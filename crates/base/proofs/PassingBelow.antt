@@ -12,76 +12,76 @@ use native.Mathlib.Omega.{arith}
 use lib.ListN.{length, getD, take, length-append, length-take, List·getD-append}
 use lib.Seq.{getD-take, getD-append-add}
 use Rattle.base.specs.Count.{countBelow}
-use Rattle.base.specs.List.{passing}
+use Rattle.base.specs.List.{passingBelow}
 use Rattle.base.proofs.Tests.{not-true-false}
 use Rattle.base.proofs.Members.{at-member}
 
 -- ---- the turns of the loop
 
 module _ (f : ℕ → Bool) where
-  pub passing-here : (k : ℕ) → f k ≡ true → passing f (k + 1) ≡ passing f k ++ (k ∷ [])
-  unfolding passing
+  pub passing-here : (k : ℕ) → f k ≡ true → passingBelow f (k + 1) ≡ passingBelow f k ++ (k ∷ [])
+  unfolding passingBelow
   passing-here k y = rw (add-one k, y)
 
-  pub passing-past : (k : ℕ) → f k ≡ false → passing f (k + 1) ≡ passing f k
-  unfolding passing
-  passing-past k n = rw (add-one k, n) (append-nil (passing f k))
+  pub passing-past : (k : ℕ) → f k ≡ false → passingBelow f (k + 1) ≡ passingBelow f k
+  unfolding passingBelow
+  passing-past k n = rw (add-one k, n) (append-nil (passingBelow f k))
 
 -- it is as long as the count
-pub passing-length : (f : ℕ → Bool) (k : ℕ) → length (passing f k) ≡ countBelow f k
-unfolding passing countBelow
+pub passing-length : (f : ℕ → Bool) (k : ℕ) → length (passingBelow f k) ≡ countBelow f k
+unfolding passingBelow countBelow
 passing-length f zero = refl
-passing-length f (suc k) = length-append (passing f k) (cond (f k) (k ∷ []) []) ∙ go (f k) (passing-length f k)
+passing-length f (suc k) = length-append (passingBelow f k) (cond (f k) (k ∷ []) []) ∙ go (f k) (passing-length f k)
   where
-    go : (t : Bool) → length (passing f k) ≡ countBelow f k → length (passing f k) + length (cond t (k ∷ []) []) ≡ cond t 1 0 + countBelow f k
+    go : (t : Bool) → length (passingBelow f k) ≡ countBelow f k → length (passingBelow f k) + length (cond t (k ∷ []) []) ≡ cond t 1 0 + countBelow f k
     go true e = omega arith
     go false e = omega arith
 
 -- tests that agree below k have one list
-pub passing-same : (f g : ℕ → Bool) (k : ℕ) → ((j : ℕ) → j < k → f j ≡ g j) → passing f k ≡ passing g k
-unfolding passing
+pub passing-same : (f g : ℕ → Bool) (k : ℕ) → ((j : ℕ) → j < k → f j ≡ g j) → passingBelow f k ≡ passingBelow g k
+unfolding passingBelow
 passing-same f g zero h = refl
 passing-same f g (suc k) h = rw (passing-same f g k (λ j l. h j (omega arith)), h k (omega arith))
 
 -- ---- the elements
 
 module _ (f : ℕ → Bool) where
-  pub passing-has : (k i : ℕ) → i < k → f i ≡ true → List·Memᴰ i (passing f k)
-  unfolding passing
+  pub passing-has : (k i : ℕ) → i < k → f i ≡ true → List·Memᴰ i (passingBelow f k)
+  unfolding passingBelow
   passing-has zero i h y = absurd (omega arith)
   passing-has (suc k) i h y = elim (eq-or-lt-of-le (le-of-suc-le-suc h)) [
-    | inl q ↦ let z : f k ≡ true = ap f (sym q) ∙ y in rw z (Memᴰ·append-right (passing f k) (List·Memᴰ·head q))
+    | inl q ↦ let z : f k ≡ true = ap f (sym q) ∙ y in rw z (Memᴰ·append-right (passingBelow f k) (List·Memᴰ·head q))
     | inr l ↦ Memᴰ·append-left (cond (f k) (k ∷ []) []) (passing-has k i l y)
   ]
 
-  pub passing-from : (k i : ℕ) → List·Memᴰ i (passing f k) → (i < k) × (f i ≡ true)
-  unfolding passing
+  pub passing-from : (k i : ℕ) → List·Memᴰ i (passingBelow f k) → (i < k) × (f i ≡ true)
+  unfolding passingBelow
   passing-from zero i m = absurd (List·Memᴰ·not-nil m)
-  passing-from (suc k) i m = go (f k) refl (List·Memᴰ·append-cases (passing f k) m) (λ n. passing-from k i n)
+  passing-from (suc k) i m = go (f k) refl (List·Memᴰ·append-cases (passingBelow f k) m) (λ n. passing-from k i n)
     where
-      go : (t : Bool) → f k ≡ t → List·Memᴰ i (passing f k) ⊎ List·Memᴰ i (cond t (k ∷ []) []) → (List·Memᴰ i (passing f k) → (i < k) × (f i ≡ true))
+      go : (t : Bool) → f k ≡ t → List·Memᴰ i (passingBelow f k) ⊎ List·Memᴰ i (cond t (k ∷ []) []) → (List·Memᴰ i (passingBelow f k) → (i < k) × (f i ≡ true))
           → (i < suc k) × (f i ≡ true)
       go t q (inl n) ih = let w = ih n in (omega (arith, w .0), w .1)
       go true q (inr n) ih = let e : i ≡ k = List·Memᴰ·eq-of-singleton n in (omega arith, ap f e ∙ q)
       go false q (inr n) ih = absurd (List·Memᴰ·not-nil n)
 
 -- where none passes, and where one alone does
-pub passing-none : (f : ℕ → Bool) (k : ℕ) → ((i : ℕ) → i < k → f i ≡ false) → passing f k ≡ []
-unfolding passing
+pub passing-none : (f : ℕ → Bool) (k : ℕ) → ((i : ℕ) → i < k → f i ≡ false) → passingBelow f k ≡ []
+unfolding passingBelow
 passing-none f zero n = refl
 passing-none f (suc k) n = rw (n k (omega arith), passing-none f k (λ i h. n i (omega arith)))
 
-pub passing-one : (f : ℕ → Bool) (k j : ℕ) → j < k → f j ≡ true → ((i : ℕ) → i < k → f i ≡ true → i ≡ j) → passing f k ≡ j ∷ []
-unfolding passing
+pub passing-one : (f : ℕ → Bool) (k j : ℕ) → j < k → f j ≡ true → ((i : ℕ) → i < k → f i ≡ true → i ≡ j) → passingBelow f k ≡ j ∷ []
+unfolding passingBelow
 passing-one f zero j h y one = absurd (omega arith)
 passing-one f (suc k) j h y one = elim (eq-or-lt-of-le (le-of-suc-le-suc h)) [
   | inl q ↦
       let here : f k ≡ true = ap f (sym q) ∙ y in
-      let none : passing f k ≡ [] = passing-none f k (λ i l. not-true-false (f i) (λ z. absurd (omega (arith, one i (omega arith) z)))) in
+      let none : passingBelow f k ≡ [] = passing-none f k (λ i l. not-true-false (f i) (λ z. absurd (omega (arith, one i (omega arith) z)))) in
       rw (here, none) (ap (λ (i : ℕ). i ∷ []) (sym q))
   | inr l ↦
       let past : f k ≡ false = not-true-false (f k) (λ z. absurd (omega (arith, one k (omega arith) z))) in
-      rw past (append-nil (passing f k) ∙ passing-one f k j l y (λ i m. one i (omega arith)))
+      rw past (append-nil (passingBelow f k) ∙ passing-one f k j l y (λ i m. one i (omega arith)))
 ]
 
 -- ---- each two elements of a list are so related, in their order
@@ -106,10 +106,10 @@ module _ (R : ℕ → ℕ → Type 0) where
   pairwise-take n l a i j h k =
       rw (getD-take n l i 0 (omega (arith, length-take n l)), getD-take n l j 0 (omega (arith, length-take n l))) (a i j h (omega (arith, length-take n l)))
 
-pub passing-rises : (f : ℕ → Bool) (k : ℕ) → Pairwise _<_ (passing f k)
-unfolding passing
+pub passing-rises : (f : ℕ → Bool) (k : ℕ) → Pairwise _<_ (passingBelow f k)
+unfolding passingBelow
 passing-rises f zero = λ i j h l. absurd (omega arith)
-passing-rises f (suc k) = pairwise-append _<_ (passing f k) (cond (f k) (k ∷ []) []) (passing-rises f k) (one (f k)) (λ x y m n. last (f k) y n x (passing-from f k x m .0))
+passing-rises f (suc k) = pairwise-append _<_ (passingBelow f k) (cond (f k) (k ∷ []) []) (passing-rises f k) (one (f k)) (λ x y m n. last (f k) y n x (passing-from f k x m .0))
   where
     one : (t : Bool) → Pairwise _<_ (cond t (k ∷ []) [])
     one true i j h l = absurd (omega arith)

@@ -1,12 +1,11 @@
 -- Laws of tests, as Bools: both cases, and what a conjunction or a disjunction of two says of each. Assumes nothing.
 use mathlib.Core.Path.{_≡_, refl, sym, _∙_, subst}
 use mathlib.Core.Logic.{_⊎_, inl, inr}
-use mathlib.Core.Bool.{Bool, true, false, not, _&&_, _||_}
+use mathlib.Core.Bool.{Bool, true, false, _&&_, _||_}
 use Prim.Native.Nat.{ℕ, _+_, _<_}
 use native.Mathlib.Nat.{eq-or-lt-of-le, le-of-suc-le-suc}
 use native.Mathlib.Numerals.{add-one}
-use lib.Dec.{T, leb, ltb}
-use borrow.Author.Tests.{leb-true, leb-false, le-ltb, lt-ltb}
+use lib.Dec.{T}
 
 -- a test's two cases, each with its equation
 pub by-test {ℓ} : {C : Type ℓ} (t : Bool) → (t ≡ true → C) → (t ≡ false → C) → C
@@ -19,10 +18,6 @@ true-not-false {t} y n = absurd (subst T (sym y ∙ n) tt)
 pub not-true-false : (t : Bool) → (t ≡ true → ⊥) → t ≡ false
 not-true-false true n = absurd (n refl)
 not-true-false false n = refl
-
-pub not-not : (t : Bool) → t ≡ not (not t)
-not-not true = refl
-not-not false = refl
 
 pub and-left : (a b : Bool) → (a && b) ≡ true → a ≡ true
 and-left true b e = refl
@@ -64,9 +59,6 @@ or-false false = refl
 pub or-assoc : (a b c : Bool) → ((a || b) || c) ≡ (a || (b || c))
 or-assoc true b c = refl
 or-assoc false b c = refl
-
-pub leb-not : (a b : ℕ) → leb a b ≡ not (ltb b a)
-leb-not a b = by-test (leb a b) (λ e. rw (e, le-ltb b a (leb-true a b e))) (λ e. rw (e, lt-ltb b a (leb-false a b e)))
 
 -- what holds below i and at i holds below i + 1: one turn of a loop that tests
 pub one-more : (P : ℕ → Type 0) (i : ℕ) → P i → ((j : ℕ) → j < i → P j) → (j : ℕ) → j < i + 1 → P j

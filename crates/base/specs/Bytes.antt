@@ -34,9 +34,9 @@ parts zero size b = []
 parts (suc k) size b = take size b ∷ parts k size (drop size b)
 
 -- byte strings one after the other
-unfoldable pub joined : List Bytes → Bytes
-joined [] = []
-joined (x ∷ xs) = x ++ joined xs
+unfoldable pub concat : List Bytes → Bytes
+concat [] = []
+concat (x ∷ xs) = x ++ concat xs
 
 -- the bytes `b` with `part` put at index `at`, the others as they were
 unfoldable pub splice : Bytes → ℕ → Bytes → Bytes

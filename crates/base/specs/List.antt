@@ -26,6 +26,6 @@ module _ {A : Type 0} where
   thoseIn test (x ∷ xs) = cond (test x) (x ∷ thoseIn test xs) (thoseIn test xs)
 
 -- the numbers below k that pass the test, in rising order
-unfoldable pub passing : (ℕ → Bool) → ℕ → List ℕ
-passing test zero = []
-passing test (suc k) = passing test k ++ cond (test k) (k ∷ []) []
+unfoldable pub passingBelow : (ℕ → Bool) → ℕ → List ℕ
+passingBelow test zero = []
+passingBelow test (suc k) = passingBelow test k ++ cond (test k) (k ∷ []) []

@@ -9,15 +9,15 @@ abbrev pub wordSize : ℕ
 wordSize = 8
 
 -- the number of the bytes
-unfoldable pub word : Bytes → ℕ
-word [] = 0
-word (x ∷ b) = x + 256 * word b
+unfoldable pub lowFirst : Bytes → ℕ
+lowFirst [] = 0
+lowFirst (x ∷ b) = x + 256 * lowFirst b
 
 -- the 64-bit number at an index of a byte string
-abbrev pub wordAt : Bytes → ℕ → ℕ
-wordAt b at = word (take wordSize (drop at b))
+abbrev pub lowFirstAt : Bytes → ℕ → ℕ
+lowFirstAt b at = lowFirst (take wordSize (drop at b))
 
 -- the k bytes of a number
-unfoldable pub wordBytes : ℕ → ℕ → Bytes
-wordBytes zero x = []
-wordBytes (suc k) x = x % 256 ∷ wordBytes k (x / 256)
+unfoldable pub lowFirstBytes : ℕ → ℕ → Bytes
+lowFirstBytes zero x = []
+lowFirstBytes (suc k) x = x % 256 ∷ lowFirstBytes k (x / 256)

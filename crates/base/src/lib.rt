@@ -7,7 +7,7 @@ ghost use lib.ListN.{length, replicate};
 ghost use Rattle.base.specs.Mask.{inMask};
 ghost use Rattle.base.specs.Bytes.{sameBytes, allZero, splice};
 ghost use Rattle.base.specs.Number.{number};
-ghost use Rattle.base.specs.LowFirst.{wordSize, word, wordBytes};
+ghost use Rattle.base.specs.LowFirst.{wordSize, lowFirst, lowFirstBytes};
 
 // The bytes of a 64-bit number.
 pub const WORD_SIZE: usize = 8;
@@ -84,9 +84,9 @@ pub fn all_zero(bytes: &[u8]) -> bool
 }
 
 // The number of at most eight bytes, the low byte first.
-pub fn word_of(bytes: &[u8]) -> u64
+pub fn low_first(bytes: &[u8]) -> u64
     requires { ⌜ length (now bytes) ≤ wordSize ⌝ }
-    ensures { λ r. ⌜ r ≡ word (now (bytes .entry)) ⌝ }
+    ensures { λ r. ⌜ r ≡ lowFirst (now (bytes .entry)) ⌝ }
 {
     let mut x: u64 = 0;
     let mut i = bytes.len();
@@ -98,8 +98,8 @@ pub fn word_of(bytes: &[u8]) -> u64
 }
 
 // The eight bytes of a number, the low byte first.
-pub fn word_bytes(x: u64) -> [u8; WORD_SIZE]
-    ensures { λ r. ⌜ r ≡ wordBytes wordSize x ⌝ }
+pub fn low_first_bytes(x: u64) -> [u8; WORD_SIZE]
+    ensures { λ r. ⌜ r ≡ lowFirstBytes wordSize x ⌝ }
 {
     let x1 = x / 256;
     let x2 = x1 / 256;

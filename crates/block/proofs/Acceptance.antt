@@ -6,7 +6,7 @@ use native.Mathlib.Omega.{arith}
 use Rattle.base.specs.Search.{firstBelow, anyBelow}
 use Rattle.base.specs.Bytes.{Bytes}
 use Rattle.block.specs.Layout.{referenceCount, requestCount, referenceList, requestList}
-use Rattle.block.specs.Reading.{wellShaped, badRequestAt, repeatedAt, fieldsOf, reading}
+use Rattle.block.specs.Reading.{wellShaped, badRequestAt, referenceRepeatedAt, fieldsOf, reading}
 use Rattle.block.specs.Promises.{Shaped}
 use Rattle.block.specs.declared.Fields.{Fields}
 use Rattle.block.specs.declared.Reading.the-variants.{Block, Misshapen, BadRequest, RepeatedReference}
@@ -15,7 +15,7 @@ use Rattle.block.proofs.Shape.{shaped, well-shaped}
 pub record Accepted (b : Bytes) : Type 0 where
   pub shape : Shaped b
   pub requests : anyBelow (badRequestAt (requestList b)) (requestCount b) ≡ false
-  pub references : anyBelow (repeatedAt (referenceList b)) (referenceCount b) ≡ false
+  pub references : anyBelow (referenceRepeatedAt (referenceList b)) (referenceCount b) ≡ false
 
 pub accepted-reading : (b : Bytes) → Accepted b → reading b ≡ Block (fieldsOf b)
 unfolding reading
@@ -28,13 +28,13 @@ pub record AcceptedAs (b : Bytes) (f : Fields) : Type 0 where
 pub reading-accepted : (b : Bytes) (f : Fields) → reading b ≡ Block f → AcceptedAs b f
 unfolding reading
 reading-accepted b f =
-    go (wellShaped b) refl (anyBelow (badRequestAt (requestList b)) (requestCount b)) refl (anyBelow (repeatedAt (referenceList b)) (referenceCount b)) refl
+    go (wellShaped b) refl (anyBelow (badRequestAt (requestList b)) (requestCount b)) refl (anyBelow (referenceRepeatedAt (referenceList b)) (referenceCount b)) refl
   where
     go : (t : Bool) → wellShaped b ≡ t → (u : Bool) → anyBelow (badRequestAt (requestList b)) (requestCount b) ≡ u
-        → (v : Bool) → anyBelow (repeatedAt (referenceList b)) (referenceCount b) ≡ v
+        → (v : Bool) → anyBelow (referenceRepeatedAt (referenceList b)) (referenceCount b) ≡ v
         → cond (not t) Misshapen
         (cond u (BadRequest (firstBelow (badRequestAt (requestList b)) (requestCount b)))
-        (cond v (RepeatedReference (firstBelow (repeatedAt (referenceList b)) (referenceCount b))) (Block (fieldsOf b)))) ≡ Block f
+        (cond v (RepeatedReference (firstBelow (referenceRepeatedAt (referenceList b)) (referenceCount b))) (Block (fieldsOf b)))) ≡ Block f
         → AcceptedAs b f
     go false t u p v q e = let z : _≡_ {A = ℕ} 0 1 = cc in absurd (omega arith)
     go true t true p v q e = let z : _≡_ {A = ℕ} 0 1 = cc in absurd (omega arith)

@@ -19,7 +19,7 @@ use Rattle.answer.proofs.Checks.{value-of, valuedOnly, no-value, absent, presen
 use Rattle.answer.proofs.Promises.{first-refused, decided}
 use Rattle.setup.specs.Setup.{maxSlot}
 use Rattle.block.specs.Layout.{referenceCount, requestCount, referenceList, requestList, referenceAt, requestAt}
-use Rattle.block.specs.Reading.{wellShaped, badRequestAt, repeatedAt, reading, answerOf}
+use Rattle.block.specs.Reading.{wellShaped, badRequestAt, referenceRepeatedAt, reading, answerOf}
 use Rattle.block.specs.Promises.{Shaped, BadIn, BadAt, RepeatedAt, GoodRequests, answer, Causes}
 use Rattle.block.specs.declared.Fields.{Fields}
 use Rattle.block.specs.declared.Reading.the-variants.{Block, Misshapen, BadRequest, RepeatedReference}
@@ -49,7 +49,7 @@ module _ (b : Bytes) where
   abbrev isSame : ℕ → ℕ → Bool
   isSame i j = sameBytes (referenceAt (referenceList b) j) (referenceAt (referenceList b) i)
 
-  repeated-means : (i : ℕ) → ((i < referenceCount b) × (repeatedAt (referenceList b) i ≡ true)) ↔ RepeatedAt b i
+  repeated-means : (i : ℕ) → ((i < referenceCount b) × (referenceRepeatedAt (referenceList b) i ≡ true)) ↔ RepeatedAt b i
   repeated-means i = (
     λ p. let w = any-true-at (isSame i) i (p .1) in record { below = p .0; earlier = w .0; isEarlier = w .1; same = same-equal _ _ (w .2) },
     λ r. (r .below, any-true (isSame i) i (r .earlier) (r .isEarlier) (equal-same _ _ (r .same))),
@@ -61,7 +61,7 @@ module _ (b : Bytes) where
   bad = badRequestAt (requestList b)
 
   abbrev repeated : ℕ → Bool
-  repeated = repeatedAt (referenceList b)
+  repeated = referenceRepeatedAt (referenceList b)
 
   some-bad : (anyBelow bad (requestCount b) ≡ true) ↔ ((i : ℕ) × BadAt b i)
   some-bad = any-such bad (requestCount b) (BadAt b) (bad-means (requestList b) (requestCount b))

@@ -6,9 +6,9 @@ use native.Mathlib.Omega.{arith}
 use native.Mathlib.Nat.{mul-suc, add-comm}
 use lib.ListN.{length, getD, take, length-append}
 use lib.Seq.{take-all, take-at, drop-at, drop-drop}
-use Rattle.base.specs.Bytes.{Bytes, AllBytes, parts, joined}
+use Rattle.base.specs.Bytes.{Bytes, AllBytes, parts, concat}
 use Rattle.base.proofs.Number.{number-high, number-low, number-pair}
-use Rattle.base.proofs.Parts.{joined-parts, length-joined, parts-joined}
+use Rattle.base.proofs.Parts.{concat-parts, length-joined, parts-joined}
 use Rattle.block.specs.Limits.{headerSize, referenceSize, requestSize, blockSize}
 use Rattle.block.specs.Layout.{Content, requestOf, requestBytes, referencesIn, requestsIn, content, encode, referenceList, requestList}
 use Rattle.block.specs.declared.Request.{Request}
@@ -16,18 +16,18 @@ use Rattle.block.proofs.Lists.{references-length, requests-length}
 
 -- ---- the requests' bytes
 
-requests-size : (qs : List Request) → length (joined (map requestBytes qs)) ≡ requestSize * length qs
-unfolding joined
+requests-size : (qs : List Request) → length (concat (map requestBytes qs)) ≡ requestSize * length qs
+unfolding concat
 requests-size [] = refl
 requests-size (q ∷ qs) = rw (length-append, requests-size qs) (sym (mul-suc 3 (length qs) ∙ add-comm (3 * length qs) 3))
 
-requests-back : (qs : List Request) → map requestOf (parts (length qs) requestSize (joined (map requestBytes qs))) ≡ qs
-unfolding parts joined
+requests-back : (qs : List Request) → map requestOf (parts (length qs) requestSize (concat (map requestBytes qs))) ≡ qs
+unfolding parts concat
 requests-back [] = refl
 requests-back (q ∷ qs) = rw (number-pair (q .number), requests-back qs)
 
-requests-forth : (k : ℕ) (b : Bytes) → AllBytes b → requestSize * k ≤ length b → joined (map requestBytes (map requestOf (parts k requestSize b))) ≡ take (requestSize * k) b
-unfolding parts joined
+requests-forth : (k : ℕ) (b : Bytes) → AllBytes b → requestSize * k ≤ length b → concat (map requestBytes (map requestOf (parts k requestSize b))) ≡ take (requestSize * k) b
+unfolding parts concat
 requests-forth zero b a h = refl
 requests-forth (suc k) [] a h = absurd (omega arith)
 requests-forth (suc k) (x ∷ []) a h = absurd (omega arith)
@@ -44,18 +44,18 @@ pub encode-content : (site sequence : ℕ) (references requests : Bytes) → len
     ≡ site ∷ sequence / 256 ∷ sequence % 256 ∷ length references / referenceSize ∷ length requests / requestSize ∷ (references ++ requests)
 unfolding encode content
 encode-content site sequence references requests e f a =
-    let j : joined (referencesIn references) ≡ references = joined-parts (length references / referenceSize) referenceSize references ∙ take-all (referenceSize * (length references / referenceSize)) references (omega arith) in
-    let k : joined (map requestBytes (requestsIn requests)) ≡ requests = requests-forth (length requests / requestSize) requests a (omega arith) ∙ take-all (requestSize * (length requests / requestSize)) requests (omega arith) in
+    let j : concat (referencesIn references) ≡ references = concat-parts (length references / referenceSize) referenceSize references ∙ take-all (referenceSize * (length references / referenceSize)) references (omega arith) in
+    let k : concat (map requestBytes (requestsIn requests)) ≡ requests = requests-forth (length requests / requestSize) requests a (omega arith) ∙ take-all (requestSize * (length requests / requestSize)) requests (omega arith) in
     rw (references-length references, requests-length requests, j, k)
 
 -- ---- from a content
 
 module _ (c : Content) (sized : (i : ℕ) → i < length (c .references) → length (getD (c .references) i []) ≡ referenceSize) where
   abbrev references : Bytes
-  references = joined (c .references)
+  references = concat (c .references)
 
   abbrev requests : Bytes
-  requests = joined (map requestBytes (c .requests))
+  requests = concat (map requestBytes (c .requests))
 
   references-size : length references ≡ referenceSize * length (c .references)
   references-size = length-joined referenceSize (c .references) sized

@@ -1,9 +1,18 @@
--- The laws of blocks. RoundTrip is the promise of specs/Codec.antt, Causes that of specs/Promises.antt.
+-- The laws of blocks.
+
+-- the entries of the two lists of a block
 pub mod Lists
+-- check 6 of a single request
 pub mod RequestCheck
+-- check 3, and what follows from it
 pub mod Shape
+-- the length and the fields of an encoded content
 pub mod Encoding
+-- what it means that the reader accepts
 pub mod Acceptance
+-- each refusal of the reader comes under its cause and under no other
 pub mod Causes
+-- bytes and fields determine each other
 pub mod RoundTrip
+-- what `let Reading::Block(..) = .. else` shows
 pub mod LetElse

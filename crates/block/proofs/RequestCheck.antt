@@ -15,13 +15,13 @@ use Rattle.setup.specs.Setup.{maxSlot}
 use Rattle.block.specs.Limits.{requestSize}
 use Rattle.block.specs.Layout.{requestAt}
 use Rattle.block.specs.Reading.{badRequest, badRequestAt}
-use Rattle.block.specs.Codec.{Admissible}
+use Rattle.block.specs.Codec.{AdmissibleRequest}
 use Rattle.block.specs.declared.Request.{Request}
 
-pub good-request : (q : Request) → Admissible q → badRequest q ≡ false
+pub good-request : (q : Request) → AdmissibleRequest q → badRequest q ≡ false
 good-request q a = rw (le-ltb maxSlot (q .slot) (a .slot), ne-eqb (q .number) 0 (λ e. omega (arith, a .some)))
 
-pub request-good : (list : Bytes) → AllBytes list → (i : ℕ) → badRequestAt list i ≡ false → Admissible (requestAt list i)
+pub request-good : (list : Bytes) → AllBytes list → (i : ℕ) → badRequestAt list i ≡ false → AdmissibleRequest (requestAt list i)
 request-good list all i e =
     let q : Request = requestAt list i in
     let part : AllBytes (partAt requestSize list i) = bytes-take requestSize (drop (requestSize * i) list) (bytes-drop (requestSize * i) list all) in

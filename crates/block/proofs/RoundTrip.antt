@@ -8,15 +8,15 @@ use Prim.Native.Nat.{ℕ, zero, suc, _+_, _*_, _/_, _≤_, _<_, suc-le-suc}
 use native.Mathlib.Omega.{arith}
 use lib.ListN.{length, getD, drop, length-drop}
 use lib.Seq.{length-take-le}
-use Rattle.base.specs.Bytes.{Bytes, AllBytes, sameBytes, joined}
+use Rattle.base.specs.Bytes.{Bytes, AllBytes, sameBytes, concat}
 use Rattle.base.proofs.Search.{any-false, any-false-at}
-use Rattle.base.proofs.Bytes.{other-same, same-other, bytes-take, bytes-drop, bytes-append, bytes-joined}
+use Rattle.base.proofs.Bytes.{other-same, same-other, bytes-take, bytes-drop, bytes-append, bytes-concat}
 use Rattle.base.proofs.Parts.{part-and-rest}
 use Rattle.base.proofs.Number.{number-pair, number-below, number-high, number-low, high-below}
 use Rattle.block.specs.Limits.{headerSize, referenceSize, requestSize}
 use Rattle.block.specs.Layout.{Content, siteOf, sequenceOf, referenceCount, requestCount, referenceList, requestList, referenceAt, requestAt, requestBytes, referencesIn, requestsIn, content, contentOf, encode}
-use Rattle.block.specs.Reading.{badRequest, badRequestAt, repeatedAt, fieldsOf, reading}
-use Rattle.block.specs.Codec.{Digest, Admissible, noRequest, Fitting, Gives, RoundTrip}
+use Rattle.block.specs.Reading.{badRequest, badRequestAt, referenceRepeatedAt, fieldsOf, reading}
+use Rattle.block.specs.Codec.{Digest, AdmissibleRequest, noRequest, Fitting, Gives, RoundTrip}
 use Rattle.block.specs.Promises.{Shaped}
 use Rattle.block.specs.declared.Request.{Request}
 use Rattle.block.specs.declared.Fields.{Fields}
@@ -29,8 +29,8 @@ use Rattle.block.proofs.Acceptance.{Accepted, accepted-reading, reading
 
 -- ---- from a fitting content to bytes
 
-request-bytes : (qs : List Request) → ((i : ℕ) → i < length qs → Admissible (getD qs i noRequest)) → AllBytes (joined (map requestBytes qs))
-unfolding joined
+request-bytes : (qs : List Request) → ((i : ℕ) → i < length qs → AdmissibleRequest (getD qs i noRequest)) → AllBytes (concat (map requestBytes qs))
+unfolding concat
 request-bytes [] a i = omega arith
 request-bytes (q ∷ qs) a zero = omega (arith, a 0 (omega arith) .slot)
 request-bytes (q ∷ qs) a (suc zero) = high-below (q .number) (a 0 (omega arith) .number)
@@ -49,8 +49,8 @@ module _ (c : Content) (f : Fitting c) where
   encode-bytes (suc (suc (suc zero))) = omega (arith, f .fewReferences)
   encode-bytes (suc (suc (suc (suc zero)))) = omega (arith, f .fewRequests)
   encode-bytes (suc (suc (suc (suc (suc i))))) =
-      bytes-append (joined (c .references)) (joined (map requestBytes (c .requests)))
-      (bytes-joined (c .references) (λ j h. f .digests j h .bytes)) (request-bytes (c .requests) (f .admissible)) i
+      bytes-append (concat (c .references)) (concat (map requestBytes (c .requests)))
+      (bytes-concat (c .references) (λ j h. f .digests j h .bytes)) (request-bytes (c .requests) (f .admissible)) i
 
   encode-shaped : Shaped (encode c)
   unfolding encode
@@ -65,17 +65,17 @@ module _ (c : Content) (f : Fitting c) where
   -- the entries of the encoding's two lists are those of the content
   reference-there : (i : ℕ) → i < length (c .references) → referenceAt (referenceList (encode c)) i ≡ getD (c .references) i []
   reference-there i h =
-      let l : length (joined (c .references)) / referenceSize ≡ length (c .references) = sym (references-length (joined (c .references))) ∙ ap length (references-held c sized) in
+      let l : length (concat (c .references)) / referenceSize ≡ length (c .references) = sym (references-length (concat (c .references))) ∙ ap length (references-held c sized) in
       ap (λ (x : Bytes). referenceAt x i) (encode-references c sized)
-      ∙ sym (references-at (joined (c .references)) i (omega arith)) ∙ ap (λ (x : List Bytes). getD x i []) (references-held c sized)
+      ∙ sym (references-at (concat (c .references)) i (omega arith)) ∙ ap (λ (x : List Bytes). getD x i []) (references-held c sized)
 
   request-there : (i : ℕ) → i < length (c .requests) → requestAt (requestList (encode c)) i ≡ getD (c .requests) i noRequest
   request-there i h =
-      let l : length (joined (map requestBytes (c .requests))) / requestSize ≡ length (c .requests) = sym (requests-length (joined (map requestBytes (c .requests)))) ∙ ap length (requests-held c sized) in
+      let l : length (concat (map requestBytes (c .requests))) / requestSize ≡ length (c .requests) = sym (requests-length (concat (map requestBytes (c .requests)))) ∙ ap length (requests-held c sized) in
       ap (λ (x : Bytes). requestAt x i) (encode-requests c sized)
-      ∙ sym (requests-at (joined (map requestBytes (c .requests))) i (omega arith)) ∙ ap (λ (x : List Request). getD x i noRequest) (requests-held c sized)
+      ∙ sym (requests-at (concat (map requestBytes (c .requests))) i (omega arith)) ∙ ap (λ (x : List Request). getD x i noRequest) (requests-held c sized)
 
-  not-repeated : (i : ℕ) → i < length (c .references) → repeatedAt (referenceList (encode c)) i ≡ false
+  not-repeated : (i : ℕ) → i < length (c .references) → referenceRepeatedAt (referenceList (encode c)) i ≡ false
   not-repeated i h =
       any-false (λ j. sameBytes (referenceAt (referenceList (encode c)) j) (referenceAt (referenceList (encode c)) i)) i
       (λ j l. rw (reference-there j (omega arith), reference-there i h) (other-same _ _ (f .different i j l h)))
@@ -86,7 +86,7 @@ module _ (c : Content) (f : Fitting c) where
       record {
         shape = encode-shaped;
         requests = any-false (badRequestAt (requestList (encode c))) (length (c .requests)) (λ i h. ap badRequest (request-there i h) ∙ good-request _ (f .admissible i h));
-        references = any-false (repeatedAt (referenceList (encode c))) (length (c .references)) not-repeated;
+        references = any-false (referenceRepeatedAt (referenceList (encode c))) (length (c .references)) not-repeated;
       }
 
   encode-content-back : contentOf (encode c) ≡ c
@@ -120,9 +120,9 @@ module _ (b : Bytes) (a : AllBytes b) (r : Accepted b) where
   different-there : (i j : ℕ) → j < i → i < referenceCount b → referenceAt (referenceList b) j ≢ referenceAt (referenceList b) i
   different-there i j l h =
       same-other _ _ (any-false-at (λ k. sameBytes (referenceAt (referenceList b) k) (referenceAt (referenceList b) i)) i
-      (any-false-at (repeatedAt (referenceList b)) (referenceCount b) (r .references) i h) j l)
+      (any-false-at (referenceRepeatedAt (referenceList b)) (referenceCount b) (r .references) i h) j l)
 
-  admissible-there : (i : ℕ) → i < requestCount b → Admissible (requestAt (requestList b) i)
+  admissible-there : (i : ℕ) → i < requestCount b → AdmissibleRequest (requestAt (requestList b) i)
   admissible-there i h = request-good (requestList b) requests-bytes i (any-false-at (badRequestAt (requestList b)) (requestCount b) (r .requests) i h)
 
   fitting : Fitting (contentOf b)

@@ -19,7 +19,7 @@ pub record Digest (x : Bytes) : Type 0 where
   pub size : length x ≡ referenceSize
 
 -- a slot from 0 to 7, and a number from 1 to 65,535
-pub record Admissible (q : Request) : Type 0 where
+pub record AdmissibleRequest (q : Request) : Type 0 where
   pub slot : q .slot ≤ maxSlot
   pub some : 1 ≤ q .number
   pub number : q .number < 65536
@@ -36,7 +36,7 @@ pub record Fitting (c : Content) : Type 0 where
   pub digests : (i : ℕ) → i < length (c .references) → Digest (getD (c .references) i [])
   pub different : (i j : ℕ) → j < i → i < length (c .references) → getD (c .references) j [] ≢ getD (c .references) i []
   pub fewRequests : length (c .requests) ≤ maxRequests
-  pub admissible : (i : ℕ) → i < length (c .requests) → Admissible (getD (c .requests) i noRequest)
+  pub admissible : (i : ℕ) → i < length (c .requests) → AdmissibleRequest (getD (c .requests) i noRequest)
 
 -- reading accepts b, and c is its content
 pub record Reads (b : Bytes) (c : Content) : Type 0 where

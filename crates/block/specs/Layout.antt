@@ -11,7 +11,7 @@ use mathlib.Core.List.{List, [], _∷_, _++_, map}
 use Prim.Native.Nat.{ℕ, _+_, _*_, _/_}
 use lib.Dec.{eqb}
 use lib.ListN.{length, getD, take, drop}
-use Rattle.base.specs.Bytes.{Bytes, partAt, parts, joined}
+use Rattle.base.specs.Bytes.{Bytes, partAt, parts, concat}
 use Rattle.base.specs.Number.{numberAt, pair}
 use Rattle.block.specs.Limits.{headerSize, referenceSize, requestSize}
 use Rattle.block.specs.declared.Request.{Request}
@@ -91,4 +91,4 @@ requestBytes q = q .slot ∷ pair (q .number)
 
 unfoldable pub encode : Content → Bytes
 encode c =
-    c .site ∷ (pair (c .sequence) ++ (length (c .references) ∷ length (c .requests) ∷ (joined (c .references) ++ joined (map requestBytes (c .requests)))))
+    c .site ∷ (pair (c .sequence) ++ (length (c .references) ∷ length (c .requests) ∷ (concat (c .references) ++ concat (map requestBytes (c .requests)))))

@@ -5,6 +5,7 @@ use lib.Dec.{eqb, leb, ltb}
 use lib.ListN.{length}
 use Rattle.base.specs.Search.{firstBelow, anyBelow}
 use Rattle.base.specs.Bytes.{Bytes, sameBytes}
+use Rattle.answer.specs.Checks.{success, refused}
 use Rattle.answer.specs.declared.Answer.{Answer}
 use Rattle.setup.specs.Setup.{maxSlot}
 use Rattle.block.specs.Limits.{headerSize, maxReferences, maxRequests, blockSize}
@@ -30,8 +31,8 @@ abbrev pub badRequestAt : Bytes → ℕ → Bool
 badRequestAt list i = badRequest (requestAt list i)
 
 -- 7: a reference equal to an earlier one
-abbrev pub repeatedAt : Bytes → ℕ → Bool
-repeatedAt list i = anyBelow (λ j. sameBytes (referenceAt list j) (referenceAt list i)) i
+abbrev pub referenceRepeatedAt : Bytes → ℕ → Bool
+referenceRepeatedAt list i = anyBelow (λ j. sameBytes (referenceAt list j) (referenceAt list i)) i
 
 -- the numbers of a block that passes all three
 abbrev pub fieldsOf : Bytes → Fields
@@ -42,15 +43,15 @@ unfoldable pub reading : Bytes → Reading
 reading b =
     cond (not (wellShaped b)) Misshapen
     (cond (anyBelow (badRequestAt (requestList b)) (requestCount b)) (BadRequest (firstBelow (badRequestAt (requestList b)) (requestCount b)))
-    (cond (anyBelow (repeatedAt (referenceList b)) (referenceCount b)) (RepeatedReference (firstBelow (repeatedAt (referenceList b)) (referenceCount b)))
+    (cond (anyBelow (referenceRepeatedAt (referenceList b)) (referenceCount b)) (RepeatedReference (firstBelow (referenceRepeatedAt (referenceList b)) (referenceCount b)))
     (Block (fieldsOf b))))
 
 -- document 01's number and value of each case; 0 is none
 abbrev pub answerOf : Reading → Answer
-answerOf (Block f) = record { refusal = 0; value = 0 }
-answerOf Misshapen = record { refusal = 3; value = 0 }
-answerOf (BadRequest i) = record { refusal = 6; value = i }
-answerOf (RepeatedReference i) = record { refusal = 7; value = i }
+answerOf (Block f) = success 0
+answerOf Misshapen = refused 3 0
+answerOf (BadRequest i) = refused 6 i
+answerOf (RepeatedReference i) = refused 7 i
 
 -- what follows from the fields where the reader accepts, and from the answer where it refuses
 module _ {A : Type 0} where

@@ -6,7 +6,7 @@ use Rattle.base.specs.Search.{firstBelow}
 use Rattle.base.specs.Bytes.{Bytes, sameBytes}
 use Rattle.block.specs.Limits.{headerSize, referenceSize, requestSize, maxReferences, maxRequestListSize}
 use Rattle.block.specs.Layout.{referenceAt}
-use Rattle.block.specs.Reading.{badRequestAt, repeatedAt}
+use Rattle.block.specs.Reading.{badRequestAt, referenceRepeatedAt}
 
 -- two lists that a block holds, and an output that holds the block
 pub record Writable (references requests output : Bytes) : Type 0 where
@@ -24,4 +24,4 @@ abbrev pub firstSame : Bytes → ℕ → Bytes → ℕ
 firstSame list k key = firstBelow (λ j. sameBytes (referenceAt list j) key) k
 
 abbrev pub firstRepeated : Bytes → ℕ
-firstRepeated list = firstBelow (repeatedAt list) (length list / referenceSize)
+firstRepeated list = firstBelow (referenceRepeatedAt list) (length list / referenceSize)

@@ -8,8 +8,8 @@ use lib.ListN.{getD}
 use Rattle.base.proofs.List.{set-keeps}
 use Rattle.broadcast.specs.declared.SlotRecord.{SlotRecord}
 use Rattle.broadcast.specs.Record.{nothingMade, inBoth, noteEcho, noteReady}
-use Rattle.broadcast.specs.Process.{Message, receive, receiveAll, request}
-use Rattle.broadcast.proofs.Steps.{Entry, entryOf, putAt, put-cases, receive-step, receiveAll-step, request-step}
+use Rattle.broadcast.specs.Process.{Message, receiveAll, takeRequest}
+use Rattle.broadcast.proofs.Steps.{Entry, entryOf, putAt, put-cases, receiveAll-step, request-step}
 
 -- ---- made at most once
 
@@ -55,13 +55,10 @@ noteEcho-once p v r n z e = inl (record { sent-same = refl; made-same = refl })
 noteReady-once : (p v : ℕ) (r : SlotRecord) → v ≢ 0 → getD (r .readies) p 0 ≡ 0 → MadeOnce r (noteReady p v r)
 noteReady-once p v r n z e = inl (record { sent-same = refl; made-same = refl })
 
-pub receive-once : (n owner : ℕ) (m : Message) (r : SlotRecord) → MadeOnce r (receive n owner m r)
-receive-once = receive-step MadeOnce once-same once-both put-once noteEcho-once noteReady-once
-
 pub receiveAll-once : (n owner : ℕ) (ms : List Message) (r : SlotRecord) → MadeOnce r (receiveAll n owner ms r)
 receiveAll-once = receiveAll-step MadeOnce once-same once-both put-once noteEcho-once noteReady-once
 
-pub request-once : (owner site v : ℕ) (r : SlotRecord) → MadeOnce r (request owner site v r)
+pub request-once : (owner site v : ℕ) (r : SlotRecord) → MadeOnce r (takeRequest owner site v r)
 request-once = request-step MadeOnce once-same once-both put-once noteEcho-once noteReady-once
 
 -- ---- what is not 0 stays
@@ -101,13 +98,10 @@ noteEcho-kept p v r n z = record { sent-kept = λ _ _. refl; echoes-kept = set-k
 noteReady-kept : (p v : ℕ) (r : SlotRecord) → v ≢ 0 → getD (r .readies) p 0 ≡ 0 → Kept r (noteReady p v r)
 noteReady-kept p v r n z = record { sent-kept = λ _ _. refl; echoes-kept = λ _ _. refl; readies-kept = set-keeps (r .readies) p v z }
 
-pub receive-kept : (n owner : ℕ) (m : Message) (r : SlotRecord) → Kept r (receive n owner m r)
-receive-kept = receive-step Kept kept-same kept-both put-kept noteEcho-kept noteReady-kept
-
 pub receiveAll-kept : (n owner : ℕ) (ms : List Message) (r : SlotRecord) → Kept r (receiveAll n owner ms r)
 receiveAll-kept = receiveAll-step Kept kept-same kept-both put-kept noteEcho-kept noteReady-kept
 
-pub request-kept : (owner site v : ℕ) (r : SlotRecord) → Kept r (request owner site v r)
+pub request-kept : (owner site v : ℕ) (r : SlotRecord) → Kept r (takeRequest owner site v r)
 request-kept = request-step Kept kept-same kept-both put-kept noteEcho-kept noteReady-kept
 
 pub nothingMade-kept : (r : SlotRecord) → Kept r (nothingMade r)

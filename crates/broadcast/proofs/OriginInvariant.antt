@@ -18,7 +18,7 @@ use Rattle.broadcast.specs.declared.Kind.{Kind}
 use Rattle.broadcast.specs.declared.Kind.the-variants.{Send, Echo, Ready}
 use Rattle.broadcast.specs.declared.SlotRecord.{SlotRecord}
 use Rattle.broadcast.specs.Record.{blank, nothingMade, inBoth, noteEcho, noteReady}
-use Rattle.broadcast.specs.Process.{Message, support, readyOnEchoes, readyOnReadies, deliverOnReadies, takeSend, takeEcho, takeReady, take, receive, receiveAll, request}
+use Rattle.broadcast.specs.Process.{Message, support, readyOnEchoes, readyOnReadies, deliverOnReadies, takeSend, takeEcho, takeReady, take, receive, receiveAll, takeRequest}
 use Rattle.broadcast.proofs.Steps.{onlyIf-keeps, Entry, entryOf, putAt, put-cases}
 use Rattle.broadcast.proofs.Steps.Entry.{sendEntry, echoEntry, readyEntry, deliveryEntry}
 use Rattle.broadcast.proofs.Support.{supporter, support-kept}
@@ -135,8 +135,8 @@ module _ (n owner : ℕ) (Made : Kind → ℕ → ℕ → Type 0) (Requested : �
   receiveAll-sound (m ∷ ms) r h s =
       receiveAll-sound ms (receive n owner m r) (λ x k. h x (List·Memᴰ·tail k)) (receive-sound m r (h m (List·Memᴰ·head refl)) s)
 
-  pub request-sound : (site v : ℕ) (r : SlotRecord) → (site ≡ owner → Requested v) → Sound r → Sound (request owner site v r)
-  unfolding request
+  pub request-sound : (site v : ℕ) (r : SlotRecord) → (site ≡ owner → Requested v) → Sound r → Sound (takeRequest owner site v r)
+  unfolding takeRequest
   request-sound site v r h s = onlyIf-keeps Sound _ _ r s (λ t.
       let own : (eqb site owner && eqb (r .sent .send) 0) ≡ true = and-right (not (eqb v 0)) _ t in
       put-sound sendEntry v r (h (eqb-true _ _ (and-left (eqb site owner) _ own))))

@@ -13,7 +13,7 @@ use Rattle.broadcast.specs.declared.Kind.{Kind}
 use Rattle.broadcast.specs.declared.Kind.the-variants.{Send, Echo, Ready}
 use Rattle.broadcast.specs.declared.SlotRecord.{SlotRecord}
 use Rattle.broadcast.specs.Record.{withReady, withDelivered, inBoth, noteReady}
-use Rattle.broadcast.specs.Process.{support, onlyIf, readyOnEchoes, readyOnReadies, deliverOnReadies, takeSend, takeEcho, takeReady, take, receive, received, request}
+use Rattle.broadcast.specs.Process.{support, onlyIf, readyOnEchoes, readyOnReadies, deliverOnReadies, takeSend, takeEcho, takeReady, take, receive, received, takeRequest}
 use Rattle.broadcast.specs.Promises.{Supported, Regular, ReadyByEchoes, ReadyByReadies, DeliveryByReadies, OneMessage, OneRequest, Promises}
 use Rattle.broadcast.proofs.Steps.{onlyIf-keeps}
 use Rattle.broadcast.proofs.Support.{support-count}
@@ -85,14 +85,14 @@ module _ (n owner : ℕ) (r : SlotRecord) (p v : ℕ) where
       }
 
   requested : OneRequest n owner r p v
-  unfolding request onlyIf
+  unfolding takeRequest onlyIf
   requested =
       record {
         sends = λ some own none. rw (ne-eqb v 0 some, eq-eqb p owner own, eq-eqb (r .sent .send) 0 none);
         nothing = nothing;
       }
     where
-      nothing : (v ≡ 0) ⊎ ((p ≢ owner) ⊎ (r .sent .send ≢ 0)) → request owner p v r ≡ r
+      nothing : (v ≡ 0) ⊎ ((p ≢ owner) ⊎ (r .sent .send ≢ 0)) → takeRequest owner p v r ≡ r
       nothing (inl e) = rw (eq-eqb v 0 e)
       nothing (inr (inl o)) = rw (ne-eqb p owner o, and-false (not (eqb v 0)))
       nothing (inr (inr s)) = rw (ne-eqb (r .sent .send) 0 s, and-false (eqb p owner), and-false (not (eqb v 0)))

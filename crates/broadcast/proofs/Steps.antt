@@ -15,7 +15,7 @@ use Rattle.broadcast.specs.declared.Kind.the-variants.{Send, Echo, Ready
 use Rattle.broadcast.specs.declared.Sent.{Sent}
 use Rattle.broadcast.specs.declared.SlotRecord.{SlotRecord}
 use Rattle.broadcast.specs.Record.{blank, nothingMade, withSend, withEcho, withReady, withDelivered, inBoth, noteEcho, noteReady}
-use Rattle.broadcast.specs.Process.{Message, madeOf, onlyIf, readyOnEchoes, readyOnReadies, deliverOnReadies, takeSend, takeEcho, takeReady, take, receive, received, receiveAll, request}
+use Rattle.broadcast.specs.Process.{Message, madeOf, onlyIf, readyOnEchoes, readyOnReadies, deliverOnReadies, takeSend, takeEcho, takeReady, take, receive, received, receiveAll, takeRequest}
 
 -- what holds before a step and after it holds where it is taken only if a test passes
 pub onlyIf-keeps : (P : SlotRecord → Type 0) (t : Bool) (f : SlotRecord → SlotRecord) (r : SlotRecord) → P r → (t ≡ true → P r → P (f r))
@@ -123,8 +123,8 @@ module _
     receiveAll-step n owner [] r = same r
     receiveAll-step n owner (m ∷ ms) r = both r (receive n owner m r) _ (receive-step n owner m r) (receiveAll-step n owner ms (receive n owner m r))
 
-    pub request-step : (owner site v : ℕ) (r : SlotRecord) → R r (request owner site v r)
-    unfolding request
+    pub request-step : (owner site v : ℕ) (r : SlotRecord) → R r (takeRequest owner site v r)
+    unfolding takeRequest
     request-step owner site v r = onlyIf-keeps (R r) _ _ r (same r) (λ e _.
         puts sendEntry v r (number-some v _ e) (eqb-true _ _ (and-right (eqb site owner) (eqb (r .sent .send) 0) (and-right (not (eqb v 0)) _ e))))
 
@@ -155,5 +155,5 @@ receive-sized = receive-step (λ r s. Sized r → Sized s) (λ _ h. h) (λ _ _ _
 pub receiveAll-sized : (n owner : ℕ) (ms : List Message) (r : SlotRecord) → Sized r → Sized (receiveAll n owner ms r)
 receiveAll-sized = receiveAll-step (λ r s. Sized r → Sized s) (λ _ h. h) (λ _ _ _ f g h. g (f h)) put-sized noteEcho-sized noteReady-sized
 
-pub request-sized : (owner site v : ℕ) (r : SlotRecord) → Sized r → Sized (request owner site v r)
+pub request-sized : (owner site v : ℕ) (r : SlotRecord) → Sized r → Sized (takeRequest owner site v r)
 request-sized = request-step (λ r s. Sized r → Sized s) (λ _ h. h) (λ _ _ _ f g h. g (f h)) put-sized noteEcho-sized noteReady-sized

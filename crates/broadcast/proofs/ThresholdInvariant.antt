@@ -17,7 +17,7 @@ use Rattle.broadcast.specs.declared.Kind.{Kind}
 use Rattle.broadcast.specs.declared.Kind.the-variants.{Send, Echo, Ready}
 use Rattle.broadcast.specs.declared.SlotRecord.{SlotRecord}
 use Rattle.broadcast.specs.Record.{blank, nothingMade, inBoth, noteEcho, noteReady}
-use Rattle.broadcast.specs.Process.{Message, support, onlyIf, readyOnEchoes, readyOnReadies, deliverOnReadies, takeSend, takeEcho, takeReady, take, receive, receiveAll, request}
+use Rattle.broadcast.specs.Process.{Message, support, onlyIf, readyOnEchoes, readyOnReadies, deliverOnReadies, takeSend, takeEcho, takeReady, take, receive, receiveAll, takeRequest}
 use Rattle.broadcast.proofs.Steps.{onlyIf-keeps, number-some, Entry, entryOf, putAt, put-new, put-cases}
 use Rattle.broadcast.proofs.Steps.Entry.{sendEntry, echoEntry, readyEntry, deliveryEntry}
 use Rattle.broadcast.proofs.Support.{supporter, other-support}
@@ -119,8 +119,8 @@ unfolding receiveAll
 receiveAll-settled n owner [] r s = s
 receiveAll-settled n owner (m ∷ ms) r s = receiveAll-settled n owner ms (receive n owner m r) (receive-settled n owner m r s)
 
-pub request-settled : (n owner site v : ℕ) (r : SlotRecord) → Settled n r → Settled n (request owner site v r)
-unfolding request
+pub request-settled : (n owner site v : ℕ) (r : SlotRecord) → Settled n r → Settled n (takeRequest owner site v r)
+unfolding takeRequest
 request-settled n owner site v r s = onlyIf-keeps (Settled n) _ _ r s (λ t k c u. put-followed n v (number-some v _ t) sendEntry c r u (k c u))
 
 pub nothingMade-settled : (n : ℕ) (r : SlotRecord) → Settled n r → Settled n (nothingMade r)

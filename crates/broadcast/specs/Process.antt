@@ -82,5 +82,5 @@ receiveAll n owner [] r = r
 receiveAll n owner (m ∷ ms) r = receiveAll n owner ms (receive n owner m r)
 
 -- "Interpreting a place": a counted request v, 0 if there is none, of a block of this site, where no SEND is sent
-unfoldable pub request : ℕ → ℕ → ℕ → SlotRecord → SlotRecord
-request owner site v r = onlyIf (not (eqb v 0) && (eqb site owner && eqb (r .sent .send) 0)) (inBoth (withSend v)) r
+unfoldable pub takeRequest : ℕ → ℕ → ℕ → SlotRecord → SlotRecord
+takeRequest owner site v r = onlyIf (not (eqb v 0) && (eqb site owner && eqb (r .sent .send) 0)) (inBoth (withSend v)) r

@@ -13,7 +13,7 @@ use Rattle.broadcast.specs.declared.Kind.{Kind}
 use Rattle.broadcast.specs.declared.Kind.the-variants.{Send, Echo, Ready}
 use Rattle.broadcast.specs.declared.SlotRecord.{SlotRecord}
 use Rattle.broadcast.specs.Record.{withSend, withEcho, withReady, withDelivered, inBoth, noteEcho, noteReady}
-use Rattle.broadcast.specs.Process.{onlyIf, received, request}
+use Rattle.broadcast.specs.Process.{onlyIf, received, takeRequest}
 
 -- v has at least so many supporters: "the sites below n whose heard entry is v"
 abbrev pub Supported : ℕ → List ℕ → ℕ → ℕ → Type 0
@@ -62,8 +62,8 @@ module _ (n owner : ℕ) (r : SlotRecord) (p v : ℕ) where
 
   -- a block of site p with the counted request v, 0 if it has none: "its site is the owner and entry 0 is 0, it sends SEND v"
   pub record OneRequest : Type 0 where
-    pub sends : v ≢ 0 → p ≡ owner → r .sent .send ≡ 0 → request owner p v r ≡ inBoth (withSend v) r
-    pub nothing : (v ≡ 0) ⊎ ((p ≢ owner) ⊎ (r .sent .send ≢ 0)) → request owner p v r ≡ r
+    pub sends : v ≢ 0 → p ≡ owner → r .sent .send ≡ 0 → takeRequest owner p v r ≡ inBoth (withSend v) r
+    pub nothing : (v ≡ 0) ⊎ ((p ≢ owner) ⊎ (r .sent .send ≢ 0)) → takeRequest owner p v r ≡ r
 
 pub record Promises : Type 0 where
   pub message : (n owner : ℕ) (r : SlotRecord) (p v : ℕ) → OneMessage n owner r p v

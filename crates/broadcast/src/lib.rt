@@ -11,7 +11,7 @@ ghost use lib.Dec.{eqb, leb};
 ghost use lib.ListN.{length};
 ghost use Rattle.setup.specs.Setup.{maxSites};
 ghost use Rattle.broadcast.specs.Record.{blank};
-ghost use Rattle.broadcast.specs.Process.{support, takeSend, takeEcho, takeReady, received, request};
+ghost use Rattle.broadcast.specs.Process.{support, takeSend, takeEcho, takeReady, received, takeRequest};
 
 // The SEND, ECHO and READY that were sent and the number that was delivered; 0 is none.
 pub struct Sent {
@@ -163,7 +163,7 @@ pub fn after(state: SlotRecord, n: u8, owner: u8, kind: Kind, sender: u8, number
 
 // The request rule, for a block of this site with this counted request, 0 if it has none.
 pub fn requested(state: SlotRecord, owner: u8, site: u8, number: u16) -> SlotRecord
-    ensures { λ r. ⌜ r ≡ request owner site number state ⌝ }
+    ensures { λ r. ⌜ r ≡ takeRequest owner site number state ⌝ }
 {
     if number == 0 {
         return state;

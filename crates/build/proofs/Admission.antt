@@ -17,7 +17,7 @@ use Rattle.block.specs.Codec.{Reads}
 use Rattle.table.specs.View.{maxPlaces, Row, View}
 use Rattle.table.specs.Layout.{countOf, digestAt, viewOf}
 use Rattle.table.specs.Rules.{parentRow, parents, parentRule}
-use Rattle.table.proofs.InForm.{Formed, formed-of}
+use Rattle.table.proofs.InForm.{TableForm, table-form}
 use Rattle.admission.specs.Admission.{lists, rowFor, admission}
 use Rattle.admission.specs.Promises.{Readable, ReferenceMissing, ParentRule, New, Parented, Causes}
 use Rattle.admission.proofs.Causes.{causes}
@@ -44,8 +44,8 @@ module _ (seen : ℕ → Bool) (t : Bytes) (p : ℕ) (requests : Bytes) (all : A
   abbrev place : ℕ → ℕ
   place = pickedAt seen v p
 
-  form : Formed t
-  form = formed-of t (asked .formed)
+  form : TableForm t
+  form = table-form t (asked .formed)
 
   reads : Reads block next
   reads = next-reads seen t p requests all allRequests asked last

@@ -26,7 +26,7 @@ use Rattle.table.specs.Form.{inForm}
 use Rattle.watch.specs.Promises.{Shares}
 use Rattle.watch.proofs.ForkTest.{forked-shares}
 use Rattle.build.specs.Building.{maxSequence, nextSequence, wellListed, buildingChecks, buildingFrom}
-use Rattle.build.specs.Promises.{BySite, Listed, BadRequest, Asked, answer, needed, Able, Ended, Lasting}
+use Rattle.build.specs.Promises.{BySite, WholeList, BadRequest, Asked, answer, needed, Able, Ended, Lasting}
 use Rattle.build.proofs.Sequence.{greatest-own, greatest-before, next-above, some-greatest}
 
 -- ---- what checks 3 and 6 say of the requests
@@ -73,7 +73,7 @@ module _ (seen : ℕ → Bool) (t : Bytes) (p : ℕ) (requests output : Bytes) w
   by-site : FirstHold checks 2 ↔ BySite t p
   by-site = (λ q. record { formed = q .0 .1; site = ltb-true _ _ (q .1) }, λ b. ((tt, b .formed), lt-ltb _ _ (b .site)))
 
-  listed : FirstHold checks 3 ↔ Listed t p requests
+  listed : FirstHold checks 3 ↔ WholeList t p requests
   listed = (
     λ q. let w = well-listed requests .0 (q .1) in record { bySite = by-site .0 (q .0); fits = w .0; whole = w .1 },
     λ l. (by-site .1 (l .bySite), well-listed requests .1 (l .fits, l .whole)),
@@ -122,7 +122,7 @@ module _ (seen : ℕ → Bool) (t : Bytes) (p : ℕ) (requests output : Bytes) w
   pub three : (number ≡ 3) ↔ (BySite t p × ((maxRequestListSize < length requests) ⊎ (length requests % requestSize ≢ 0)))
   three = Iff·trans (told .refused 2 (omega arith)) (Iff·and by-site (ill-listed requests))
 
-  pub six : (number ≡ 6) ↔ (Listed t p requests × ((i : ℕ) × BadRequest requests i))
+  pub six : (number ≡ 6) ↔ (WholeList t p requests × ((i : ℕ) × BadRequest requests i))
   six = Iff·trans (told .refused 3 (omega arith)) (Iff·and listed (present _ _ (some-bad requests)))
 
   pub sixteen : (number ≡ 16) ↔ (Asked t p requests × Shares (viewOf t) seen p)

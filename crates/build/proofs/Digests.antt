@@ -7,9 +7,9 @@ use native.Mathlib.Decide.{decLe}
 use native.Mathlib.Omega.{arith}
 use lib.ListN.{length, getD, take, drop, length-append, length-take, length-map, length-drop}
 use lib.Seq.{take-all, take-append-le, take-append-add, getD-take, length-take-le}
-use Rattle.base.specs.Bytes.{Bytes, joined, splice}
+use Rattle.base.specs.Bytes.{Bytes, concat, splice}
 use Rattle.base.proofs.List.{map-at}
-use Rattle.base.proofs.Parts.{joined-append, length-joined}
+use Rattle.base.proofs.Parts.{concat-append, length-joined}
 use Rattle.base.proofs.Splice.{splice-nothing, splice-append, length-splice}
 use Rattle.block.specs.Limits.{referenceSize, maxReferences}
 use Rattle.table.specs.View.{maxPlaces}
@@ -84,12 +84,12 @@ module _ (t : Bytes) (size : length t ≡ tableSize) where
       ∙ splice-append list (referenceSize * count) first (omega (arith, r .size, r .few)) then
       ∙ ap (splice list (referenceSize * count))
       (sym (ap (digestsOf t) (fitting-append ps qs count (r .few))
-      ∙ ap joined (map-append (digestAt t) (fitting ps count) (fitting qs (count + length (fitting ps count))))
-      ∙ joined-append (map (digestAt t) (fitting ps count)) (map (digestAt t) (fitting qs (count + length (fitting ps count))))))
+      ∙ ap concat (map-append (digestAt t) (fitting ps count) (fitting qs (count + length (fitting ps count))))
+      ∙ concat-append (map (digestAt t) (fitting ps count)) (map (digestAt t) (fitting qs (count + length (fitting ps count))))))
 
 -- no place: the list as it was
 pub put-nothing : (t : Bytes) (count : ℕ) (list : Bytes) → (count ≡ count + length (fitting [] count)) × (list ≡ putDigests t [] count list)
-unfolding putDigests joined
+unfolding putDigests concat
 put-nothing t count list =
     let e : fitting [] count ≡ [] = take-all (maxReferences - count) [] (omega arith) in
     (rw e (omega arith), sym (ap (λ (ps : List ℕ). splice list (referenceSize * count) (digestsOf t ps)) e ∙ splice-nothing list (referenceSize * count)))
@@ -97,13 +97,13 @@ put-nothing t count list =
 -- one place: the list as it was, or its digest put
 module _ (t : Bytes) (i count : ℕ) (list : Bytes) where
   pub put-none : maxReferences ≤ count → (count ≡ count + length (fitting (i ∷ []) count)) × (list ≡ putDigests t (i ∷ []) count list)
-  unfolding putDigests joined
+  unfolding putDigests concat
   put-none h =
       let e = fitting-none (i ∷ []) count h in
       (rw e (omega arith), sym (ap (λ (ps : List ℕ). splice list (referenceSize * count) (digestsOf t ps)) e ∙ splice-nothing list (referenceSize * count)))
 
   pub put-one : count < maxReferences → (count + 1 ≡ count + length (fitting (i ∷ []) count)) × (splice list (referenceSize * count) (digestAt t i) ≡ putDigests t (i ∷ []) count list)
-  unfolding putDigests joined
+  unfolding putDigests concat
   put-one h =
       let e = fitting-one i count h in
       (rw e, sym (ap (λ (ps : List ℕ). splice list (referenceSize * count) (digestsOf t ps)) e ∙ ap (splice list (referenceSize * count)) (append-nil (digestAt t i))))

@@ -11,7 +11,7 @@ use Rattle.block.proofs.Encoding.{encode-references, references-held}
 use Rattle.table.specs.View.{View}
 use Rattle.table.specs.Layout.{digestAt, viewOf}
 use Rattle.table.specs.Form.{inForm}
-use Rattle.table.proofs.InForm.{formed-of}
+use Rattle.table.proofs.InForm.{table-form}
 use Rattle.build.specs.Building.{nextSequence, picked, nextContent, nextBlock}
 use Rattle.build.proofs.NextContent.{reference-size}
 
@@ -28,5 +28,5 @@ pub next-refers : (seen : ℕ → Bool) (t : Bytes) (p : ℕ) (requests : Bytes)
     → referencesOf (nextBlock seen (viewOf t) p requests) ≡ map (digestAt t) (picked seen (viewOf t) p)
 unfolding nextContent
 next-refers seen t p requests f =
-    let sized = reference-size seen t p requests (formed-of t f) in
+    let sized = reference-size seen t p requests (table-form t f) in
     ap referencesIn (encode-references (nextContent seen (viewOf t) p requests) sized) ∙ references-held (nextContent seen (viewOf t) p requests) sized

@@ -15,9 +15,9 @@ use Rattle.block.specs.Steps.{Writable}
 use Rattle.block.proofs.Encoding.{references-held}
 use Rattle.table.specs.Layout.{viewOf}
 use Rattle.table.specs.Form.{inForm}
-use Rattle.table.proofs.InForm.{formed-of}
+use Rattle.table.proofs.InForm.{table-form}
 use Rattle.build.specs.Building.{maxSequence, nextSequence, picked, nextContent, nextBlock}
-use Rattle.build.specs.Steps.{Listed, digestsOf, nextAnswer, nextOutput}
+use Rattle.build.specs.Steps.{RequestList, digestsOf, nextAnswer, nextOutput}
 use Rattle.build.proofs.PickedPlaces.{picked-few, picked-held}
 use Rattle.build.proofs.Digests.{digests-size}
 use Rattle.build.proofs.NextContent.{reference-size, needed-is}
@@ -37,7 +37,7 @@ module _ (seen : ℕ → Bool) (t : Bytes) (p : ℕ) (requests : Bytes) (formed 
   content-is = λ k. record {
     site = p;
     sequence = nextSequence seen (viewOf t) p;
-    references = references-held (nextContent seen (viewOf t) p requests) (reference-size seen t p requests (formed-of t formed)) k;
+    references = references-held (nextContent seen (viewOf t) p requests) (reference-size seen t p requests (table-form t formed)) k;
     requests = requestsIn requests;
   }
 
@@ -48,8 +48,8 @@ module _ (seen : ℕ → Bool) (t : Bytes) (p : ℕ) (requests : Bytes) (formed 
 
   references-size : length references ≡ referenceSize * length (picked seen (viewOf t) p)
   references-size =
-      digests-size t (formed-of t formed .size) (picked seen (viewOf t) p)
-      (λ i h. omega (arith, picked-held seen (viewOf t) p i h, formed-of t formed .held .fits))
+      digests-size t (table-form t formed .size) (picked seen (viewOf t) p)
+      (λ i h. omega (arith, picked-held seen (viewOf t) p i h, table-form t formed .held .fits))
 
   -- the front of the list that was picked, as the code cuts it
   pub front-is : (list after : Bytes) (count : ℕ) → after ≡ splice list 0 references → count ≡ length (picked seen (viewOf t) p)
@@ -58,7 +58,7 @@ module _ (seen : ℕ → Bool) (t : Bytes) (p : ℕ) (requests : Bytes) (formed 
       let size : (referenceSize * count) - 0 ≡ length references = omega (arith, references-size) in
       ap₂ (λ (m : ℕ) (l : Bytes). take m l) size e ∙ splice-part-in list 0 references (omega arith)
 
-  module _ (listed : Listed requests) (output : Bytes) (count : ℕ) (is : count ≡ length (picked seen (viewOf t) p)) where
+  module _ (listed : RequestList requests) (output : Bytes) (count : ℕ) (is : count ≡ length (picked seen (viewOf t) p)) where
     abbrev needed : ℕ
     needed = headerSize + referenceSize * count + length requests
 

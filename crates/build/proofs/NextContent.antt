@@ -21,7 +21,7 @@ use Rattle.block.proofs.RoundTrip.{round-trip}
 use Rattle.table.specs.Layout.{rowStart, setupOf, countOf, digestAt, viewOf}
 use Rattle.table.specs.Form.{inForm}
 use Rattle.table.proofs.Views.{row-form}
-use Rattle.table.proofs.InForm.{Formed, formed-of}
+use Rattle.table.proofs.InForm.{TableForm, table-form}
 use Rattle.build.specs.Building.{maxSequence, nextSequence, picked, nextContent, nextBlock}
 use Rattle.build.specs.Promises.{Asked}
 use Rattle.build.proofs.Digests.{digest-size}
@@ -29,7 +29,7 @@ use Rattle.build.proofs.PickedPlaces.{pickedAt, picked-few, picked-held
 
 -- ---- the digests of a table in form
 
-module _ (t : Bytes) (form : Formed t) where
+module _ (t : Bytes) (form : TableForm t) where
   -- "digests all different"
   pub one-place : (i j : ℕ) → i < countOf t → j < countOf t → digestAt t i ≡ digestAt t j → i ≡ j
   one-place i j h l e =
@@ -58,7 +58,7 @@ module _ (seen : ℕ → Bool) (t : Bytes) (p : ℕ) (requests : Bytes) where
   unfolding nextContent
   as-many-requests = requests-length requests
 
-  module _ (form : Formed t) where
+  module _ (form : TableForm t) where
     pub reference-size : (i : ℕ) → i < length (next .references) → length (getD (next .references) i []) ≡ referenceSize
     reference-size i h =
         let l : i < length (picked seen (viewOf t) p) = omega (arith, as-many-references) in
@@ -73,7 +73,7 @@ module _ (seen : ℕ → Bool) (t : Bytes) (p : ℕ) (requests : Bytes) where
 
   -- the length of the next block, by its counts and by the bytes of the requests
   pub next-length : inForm t ≡ true → length (nextBlock seen (viewOf t) p requests) ≡ blockSize (length (picked seen (viewOf t) p)) (length requests / requestSize)
-  next-length f = encode-length next (reference-size (formed-of t f)) ∙ rw (as-many-references, as-many-requests)
+  next-length f = encode-length next (reference-size (table-form t f)) ∙ rw (as-many-references, as-many-requests)
 
   pub needed-is : inForm t ≡ true → length requests ≡ requestSize * (length requests / requestSize)
       → length (nextBlock seen (viewOf t) p requests) ≡ headerSize + referenceSize * length (picked seen (viewOf t) p) + length requests
@@ -81,8 +81,8 @@ module _ (seen : ℕ → Bool) (t : Bytes) (p : ℕ) (requests : Bytes) where
 
   module _ (all : AllBytes t) (allRequests : AllBytes requests) (asked : Asked t p requests)
       (last : nextSequence seen (viewOf t) p ≤ maxSequence) where
-    form : Formed t
-    form = formed-of t (asked .formed)
+    form : TableForm t
+    form = table-form t (asked .formed)
 
     digest-there : (i : ℕ) → i < length (next .references) → Digest (getD (next .references) i [])
     digest-there i h =

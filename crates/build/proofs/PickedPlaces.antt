@@ -12,7 +12,7 @@ use lib.Dec.{eqb}
 use lib.ListN.{length, getD, length-append, length-take, List·getD-append}
 use lib.Seq.{getD-take}
 use borrow.Author.Tests.{eqb-false, not-true}
-use Rattle.base.specs.List.{passing}
+use Rattle.base.specs.List.{passingBelow}
 use Rattle.base.proofs.Tests.{and-left, and-right}
 use Rattle.base.proofs.Members.{at-member, member-at}
 use Rattle.base.proofs.PassingBelow.{passing-has, passing-from, passing-rises, Pairwise, pairwise-append, pairwise-take}
@@ -27,10 +27,10 @@ module _ (seen : ℕ → Bool) (v : View) (p : ℕ) where
   pickedAt i = getD (picked seen v p) i 0
 
   abbrev greatest : List ℕ
-  greatest = passing (isGreatest seen v p) (v .held)
+  greatest = passingBelow (isGreatest seen v p) (v .held)
 
   abbrev others : List ℕ
-  others = passing (isOther seen v p) (v .held)
+  others = passingBelow (isOther seen v p) (v .held)
 
   other-site : (i : ℕ) → isOther seen v p i ≡ true → v .row i .site ≢ p
   other-site i y =
@@ -80,7 +80,7 @@ module _ (seen : ℕ → Bool) (v : View) (p : ℕ) where
   picked-different =
       pairwise-take _≢_ maxReferences (greatest ++ others) (pairwise-append _≢_ greatest others (different (isGreatest seen v p)) (different (isOther seen v p)) apart)
     where
-      different : (f : ℕ → Bool) → Pairwise _≢_ (passing f (v .held))
+      different : (f : ℕ → Bool) → Pairwise _≢_ (passingBelow f (v .held))
       different f i j h l e = omega (arith, passing-rises f (v .held) i j h l)
 
       apart : (x y : ℕ) → List·Memᴰ x greatest → List·Memᴰ y others → x ≢ y

@@ -9,7 +9,7 @@ use Rattle.base.specs.Bytes.{Bytes, splice}
 use Rattle.base.proofs.Splice.{splice-part-in, drop-splice}
 use Rattle.table.specs.Layout.{viewOf}
 use Rattle.build.specs.Building.{nextBlock, builtFrom}
-use Rattle.build.specs.Promises.{Admissible, answer, after, Promised}
+use Rattle.build.specs.Promises.{Admissible, answer, outputAfter, Promised}
 use Rattle.build.proofs.NextContent.{next-reads}
 use Rattle.build.proofs.Causes.{two, four, three, six, first-bad, sixteen, thirty, seventeen, none, value, no-value}
 use Rattle.build.proofs.Admission.{next-admissible}
@@ -19,18 +19,18 @@ module _ (seen : ℕ → Bool) (t : Bytes) (p : ℕ) (requests output : Bytes) (
   block = nextBlock seen (viewOf t) p requests
 
   -- what a success leaves
-  written : after seen t p requests output ≡ splice output 0 block
+  written : outputAfter seen t p requests output ≡ splice output 0 block
   unfolding builtFrom
   written = rw done
 
-  front : take (length block) (after seen t p requests output) ≡ block
+  front : take (length block) (outputAfter seen t p requests output) ≡ block
   front = ap (take (length block)) written ∙ splice-part-in output 0 block (omega arith)
 
   -- the block that building hands out
-  pub built-block : take (answer seen t p requests output .value) (after seen t p requests output) ≡ block
-  built-block = ap (λ (n : ℕ). take n (after seen t p requests output)) (value seen t p requests output (inl done)) ∙ front
+  pub built-block : take (answer seen t p requests output .value) (outputAfter seen t p requests output) ≡ block
+  built-block = ap (λ (n : ℕ). take n (outputAfter seen t p requests output)) (value seen t p requests output (inl done)) ∙ front
 
-  rest : drop (length block) (after seen t p requests output) ≡ drop (length block) output
+  rest : drop (length block) (outputAfter seen t p requests output) ≡ drop (length block) output
   rest =
       let e : length block ≡ 0 + length block + 0 = omega arith in
       ap (drop (length block)) written ∙ ap (λ (n : ℕ). drop n (splice output 0 block)) e ∙ drop-splice output 0 block (omega arith) 0 ∙ ap (λ (n : ℕ). drop n output) (sym e)

@@ -6,7 +6,7 @@ use Prim.Native.Nat.{ℕ, zero, suc, _+_, _≤_, _<_}
 use native.Mathlib.Omega.{arith}
 use lib.ListN.{length}
 use Rattle.base.specs.Search.{firstBelow}
-use Rattle.base.specs.List.{passing}
+use Rattle.base.specs.List.{passingBelow}
 use Rattle.base.specs.Mask.{inMask}
 use Rattle.base.specs.Bytes.{Bytes, splice}
 use Rattle.base.proofs.Tests.{true-not-false}
@@ -16,7 +16,7 @@ use Rattle.table.specs.Layout.{countOf, viewOf}
 use Rattle.watch.specs.Promises.{Shares}
 use Rattle.watch.proofs.ForkTest.{forked-shares}
 use Rattle.build.specs.Building.{isGreatest, picked}
-use Rattle.build.specs.Steps.{Ready, Room, othersIn, fitting, digestsOf, putDigests}
+use Rattle.build.specs.Steps.{Buildable, Room, othersIn, fitting, digestsOf, putDigests}
 use Rattle.build.proofs.Sequence.{greatest-only}
 use Rattle.build.proofs.Digests.{AllPlaces, counted-append, put-append}
 
@@ -33,7 +33,7 @@ module _ (t : Bytes) (seen p : ℕ) where
       (count ≡ length (picked (inMask seen) (viewOf t) p)) × (after ≡ splice list 0 (digestsOf t (picked (inMask seen) (viewOf t) p)))
 
   -- the references are those that fit of the greatest block's place and the others
-  all-picked : (ps : List ℕ) → passing own (countOf t) ≡ ps → (list : Bytes)
+  all-picked : (ps : List ℕ) → passingBelow own (countOf t) ≡ ps → (list : Bytes)
       → Picked (0 + length (fitting (ps ++ others) 0)) list (putDigests t (ps ++ others) 0 list)
   unfolding picked putDigests
   all-picked ps e list = (
@@ -46,14 +46,14 @@ module _ (t : Bytes) (seen p : ℕ) where
   picked-others h list = all-picked [] (passing-none own (countOf t) (λ i l. first-before own (countOf t) i (omega arith))) list
 
   -- its greatest block first
-  module _ (ready : Ready t seen p) (place : ℕ) (is : place ≡ firstBelow own (countOf t)) (below : place < countOf t) where
+  module _ (ready : Buildable t seen p) (place : ℕ) (is : place ≡ firstBelow own (countOf t)) (below : place < countOf t) where
     unforked : Shares (viewOf t) (inMask seen) p → ⊥
     unforked s = true-not-false (forked-shares (viewOf t) (inMask seen) p .1 s) (ready .unforked)
 
     here : own place ≡ true
     here = rw is (first-passes own (countOf t) (omega arith))
 
-    alone : passing own (countOf t) ≡ place ∷ []
+    alone : passingBelow own (countOf t) ≡ place ∷ []
     alone = passing-one own (countOf t) place below here (λ i l y. greatest-only (inMask seen) (viewOf t) p unforked i place l below y here)
 
     is-place : AllPlaces (place ∷ [])

@@ -6,7 +6,7 @@ use Prim.Native.Nat.{ℕ, zero, suc, _+_, _/_, _%_, max}
 use lib.Dec.{eqb, leb, ltb}
 use lib.ListN.{length, take}
 use Rattle.base.specs.Search.{firstBelow, anyBelow}
-use Rattle.base.specs.List.{passing}
+use Rattle.base.specs.List.{passingBelow}
 use Rattle.base.specs.Bytes.{Bytes, splice}
 use Rattle.answer.specs.declared.Answer.{Answer}
 use Rattle.answer.specs.Checks.{Check, check, answerTo}
@@ -51,7 +51,7 @@ module _ (seen : ℕ → Bool) (v : View) (p : ℕ) where
 
   -- "its greatest block first, then in place order every" such block, "up to 16 in all"
   unfoldable pub picked : List ℕ
-  picked = take maxReferences (passing isGreatest (v .held) ++ passing isOther (v .held))
+  picked = take maxReferences (passingBelow isGreatest (v .held) ++ passingBelow isOther (v .held))
 
   -- what the next block says: references to the picked places, and the requests as given
   unfoldable pub nextContent : Bytes → Content

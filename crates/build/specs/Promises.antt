@@ -24,7 +24,7 @@ pub record BySite (t : Bytes) (p : ℕ) : Type 0 where
   pub formed : inForm t ≡ true
   pub site : p < setupOf t .sites
 
-pub record Listed (t : Bytes) (p : ℕ) (requests : Bytes) : Type 0 where
+pub record WholeList (t : Bytes) (p : ℕ) (requests : Bytes) : Type 0 where
   pub bySite : BySite t p
   pub fits : length requests ≤ maxRequestListSize
   pub whole : length requests % requestSize ≡ 0
@@ -50,19 +50,19 @@ pub record Ended (seen : ℕ → Bool) (t : Bytes) (p : ℕ) : Type 0 where
 
 -- what admission of the bytes to the table answers with verdict 1: "refused only by 11, or by 8 on a shared digest"
 module _ (digest : Bytes → Bytes) (t b : Bytes) where
-  abbrev pub admitted : ℕ
-  admitted = admission digest t b 1 .refusal
+  abbrev pub admissionRefusal : ℕ
+  admissionRefusal = admission digest t b 1 .refusal
 
   abbrev pub Admissible : Type 0
-  Admissible = (admitted ≡ 0) ⊎ (((admitted ≡ 11) × (countOf t ≡ maxPlaces)) ⊎ ((admitted ≡ 8) × DigestHeld t (digest b)))
+  Admissible = (admissionRefusal ≡ 0) ⊎ (((admissionRefusal ≡ 11) × (countOf t ≡ maxPlaces)) ⊎ ((admissionRefusal ≡ 8) × DigestHeld t (digest b)))
 
 module _ (seen : ℕ → Bool) (t : Bytes) (p : ℕ) (requests output : Bytes) where
   abbrev pub answer : Answer
   answer = buildingFrom seen t p requests output
 
   -- the output afterwards
-  abbrev pub after : Bytes
-  after = builtFrom seen t p requests output
+  abbrev pub outputAfter : Bytes
+  outputAfter = builtFrom seen t p requests output
 
   -- the length of the next block
   abbrev pub needed : ℕ
@@ -83,7 +83,7 @@ module _ (seen : ℕ → Bool) (t : Bytes) (p : ℕ) (requests output : Bytes) w
     pub two : (answer .refusal ≡ 2) ↔ (inForm t ≡ false)
     pub four : (answer .refusal ≡ 4) ↔ ((inForm t ≡ true) × (setupOf t .sites ≤ p))
     pub three : (answer .refusal ≡ 3) ↔ (BySite t p × ((maxRequestListSize < length requests) ⊎ (length requests % requestSize ≢ 0)))
-    pub six : (answer .refusal ≡ 6) ↔ (Listed t p requests × ((i : ℕ) × BadRequest requests i))
+    pub six : (answer .refusal ≡ 6) ↔ (WholeList t p requests × ((i : ℕ) × BadRequest requests i))
     -- "index of first such request"
     pub firstBad : answer .refusal ≡ 6 → First (BadRequest requests) (answer .value)
     pub sixteen : (answer .refusal ≡ 16) ↔ (Asked t p requests × Shares (viewOf t) seen p)
@@ -95,8 +95,8 @@ module _ (seen : ℕ → Bool) (t : Bytes) (p : ℕ) (requests output : Bytes) w
     -- beside any other refusal the value is 0
     pub noValue : answer .refusal ≢ 0 → answer .refusal ≢ 6 → answer .refusal ≢ 17 → answer .value ≡ 0
     -- what is built reads back to exactly the picked content
-    pub read : AllBytes t → AllBytes requests → answer .refusal ≡ 0 → Reads (take needed after) (nextContent seen (viewOf t) p requests)
+    pub read : AllBytes t → AllBytes requests → answer .refusal ≡ 0 → Reads (take needed outputAfter) (nextContent seen (viewOf t) p requests)
     -- bytes after the block stay
-    pub rest : answer .refusal ≡ 0 → drop needed after ≡ drop needed output
+    pub rest : answer .refusal ≡ 0 → drop needed outputAfter ≡ drop needed output
     -- the table admits it
-    pub admissible : AllBytes t → AllBytes requests → answer .refusal ≡ 0 → (digest : Bytes → Bytes) → Admissible digest t (take needed after)
+    pub admissible : AllBytes t → AllBytes requests → answer .refusal ≡ 0 → (digest : Bytes → Bytes) → Admissible digest t (take needed outputAfter)

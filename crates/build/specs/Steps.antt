@@ -5,9 +5,9 @@ use mathlib.Core.List.{List, map}
 use Prim.Native.Nat.{ℕ, _-_, _*_, _/_, _≤_}
 use lib.Dec.{eqb}
 use lib.ListN.{length, take, drop}
-use Rattle.base.specs.List.{passing}
+use Rattle.base.specs.List.{passingBelow}
 use Rattle.base.specs.Mask.{maskBelow, inMask}
-use Rattle.base.specs.Bytes.{Bytes, joined, splice}
+use Rattle.base.specs.Bytes.{Bytes, concat, splice}
 use Rattle.answer.specs.declared.Answer.{Answer}
 use Rattle.answer.specs.Checks.{answerTo}
 use Rattle.block.specs.Limits.{referenceSize, requestSize, maxReferences, maxRequestListSize}
@@ -19,7 +19,7 @@ use Rattle.watch.specs.Forks.{forkedIn}
 use Rattle.build.specs.Building.{isReferred, isOther, nextBlock, buildingChecks}
 
 -- a table and a site that check 16 lets pass, with the places that follow from form
-pub record Ready (t : Bytes) (seen p : ℕ) : Type 0 where
+pub record Buildable (t : Bytes) (seen p : ℕ) : Type 0 where
   pub formed : inForm t ≡ true
   pub sized : Places t (countOf t)
   pub unforked : forkedIn (viewOf t) (inMask seen) p ≡ false
@@ -35,7 +35,7 @@ referredMask t seen p = maskBelow (isReferred (inMask seen) (viewOf t) p) maxPla
 
 -- the places of other sites' blocks that none of the site refers to
 abbrev pub othersIn : Bytes → ℕ → ℕ → List ℕ
-othersIn t seen p = passing (isOther (inMask seen) (viewOf t) p) (countOf t)
+othersIn t seen p = passingBelow (isOther (inMask seen) (viewOf t) p) (countOf t)
 
 -- of some places, the first that a list with so many references has room for
 abbrev pub fitting : List ℕ → ℕ → List ℕ
@@ -43,14 +43,14 @@ fitting places count = take (maxReferences - count) places
 
 -- the references to places, one after the other
 abbrev pub digestsOf : Bytes → List ℕ → Bytes
-digestsOf t places = joined (map (digestAt t) places)
+digestsOf t places = concat (map (digestAt t) places)
 
 -- a list with those that fit put after its first references
 unfoldable pub putDigests : Bytes → List ℕ → ℕ → Bytes → Bytes
 putDigests t places count list = splice list (referenceSize * count) (digestsOf t (fitting places count))
 
 -- a request list that check 3 lets pass
-pub record Listed (requests : Bytes) : Type 0 where
+pub record RequestList (requests : Bytes) : Type 0 where
   pub fits : length requests ≤ maxRequestListSize
   pub whole : length requests ≡ requestSize * (length requests / requestSize)
 

@@ -11,7 +11,7 @@ use block::REFERENCE_SIZE;
 ghost use mathlib.Core.Path.{_≡_};
 ghost use Rattle.base.specs.Mask.{inMask};
 ghost use Rattle.build.specs.Building.{wellListed, buildingFrom, builtFrom, building, built};
-ghost use Rattle.build.specs.Steps.{Ready, Listed, nextAnswer, nextOutput};
+ghost use Rattle.build.specs.Steps.{Buildable, RequestList, nextAnswer, nextOutput};
 
 // The greatest sequence number that two bytes hold.
 const MAX_SEQUENCE: u32 = 65535;
@@ -52,7 +52,7 @@ pub fn build_from(table: &[u8], seen: u64, site: u8, requests: &[u8], output: &m
 
 // Checks 30 and 17, and the block where there is room for it.
 fn write_next(table: &[u8], seen: u64, site: u8, requests: &[u8], output: &mut [u8]) -> Answer
-    requires { ⌜ Ready (now table) seen site × Listed (now requests) ⌝ }
+    requires { ⌜ Buildable (now table) seen site × RequestList (now requests) ⌝ }
     ensures { λ r. ⌜ r ≡ nextAnswer (inMask seen) (now (table .entry)) site (now (requests .entry)) (now (output .entry)) ⌝ }
     ensures { λ _. ⌜ now (output .exit) ≡ nextOutput (inMask seen) (now (table .entry)) site (now (requests .entry)) (now (output .entry)) ⌝ }
 {

@@ -5,11 +5,11 @@ ghost use Prim.Native.Nat.{_<_};
 ghost use Rattle.base.specs.Mask.{inMask};
 ghost use Rattle.table.specs.Layout.{countOf, viewOf};
 ghost use Rattle.build.specs.Building.{sequenceAfter, nextSequence};
-ghost use Rattle.build.specs.Steps.{Ready};
+ghost use Rattle.build.specs.Steps.{Buildable};
 
 // One more than the sequence number of the site's block at a place; 0 if there is none.
 fn sequence_after(table: &[u8], seen: u64, site: u8, i: usize) -> u32
-    requires { ⌜ Ready (now table) seen site × (i < countOf (now table)) ⌝ }
+    requires { ⌜ Buildable (now table) seen site × (i < countOf (now table)) ⌝ }
     ensures { λ r. ⌜ r ≡ sequenceAfter (inMask seen) (viewOf (now (table .entry))) site i ⌝ }
 {
     if !watch::sites::of_site(table, seen, i, site) {
@@ -20,7 +20,7 @@ fn sequence_after(table: &[u8], seen: u64, site: u8, i: usize) -> u32
 
 // One more than the site's greatest sequence number; 0 if it has no block.
 pub fn next_sequence(table: &[u8], seen: u64, site: u8) -> u32
-    requires { ⌜ Ready (now table) seen site ⌝ }
+    requires { ⌜ Buildable (now table) seen site ⌝ }
     ensures { λ r. ⌜ r ≡ nextSequence (inMask seen) (viewOf (now (table .entry))) site ⌝ }
 {
     let k = rows::count_of(table);

@@ -13,7 +13,7 @@ ghost use Rattle.block.specs.Limits.{referenceSize, maxReferences};
 ghost use Rattle.table.specs.Layout.{countOf, viewOf};
 ghost use Rattle.table.specs.Steps.{Place, Places};
 ghost use Rattle.build.specs.Building.{nextSequence, isGreatest, isOther, picked};
-ghost use Rattle.build.specs.Steps.{Ready, Room, referredMask, othersIn, fitting, digestsOf, putDigests};
+ghost use Rattle.build.specs.Steps.{Buildable, Room, referredMask, othersIn, fitting, digestsOf, putDigests};
 
 // Whether the place holds the site's greatest block.
 fn is_greatest(table: &[u8], seen: u64, site: u8, next: u16, i: usize) -> bool
@@ -108,7 +108,7 @@ fn put_others(table: &[u8], seen: u64, site: u8, count: usize, list: &mut [u8]) 
 
 // Puts the references to the front of the list; how many they are.
 pub fn pick(table: &[u8], seen: u64, site: u8, next: u16, list: &mut [u8]) -> usize
-    requires { ⌜ Ready (now table) seen site × (next ≡ nextSequence (inMask seen) (viewOf (now table)) site) × (length (now list) ≡ referenceSize * maxReferences) ⌝ }
+    requires { ⌜ Buildable (now table) seen site × (next ≡ nextSequence (inMask seen) (viewOf (now table)) site) × (length (now list) ≡ referenceSize * maxReferences) ⌝ }
     ensures { λ r. ⌜ r ≡ length (picked (inMask seen) (viewOf (now (table .entry))) site) ⌝ }
     ensures { λ _. ⌜ now (list .exit) ≡ splice (now (list .entry)) 0 (digestsOf (now (table .entry)) (picked (inMask seen) (viewOf (now (table .entry))) site)) ⌝ }
 {

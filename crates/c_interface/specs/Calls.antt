@@ -6,6 +6,7 @@ use lib.Dec.{leb, ltb}
 use lib.ListN.{length}
 use Rattle.base.specs.Bytes.{Bytes, splice}
 use Rattle.sha256.specs.Sha256.{sha256}
+use Rattle.answer.specs.Checks.{success, refused}
 use Rattle.answer.specs.declared.Answer.{Answer}
 use Rattle.block.specs.Limits.{referenceSize}
 use Rattle.block.specs.Layout.{referenceList, requestList, referenceAt, requestAt}
@@ -14,16 +15,13 @@ use Rattle.block.specs.declared.Fields.{Fields}
 use Rattle.c_interface.specs.declared.BlockReading.{BlockReading}
 use Rattle.c_interface.specs.declared.Requested.{Requested}
 
-abbrev pub done : Answer
-done = record { refusal = 0; value = 0 }
-
 abbrev pub noSuchEntry : Answer
-noSuchEntry = record { refusal = 13; value = 0 }
+noSuchEntry = refused 13 0
 
 -- ---- a digest, or a reference, which is one, at the front of the output
 
-abbrev pub putAnswer : Bytes → Answer
-putAnswer output = cond (ltb (length output) referenceSize) (record { refusal = 17; value = referenceSize }) done
+abbrev pub digestAnswer : Bytes → Answer
+digestAnswer output = cond (ltb (length output) referenceSize) (refused 17 referenceSize) (success 0)
 
 abbrev pub putOutput : Bytes → Bytes → Bytes
 putOutput part output = cond (ltb (length output) referenceSize) output (splice output 0 part)
@@ -38,12 +36,12 @@ abbrev pub noFields : Fields
 noFields = record { site = 0; sequence = 0; references = 0; requests = 0 }
 
 unfoldable pub blockReading : Bytes → BlockReading
-blockReading b = whenRead (reading b) (λ f. record { answer = done; fields = f }) (λ a. record { answer = a; fields = noFields })
+blockReading b = whenRead (reading b) (λ f. record { answer = success 0; fields = f }) (λ a. record { answer = a; fields = noFields })
 
 -- ---- gt_reference
 
 unfoldable pub referenceAnswer : Bytes → ℕ → Bytes → Answer
-referenceAnswer b index output = whenRead (reading b) (λ f. cond (leb (f .references) index) noSuchEntry (putAnswer output)) (λ a. a)
+referenceAnswer b index output = whenRead (reading b) (λ f. cond (leb (f .references) index) noSuchEntry (digestAnswer output)) (λ a. a)
 
 unfoldable pub referenceOutput : Bytes → ℕ → Bytes → Bytes
 referenceOutput b index output =
@@ -55,7 +53,7 @@ abbrev pub withoutRequest : Answer → Requested
 withoutRequest a = record { answer = a; slot = 0; number = 0 }
 
 abbrev pub requestThere : Bytes → ℕ → Requested
-requestThere list index = record { answer = done; slot = requestAt list index .slot; number = requestAt list index .number }
+requestThere list index = record { answer = success 0; slot = requestAt list index .slot; number = requestAt list index .number }
 
 unfoldable pub requested : Bytes → ℕ → Requested
 requested b index = whenRead (reading b) (λ f. cond (leb (f .requests) index) (withoutRequest noSuchEntry) (requestThere (requestList b) index)) withoutRequest

@@ -7,7 +7,7 @@ ghost use mathlib.Core.Path.{_≡_};
 ghost use lib.ListN.{length};
 ghost use Rattle.sha256.specs.Sha256.{sha256};
 ghost use Rattle.answer.specs.Buffer.{putAnswers};
-ghost use Rattle.shelf.specs.Form as waiting;
+ghost use Rattle.shelf.specs.Form.{shelfInForm};
 ghost use Rattle.table.specs.Form.{inForm};
 ghost use Rattle.table.specs.Fresh.{freshAnswer, freshIn};
 ghost use Rattle.admission.specs.Admission.{admission, admitted};
@@ -121,7 +121,7 @@ pub extern "C" fn gt_replay(
 // Whether a lent buffer is a shelf in form.
 #[no_mangle]
 pub extern "C" fn gt_shelf_in_form(shelf: &[u8]) -> bool
-    ensures { λ r. ⌜ r ≡ waiting.inForm (now (shelf .entry)) ⌝ }
+    ensures { λ r. ⌜ r ≡ shelfInForm (now (shelf .entry)) ⌝ }
 {
     shelf::in_form(shelf)
 }

@@ -10,7 +10,7 @@ use block::Reading;
 ghost use mathlib.Core.Path.{_≡_};
 ghost use lib.ListN.{length};
 ghost use Rattle.block.specs.Limits.{referenceSize};
-ghost use Rattle.c_interface.specs.Calls.{putAnswer, putOutput, digestOutput, blockReading, referenceAnswer, referenceOutput, requested};
+ghost use Rattle.c_interface.specs.Calls.{digestAnswer, putOutput, digestOutput, blockReading, referenceAnswer, referenceOutput, requested};
 
 #[repr(C)]
 pub struct BlockReading {
@@ -28,7 +28,7 @@ pub struct Requested {
 // Puts a digest at the front of the output, if there is room.
 fn put_digest(digest: &[u8], output: &mut [u8]) -> Answer
     requires { ⌜ length (now digest) ≡ referenceSize ⌝ }
-    ensures { λ r. ⌜ r ≡ putAnswer (now (output .entry)) ⌝ }
+    ensures { λ r. ⌜ r ≡ digestAnswer (now (output .entry)) ⌝ }
     ensures { λ _. ⌜ now (output .exit) ≡ putOutput (now (digest .entry)) (now (output .entry)) ⌝ }
 {
     if output.len() < REFERENCE_SIZE {
@@ -41,7 +41,7 @@ fn put_digest(digest: &[u8], output: &mut [u8]) -> Answer
 // The message's digest, to the front of the output.
 #[no_mangle]
 pub extern "C" fn gt_digest(message: &[u8], output: &mut [u8]) -> Answer
-    ensures { λ r. ⌜ r ≡ putAnswer (now (output .entry)) ⌝ }
+    ensures { λ r. ⌜ r ≡ digestAnswer (now (output .entry)) ⌝ }
     ensures { λ _. ⌜ now (output .exit) ≡ digestOutput (now (message .entry)) (now (output .entry)) ⌝ }
 {
     put_digest(&sha256::digest(message), output)

@@ -11,8 +11,8 @@ use Rattle.base.proofs.Tests.{by-test, true-not-false}
 use Rattle.answer.specs.declared.Answer.{Answer}
 use Rattle.shelf.specs.Layout.{waitingIn}
 use Rattle.shelf.specs.Rules.{maxCampaign, hasPlace, waits}
-use Rattle.shelf.specs.Form.{inForm}
-use Rattle.table.specs.Form as table
+use Rattle.shelf.specs.Form.{shelfInForm}
+use Rattle.table.specs.Form.{inForm}
 use Rattle.admission.specs.Admission.{admission}
 use Rattle.admission.specs.Promises.{Causes as OwnCauses}
 use Rattle.admission.proofs.Causes.{causes as admission-causes}
@@ -65,7 +65,7 @@ module _ (digest : Bytes → Bytes) (t s : Bytes) (c : ℕ) (b : Bytes) (verdict
       (λ z. answer-of (at-other digest t s c b verdict room k n (eqb-false (admission digest t b verdict .refusal) 0 z)))
 
   abbrev NotFormed : Type 0
-  NotFormed = Lent digest t s c b verdict room × ((inForm s ≡ false) ⊎ (table.inForm t ≡ false))
+  NotFormed = Lent digest t s c b verdict room × ((shelfInForm s ≡ false) ⊎ (inForm t ≡ false))
 
   two : (number ≡ 2) ↔ NotFormed
   two = (
@@ -75,9 +75,9 @@ module _ (digest : Bytes → Bytes) (t s : Bytes) (c : ℕ) (b : Bytes) (verdict
         (λ k n z e. (record { campaign = k .campaign; outcomes = k .outcomes }, inr (own .two .0 e))),
     λ p.
         let l = p .0 in
-        by-test (inForm s)
+        by-test (shelfInForm s)
         (λ y.
-        let f : table.inForm t ≡ false = elim (p .1) [ inl n ↦ true-not-false y n | inr n ↦ n ] in
+        let f : inForm t ≡ false = elim (p .1) [ inl n ↦ true-not-false y n | inr n ↦ n ] in
         let e = own .two .1 f in
         ap (λ (a : Answer). a .refusal) (others (record { campaign = l .campaign; outcomes = l .outcomes; formed = y }) (λ q. omega arith)) ∙ e)
         (λ n. number-of (at2 digest t s c b verdict room (l .campaign) (l .outcomes) n)),

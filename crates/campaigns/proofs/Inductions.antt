@@ -12,7 +12,7 @@ use Rattle.base.proofs.Tests.{by-test, true-not-false}
 use Rattle.shelf.specs.Layout.{Waiting}
 use Rattle.shelf.specs.Rules.{isFor}
 use Rattle.admission.specs.Admission.{admission, admitted}
-use Rattle.campaigns.specs.Passes.{Try, Passed, waitsOn, outcomesOf, triedBefore, leftBefore, andThen, admits, pass, passes, settled}
+use Rattle.campaigns.specs.Passes.{Try, PassResult, waitsOn, outcomesOf, triedBefore, leftBefore, andThen, admits, pass, passes, settled}
 
 -- where a block was let in, there is an outcome
 admits-some : (ys : List Try) → admits ys ≡ true → 0 < length (outcomesOf ys)
@@ -26,10 +26,10 @@ admits-some (y ∷ ys) e =
     (λ n. rw n (omega arith))
 
 module _ (digest : Bytes → Bytes) (c : ℕ) where
-  module _ (P : Bytes → List Waiting → Passed → Type 0)
+  module _ (P : Bytes → List Waiting → PassResult → Type 0)
       (none : (t : Bytes) → P t [] (record { table = t; waiting = []; tries = [] }))
-      (other : (t : Bytes) (w : Waiting) (ws : List Waiting) (p : Passed) → isFor c w ≡ false → P t ws p → P t (w ∷ ws) (leftBefore w p))
-      (own : (t : Bytes) (w : Waiting) (ws : List Waiting) (p : Passed) → isFor c w ≡ true → P (admitted digest t (w .block) 1) ws p
+      (other : (t : Bytes) (w : Waiting) (ws : List Waiting) (p : PassResult) → isFor c w ≡ false → P t ws p → P t (w ∷ ws) (leftBefore w p))
+      (own : (t : Bytes) (w : Waiting) (ws : List Waiting) (p : PassResult) → isFor c w ≡ true → P (admitted digest t (w .block) 1) ws p
       → P t (w ∷ ws) (triedBefore w (admission digest t (w .block) 1) p)) where
     pub pass-by : (ws : List Waiting) (t : Bytes) → P t ws (pass digest t c ws)
     unfolding pass
@@ -59,12 +59,12 @@ module _ (digest : Bytes → Bytes) (c : ℕ) where
   passes-enough (suc n) (suc m) t ws h k =
       let p = pass digest t c ws in
       by-test (admits (p .tries))
-      (λ y. let l = pass-fewer ws t y in ap (λ (q : Passed). cond (admits (p .tries)) (andThen p q) p) (passes-enough n m (p .table) (p .waiting) (omega arith) (omega arith)))
+      (λ y. let l = pass-fewer ws t y in ap (λ (q : PassResult). cond (admits (p .tries)) (andThen p q) p) (passes-enough n m (p .table) (p .waiting) (omega arith) (omega arith)))
       (λ y. rw y)
 
-  module _ (P : Bytes → List Waiting → Passed → Type 0)
+  module _ (P : Bytes → List Waiting → PassResult → Type 0)
       (last : (t : Bytes) (ws : List Waiting) → admits (pass digest t c ws .tries) ≡ false → P t ws (pass digest t c ws))
-      (more : (t : Bytes) (ws : List Waiting) (q : Passed) → P (pass digest t c ws .table) (pass digest t c ws .waiting) q → P t ws (andThen (pass digest t c ws) q)) where
+      (more : (t : Bytes) (ws : List Waiting) (q : PassResult) → P (pass digest t c ws .table) (pass digest t c ws .waiting) q → P t ws (andThen (pass digest t c ws) q)) where
     passes-by : (n : ℕ) (t : Bytes) (ws : List Waiting) → length ws < n → P t ws (passes digest n t c ws)
     unfolding passes
     passes-by zero t ws h = absurd (omega arith)

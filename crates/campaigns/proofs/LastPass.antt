@@ -12,7 +12,7 @@ use Rattle.base.proofs.Tests.{by-test, true-not-false, or-left, or-right}
 use Rattle.shelf.specs.Layout.{Waiting}
 use Rattle.admission.specs.Admission.{admission}
 use Rattle.admission.proofs.Effect.{refused-table}
-use Rattle.campaigns.specs.Passes.{Passed, waitsOn, admits, pass, settled}
+use Rattle.campaigns.specs.Passes.{PassResult, waitsOn, admits, pass, settled}
 use Rattle.campaigns.proofs.Inductions.{pass-by, settled-by}
 
 module _ (digest : Bytes → Bytes) (c : ℕ) where
@@ -20,7 +20,7 @@ module _ (digest : Bytes → Bytes) (c : ℕ) where
   abbrev pub Still : Bytes → List Waiting → Type 0
   Still t ws = (w : Waiting) → List·Memᴰ w ws → w .campaign ≡ c → admission digest t (w .block) 1 .refusal ≡ 9
 
-  record Idle (t : Bytes) (p : Passed) : Type 0 where
+  record Idle (t : Bytes) (p : PassResult) : Type 0 where
     same : p .table ≡ t
     still : Still t (p .waiting)
 

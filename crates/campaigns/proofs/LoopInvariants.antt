@@ -13,7 +13,7 @@ use Rattle.sha256.specs.Sha256.{sha256}
 use Rattle.shelf.specs.Layout.{maxWaiting, Waiting, waitingIn, shelfBytes}
 use Rattle.shelf.specs.Rules.{isFor}
 use Rattle.shelf.specs.Steps.{noWaiting, AllFit, Laid, without}
-use Rattle.shelf.proofs.Layout.{fit-without, laid-own, laid-waiting}
+use Rattle.shelf.proofs.ShelfLayout.{fit-without, laid-own, laid-waiting}
 use Rattle.admission.specs.Admission.{admission, admitted}
 use Rattle.campaigns.specs.Passes.{waitsOn, outcomesOf, admits, pass}
 use Rattle.campaigns.specs.Steps.{Passable, Turned, passedBy, takenOut, turned}
@@ -51,7 +51,7 @@ module _ (t : Bytes) (ws : List Waiting) (o : List ℕ) (c : ℕ) (p : Pass) whe
     turned-fit : AllFit ws → AllFit (turn .waiting)
     turned-fit f = elim turned-cases [ inl e ↦ rw e f | inr e ↦ rw e (fit-without (p .at) ws f) ]
 
-pub record Going (c : ℕ) (t₀ s₀ : Bytes) (o₀ : List ℕ) (p₀ : Pass) (t s : Bytes) (o : List ℕ) (p : Pass) (at : ℕ) : Type 0 where
+pub record PassInvariant (c : ℕ) (t₀ s₀ : Bytes) (o₀ : List ℕ) (p₀ : Pass) (t s : Bytes) (o : List ℕ) (p : Pass) (at : ℕ) : Type 0 where
   pub passable : Passable s (p .ended)
   pub stands : at ≡ p .at
   pub left : leftOf sha256 c t (waitingIn s) o p ≡ leftOf sha256 c t₀ (waitingIn s₀) o₀ p₀
@@ -59,7 +59,7 @@ pub record Going (c : ℕ) (t₀ s₀ : Bytes) (o₀ : List ℕ) (p₀ : Pass) (
   pub shelf : length s ≡ length s₀
   pub outcomes : length o ≡ length o₀
 
-module _ (c : ℕ) (t₀ s₀ : Bytes) (o₀ : List ℕ) (p₀ : Pass) (t s : Bytes) (o : List ℕ) (p : Pass) (at : ℕ) (g : Going c t₀ s₀ o₀ p₀ t s o p at)
+module _ (c : ℕ) (t₀ s₀ : Bytes) (o₀ : List ℕ) (p₀ : Pass) (t s : Bytes) (o : List ℕ) (p : Pass) (at : ℕ) (g : PassInvariant c t₀ s₀ o₀ p₀ t s o p at)
     (below : p .at < length (waitingIn s)) (t′ s′ : Bytes) (o′ : List ℕ) (p′ : Pass) (ep : p′ ≡ turned sha256 t (waitingIn s) o c p .next)
     (et : t′ ≡ turned sha256 t (waitingIn s) o c p .table) (es : s′ ≡ shelfBytes (turned sha256 t (waitingIn s) o c p .waiting))
     (eo : o′ ≡ turned sha256 t (waitingIn s) o c p .outcomes) where
@@ -75,7 +75,7 @@ module _ (c : ℕ) (t₀ s₀ : Bytes) (o₀ : List ℕ) (p₀ : Pass) (t s : By
   waiting-next : waitingIn s′ ≡ turned sha256 t ws o c p .waiting
   waiting-next = laid-waiting s′ _ laid-next
 
-  pub goes-on : length t′ ≡ length t → length s′ ≡ length s → length o′ ≡ length o → Going c t₀ s₀ o₀ p₀ t′ s′ o′ p′ (p′ .at)
+  pub goes-on : length t′ ≡ length t → length s′ ≡ length s → length o′ ≡ length o → PassInvariant c t₀ s₀ o₀ p₀ t′ s′ o′ p′ (p′ .at)
   goes-on lt ls lo =
       record {
         passable = record { laid = laid-own s′ _ laid-next; few = rw (waiting-next, ep) few };
@@ -91,7 +91,7 @@ module _ (c : ℕ) (t₀ s₀ : Bytes) (o₀ : List ℕ) (p₀ : Pass) (t s : By
 
 -- ---- the passes
 
-pub record Settling (c : ℕ) (t₀ s₀ : Bytes) (o₀ : List ℕ) (t s : Bytes) (o : List ℕ) (ended : ℕ) (again : Bool) : Type 0 where
+pub record PassesInvariant (c : ℕ) (t₀ s₀ : Bytes) (o₀ : List ℕ) (t s : Bytes) (o : List ℕ) (ended : ℕ) (again : Bool) : Type 0 where
   pub passable : Passable s ended
   pub left : restOf sha256 c again t (waitingIn s) (record { numbers = o; count = ended }) ≡ restOf sha256 c true t₀ (waitingIn s₀) (record { numbers = o₀; count = 0 })
   pub table : length t ≡ length t₀
@@ -103,7 +103,7 @@ abbrev pub ahead : Bool → List Waiting → ℕ
 ahead true ws = suc (length ws)
 ahead false ws = 0
 
-module _ (c : ℕ) (t₀ s₀ : Bytes) (o₀ : List ℕ) (t s : Bytes) (o : List ℕ) (ended : ℕ) (again : Bool) (g : Settling c t₀ s₀ o₀ t s o ended again)
+module _ (c : ℕ) (t₀ s₀ : Bytes) (o₀ : List ℕ) (t s : Bytes) (o : List ℕ) (ended : ℕ) (again : Bool) (g : PassesInvariant c t₀ s₀ o₀ t s o ended again)
     (goes : again ≡ true) (t′ s′ : Bytes) (o′ : List ℕ) (ended′ : ℕ) (again′ : Bool) (ea : again′ ≡ admits (pass sha256 t c (waitingIn s) .tries))
     (en : ended′ ≡ ended + length (outcomesOf (pass sha256 t c (waitingIn s) .tries))) (et : t′ ≡ pass sha256 t c (waitingIn s) .table)
     (es : s′ ≡ shelfBytes (pass sha256 t c (waitingIn s) .waiting))
@@ -119,7 +119,7 @@ module _ (c : ℕ) (t₀ s₀ : Bytes) (o₀ : List ℕ) (t s : Bytes) (o : List
   waiting-passed : waitingIn s′ ≡ pass sha256 t c (waitingIn s) .waiting
   waiting-passed = laid-waiting s′ _ laid-passed
 
-  pub settles-on : length t′ ≡ length t → length s′ ≡ length s → length o′ ≡ length o → Settling c t₀ s₀ o₀ t′ s′ o′ ended′ again′
+  pub settles-on : length t′ ≡ length t → length s′ ≡ length s → length o′ ≡ length o → PassesInvariant c t₀ s₀ o₀ t′ s′ o′ ended′ again′
   settles-on lt ls lo =
       record {
         passable = record {

@@ -12,12 +12,12 @@ use Rattle.base.proofs.Selection.{length-those, count-in-le}
 use Rattle.shelf.specs.Layout.{Waiting}
 use Rattle.shelf.specs.Rules.{isFor, waits}
 use Rattle.admission.specs.Admission.{admission}
-use Rattle.campaigns.specs.Passes.{Passed, waitsOn, andThen, admits, pass, passes, settled}
+use Rattle.campaigns.specs.Passes.{PassResult, waitsOn, andThen, admits, pass, passes, settled}
 use Rattle.campaigns.specs.Promises.{only}
 use Rattle.campaigns.proofs.Inductions.{pass-by, passes-enough}
 
 -- what a campaign sees of what passes leave
-abbrev pub seen : ℕ → Passed → Passed
+abbrev pub seen : ℕ → PassResult → PassResult
 seen c p = record { table = p .table; waiting = only c (p .waiting); tries = p .tries }
 
 pub waits-only : (c : ℕ) (b : Bytes) (ws : List Waiting) → waits c b (only c ws) ≡ waits c b ws
@@ -42,7 +42,7 @@ module _ (digest : Bytes → Bytes) (c : ℕ) where
   passes-only zero ws t = refl
   passes-only (suc n) ws t =
       let p = pass digest t c ws in
-      let further : Passed → Passed = λ q. cond (admits (q .tries)) (andThen q (passes digest n (q .table) c (q .waiting))) q in
+      let further : PassResult → PassResult = λ q. cond (admits (q .tries)) (andThen q (passes digest n (q .table) c (q .waiting))) q in
       ap further (pass-only ws t)
       ∙ by-test (admits (p .tries)) (λ y. rw y (ap (andThen p) (passes-only n (p .waiting) (p .table)))) (λ y. rw y)
 

@@ -15,10 +15,10 @@ use Rattle.base.proofs.Selection.{count-in-append}
 use Rattle.shelf.specs.Layout.{Waiting}
 use Rattle.shelf.specs.Rules.{isFor, holds}
 use Rattle.shelf.specs.Steps.{AllFit}
-use Rattle.shelf.proofs.InForm.{Ruled}
+use Rattle.shelf.proofs.InForm.{RulesHold}
 use Rattle.shelf.proofs.Rules.{ruled-without}
 use Rattle.admission.specs.Admission.{admission}
-use Rattle.campaigns.specs.Passes.{Passed, waitsOn, outcomesOf, pass, settled}
+use Rattle.campaigns.specs.Passes.{PassResult, waitsOn, outcomesOf, pass, settled}
 use Rattle.campaigns.specs.Promises.{only, timesWaiting, isEnd, timesEnded, TriedFrom}
 use Rattle.campaigns.proofs.Inductions.{pass-by, settled-by}
 use Rattle.campaigns.proofs.Tries.{outcomes-append, tried-append}
@@ -26,20 +26,20 @@ use Rattle.campaigns.proofs.Tries.{outcomes-append, tried-append}
 module _ (digest : Bytes → Bytes) (c : ℕ) where
   -- ---- the rules are kept
 
-  pass-ruled : (ws : List Waiting) (t : Bytes) (us : List Waiting) → Ruled (us ++ ws) → Ruled (us ++ pass digest t c ws .waiting)
+  pass-ruled : (ws : List Waiting) (t : Bytes) (us : List Waiting) → RulesHold (us ++ ws) → RulesHold (us ++ pass digest t c ws .waiting)
   pass-ruled =
-      pass-by digest c (λ t ws p. (us : List Waiting) → Ruled (us ++ ws) → Ruled (us ++ p .waiting))
+      pass-by digest c (λ t ws p. (us : List Waiting) → RulesHold (us ++ ws) → RulesHold (us ++ p .waiting))
       (λ t us r. r)
       (λ t w ws p n ih us r. on us w ws p ih r)
       (λ t w ws p y ih us r.
       by-test (waitsOn (admission digest t (w .block) 1)) (λ z. rw z (on us w ws p ih r)) (λ z. rw z (ih us (ruled-without us w ws r))))
     where
-      on : (us : List Waiting) (w : Waiting) (ws : List Waiting) (p : Passed) → ((vs : List Waiting) → Ruled (vs ++ ws) → Ruled (vs ++ p .waiting))
-          → Ruled (us ++ (w ∷ ws)) → Ruled (us ++ (w ∷ p .waiting))
+      on : (us : List Waiting) (w : Waiting) (ws : List Waiting) (p : PassResult) → ((vs : List Waiting) → RulesHold (vs ++ ws) → RulesHold (vs ++ p .waiting))
+          → RulesHold (us ++ (w ∷ ws)) → RulesHold (us ++ (w ∷ p .waiting))
       on us w ws p ih r = rw (append-assoc us (w ∷ []) (p .waiting)) at (ih (us ++ (w ∷ [])) (rw (append-assoc us (w ∷ []) ws) r))
 
-  pub settled-ruled : (t : Bytes) (ws : List Waiting) → Ruled ws → Ruled (settled digest t c ws .waiting)
-  settled-ruled = settled-by digest c (λ t ws q. Ruled ws → Ruled (q .waiting)) (λ t ws n r. pass-ruled ws t [] r) (λ t ws q ih r. ih (pass-ruled ws t [] r))
+  pub settled-ruled : (t : Bytes) (ws : List Waiting) → RulesHold ws → RulesHold (settled digest t c ws .waiting)
+  settled-ruled = settled-by digest c (λ t ws q. RulesHold ws → RulesHold (q .waiting)) (λ t ws n r. pass-ruled ws t [] r) (λ t ws q ih r. ih (pass-ruled ws t [] r))
 
   -- ---- the blocks that wait on fit
 
@@ -55,7 +55,7 @@ module _ (digest : Bytes → Bytes) (c : ℕ) where
 
   -- ---- each block that ends held a place of the campaign
 
-  abbrev Places : List Waiting → Passed → Type 0
+  abbrev Places : List Waiting → PassResult → Type 0
   Places ws q = holds c (q .waiting) + length (outcomesOf (q .tries)) ≡ holds c ws
 
   pass-places : (ws : List Waiting) (t : Bytes) → Places ws (pass digest t c ws)
@@ -77,7 +77,7 @@ module _ (digest : Bytes → Bytes) (c : ℕ) where
   -- ---- each block waits on or ends, as often as it waited
 
   module _ (x : Bytes) where
-    abbrev Accounted : List Waiting → Passed → Type 0
+    abbrev Accounted : List Waiting → PassResult → Type 0
     Accounted ws q = timesWaiting c x (q .waiting) + timesEnded x (q .tries) ≡ timesWaiting c x ws
 
     pass-accounted : (ws : List Waiting) (t : Bytes) → Accounted ws (pass digest t c ws)

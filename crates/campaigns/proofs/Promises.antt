@@ -17,16 +17,16 @@ use Rattle.sha256.proofs.Promises.{sha256-length}
 use Rattle.block.specs.Limits.{referenceSize}
 use Rattle.shelf.specs.Layout.{Waiting, waitingIn, shelfBytes}
 use Rattle.shelf.specs.Rules.{reserved, maxShare, isFor, holds, hasPlace, isSame, waits}
-use Rattle.shelf.specs.Form.{inForm}
+use Rattle.shelf.specs.Form.{shelfInForm}
 use Rattle.shelf.specs.Steps.{AllFit}
-use Rattle.shelf.proofs.InForm.{Ruled, of-ruled, formed-of, formed-bytes}
+use Rattle.shelf.proofs.InForm.{RulesHold, of-ruled, shelf-form, formed-bytes}
 use Rattle.shelf.proofs.Rules.{fair-of, ruled-with, place-for-two}
-use Rattle.shelf.proofs.Layout.{fit-append, waiting-laid}
-use Rattle.table.specs.Form as table
+use Rattle.shelf.proofs.ShelfLayout.{fit-append, waiting-laid}
+use Rattle.table.specs.Form.{inForm}
 use Rattle.admission.specs.Admission.{admission, admitted}
 use Rattle.admission.proofs.Effect.{kept}
-use Rattle.campaigns.specs.Passes.{Try, Passed, outcomesOf}
-use Rattle.campaigns.specs.Arriving.{Called, behind, listed, shelved, arrived}
+use Rattle.campaigns.specs.Passes.{Try, PassResult, outcomesOf}
+use Rattle.campaigns.specs.Arriving.{Called, waitingLast, listed, shelved, arrived}
 use Rattle.campaigns.specs.Promises.{only, timesWaiting, timesEnded, TriedFrom, Tested, WouldGet9, CallKeeps, Promises}
 use Rattle.campaigns.proofs.Tries.{tried-keeps}
 use Rattle.campaigns.proofs.MissingReference.{nine-accepted, nine-short}
@@ -36,13 +36,13 @@ use Rattle.campaigns.proofs.Ways.{passed, all, at20, at19, at9, at0, at
 use Rattle.campaigns.proofs.Causes.{causes}
 
 -- how often bytes wait, with one more of a campaign at the end
-times-behind : (c : ℕ) (x b : Bytes) (ws : List Waiting) → timesWaiting c x (behind ws c b) ≡ timesWaiting c x ws + cond (sameBytes b x) 1 0
+times-behind : (c : ℕ) (x b : Bytes) (ws : List Waiting) → timesWaiting c x (waitingLast ws c b) ≡ timesWaiting c x ws + cond (sameBytes b x) 1 0
 unfolding countIn
 times-behind c x b ws =
     let e : eqb c c ≡ true = eq-eqb c c refl in
     count-in-append (isSame c x) ws (record { campaign = c; block = b } ∷ []) ∙ rw e (omega arith)
 
-only-behind : (d c : ℕ) (b : Bytes) (ws : List Waiting) → c ≢ d → only d (behind ws c b) ≡ only d ws
+only-behind : (d c : ℕ) (b : Bytes) (ws : List Waiting) → c ≢ d → only d (waitingLast ws c b) ≡ only d ws
 unfolding thoseIn
 only-behind d c b ws o =
     those-append (isFor d) ws (record { campaign = c; block = b } ∷ []) ∙ rw (ne-eqb c d o) (append-nil (only d ws))
@@ -54,29 +54,29 @@ module _ (digest : Bytes → Bytes) (t s : Bytes) (c : ℕ) (b : Bytes) (verdict
   abbrev call : Called
   call = all digest t s c b verdict room
 
-  abbrev passes : Passed
+  abbrev passes : PassResult
   passes = passed digest t s c b verdict room
 
   -- ---- what waits after a 9, and after an admission
 
   module _ (g : WouldGet9 digest t s c b verdict room) (new : waits c b ws ≡ false) (place : hasPlace c ws ≡ true) where
-    nine-ruled : Ruled (behind ws c b)
+    nine-ruled : RulesHold (waitingLast ws c b)
     nine-ruled =
-        ruled-with ws (record { campaign = c; block = b }) (formed-of s (g .tested .formed) .rules) (g .tested .campaign)
+        ruled-with ws (record { campaign = c; block = b }) (shelf-form s (g .tested .formed) .rules) (g .tested .campaign)
         (rw (nine-accepted digest t b verdict (g .missing))) new place
 
-    nine-fit : AllFit (behind ws c b)
-    nine-fit = fit-append ws (record { campaign = c; block = b } ∷ []) (formed-of s (g .tested .formed) .laid .fit) (nine-short digest t b verdict (g .missing), tt)
+    nine-fit : AllFit (waitingLast ws c b)
+    nine-fit = fit-append ws (record { campaign = c; block = b } ∷ []) (shelf-form s (g .tested .formed) .laid .fit) (nine-short digest t b verdict (g .missing), tt)
 
-    nine-waiting : waitingIn (shelfBytes (behind ws c b)) ≡ behind ws c b
-    nine-waiting = waiting-laid (behind ws c b) (nine-ruled .few) nine-fit
+    nine-waiting : waitingIn (shelfBytes (waitingLast ws c b)) ≡ waitingLast ws c b
+    nine-waiting = waiting-laid (waitingLast ws c b) (nine-ruled .few) nine-fit
 
   module _ (k : Tested digest t s c b verdict room) where
-    after-ruled : Ruled (passes .waiting)
-    after-ruled = settled-ruled digest c (admitted digest t b verdict) ws (formed-of s (k .formed) .rules)
+    after-ruled : RulesHold (passes .waiting)
+    after-ruled = settled-ruled digest c (admitted digest t b verdict) ws (shelf-form s (k .formed) .rules)
 
     after-fit : AllFit (passes .waiting)
-    after-fit = settled-fit digest c (admitted digest t b verdict) ws (formed-of s (k .formed) .laid .fit)
+    after-fit = settled-fit digest c (admitted digest t b verdict) ws (shelf-form s (k .formed) .laid .fit)
 
     after-waiting : waitingIn (shelfBytes (passes .waiting)) ≡ passes .waiting
     after-waiting = waiting-laid (passes .waiting) (after-ruled .few) after-fit
@@ -104,7 +104,7 @@ module _ (digest : Bytes → Bytes) (t s : Bytes) (c : ℕ) (b : Bytes) (verdict
   -- a fact about what waits: on the ways that change nothing, after a 9, after an admission
   by-waiting : (P : ℕ → List Waiting → List Try → Type 0)
       → ((n : ℕ) → n ≢ 9 → P n ws [])
-      → (WouldGet9 digest t s c b verdict room → waits c b ws ≡ false → hasPlace c ws ≡ true → P 9 (behind ws c b) [])
+      → (WouldGet9 digest t s c b verdict room → waits c b ws ≡ false → hasPlace c ws ≡ true → P 9 (waitingLast ws c b) [])
       → (Tested digest t s c b verdict room → P 0 (passes .waiting) (passes .tries))
       → P (call .answer .refusal) (waitingIn (call .shelf)) (call .tries)
   by-waiting P same nine after =
@@ -115,33 +115,33 @@ module _ (digest : Bytes → Bytes) (t s : Bytes) (c : ℕ) (b : Bytes) (verdict
       (λ k z. rw (after-waiting k, z) (after k))
       (λ k n z. same (admission digest t b verdict .refusal) n)
 
-  keeps-shelf : inForm s ≡ true → inForm (call .shelf) ≡ true
+  keeps-shelf : shelfInForm s ≡ true → shelfInForm (call .shelf) ≡ true
   keeps-shelf f =
-      by-way digest t s c b verdict room (λ x. inForm (x .shelf) ≡ true) (λ h. f) (λ l h. f) (λ l h n. f) (λ g y. f) (λ g n m. f)
-      (λ g n y. formed-bytes (behind ws c b) (nine-fit g n y) (of-ruled _ (nine-ruled g n y)))
+      by-way digest t s c b verdict room (λ x. shelfInForm (x .shelf) ≡ true) (λ h. f) (λ l h. f) (λ l h n. f) (λ g y. f) (λ g n m. f)
+      (λ g n y. formed-bytes (waitingLast ws c b) (nine-fit g n y) (of-ruled _ (nine-ruled g n y)))
       (λ k z. formed-bytes (passes .waiting) (after-fit k) (of-ruled _ (after-ruled k))) (λ k n z. f)
 
-  keeps-table : ((b : Bytes) → length (digest b) ≡ referenceSize) → table.inForm t ≡ true → table.inForm (call .table) ≡ true
+  keeps-table : ((b : Bytes) → length (digest b) ≡ referenceSize) → inForm t ≡ true → inForm (call .table) ≡ true
   keeps-table sized f =
-      by-way digest t s c b verdict room (λ x. table.inForm (x .table) ≡ true) (λ h. f) (λ l h. f) (λ l h n. f) (λ g y. f) (λ g n m. f) (λ g n y. f)
+      by-way digest t s c b verdict room (λ x. inForm (x .table) ≡ true) (λ h. f) (λ l h. f) (λ l h n. f) (λ g y. f) (λ g n m. f) (λ g n y. f)
       (λ k z.
-      tried-keeps digest (λ x. table.inForm x ≡ true) (λ x y. kept digest x y 1 sized) (passes .tries) (admitted digest t b verdict) (passes .table)
+      tried-keeps digest (λ x. inForm x ≡ true) (λ x y. kept digest x y 1 sized) (passes .tries) (admitted digest t b verdict) (passes .table)
       (settled-tried digest c (admitted digest t b verdict) ws) (kept digest t b verdict sized f))
       (λ k n z. f)
 
-  never-19 : inForm s ≡ true → holds c ws < reserved → call .answer .refusal ≢ 19
+  never-19 : shelfInForm s ≡ true → holds c ws < reserved → call .answer .refusal ≢ 19
   never-19 f h =
       let other = admission-elsewhere digest t b verdict in
       by-way digest t s c b verdict room (λ x. x .answer .refusal ≢ 19) (λ h e. omega arith) (λ l h e. omega arith) (λ l h n e. omega arith) (λ g y e. omega arith)
-      (λ g n m e. true-not-false (place-for-two c ws (omega (arith, g .tested .campaign)) (formed-of s f .rules) h) m)
+      (λ g n m e. true-not-false (place-for-two c ws (omega (arith, g .tested .campaign)) (shelf-form s f .rules) h) m)
       (λ g n y. other .not19) (λ k z. other .not19) (λ k n z. other .not19)
 
   left-as-it-was : (call .answer .refusal ≢ 0 → call .table ≡ t) × ((call .answer .refusal ≢ 0 → call .answer .refusal ≢ 9 → call .shelf ≡ s)
-      × ((call .answer .refusal ≢ 0 → call .tries ≡ []) × (call .answer .refusal ≡ 9 → call .shelf ≡ shelfBytes (behind ws c b))))
+      × ((call .answer .refusal ≢ 0 → call .tries ≡ []) × (call .answer .refusal ≡ 9 → call .shelf ≡ shelfBytes (waitingLast ws c b))))
   left-as-it-was =
       by-way digest t s c b verdict room
       (λ x. (x .answer .refusal ≢ 0 → x .table ≡ t) × ((x .answer .refusal ≢ 0 → x .answer .refusal ≢ 9 → x .shelf ≡ s)
-      × ((x .answer .refusal ≢ 0 → x .tries ≡ []) × (x .answer .refusal ≡ 9 → x .shelf ≡ shelfBytes (behind ws c b)))))
+      × ((x .answer .refusal ≢ 0 → x .tries ≡ []) × (x .answer .refusal ≡ 9 → x .shelf ≡ shelfBytes (waitingLast ws c b)))))
       (λ h. (λ _. refl, (λ _ _. refl, (λ _. refl, λ e. absurd (omega arith)))))
       (λ l h. (λ _. refl, (λ _ _. refl, (λ _. refl, λ e. absurd (omega arith)))))
       (λ l h n. (λ _. refl, (λ _ _. refl, (λ _. refl, λ e. absurd (omega arith)))))
@@ -171,7 +171,7 @@ module _ (digest : Bytes → Bytes) (t s : Bytes) (c : ℕ) (b : Bytes) (verdict
       by-way digest t s c b verdict room (λ x. length (listed x) ≤ maxShare) (λ h. omega arith) (λ l h. omega arith) (λ l h n. omega arith) (λ g y. omega arith)
       (λ g n m. omega arith) (λ g n y. omega arith)
       (λ k z.
-      let shares = fair-of ws (formed-of s (k .formed) .rules .fair) .shares c (omega (arith, k .campaign)) in
+      let shares = fair-of ws (shelf-form s (k .formed) .rules .fair) .shares c (omega (arith, k .campaign)) in
       omega (arith, settled-places digest c (admitted digest t b verdict) ws))
       (λ k n z. omega arith)
 

@@ -4,7 +4,6 @@ use mathlib.Core.List.{List, [], _∷_, _++_}
 use Rattle.base.specs.Bytes.{Bytes}
 use Rattle.base.proofs.Tests.{by-test}
 use Rattle.answer.specs.declared.Answer.{Answer}
-use Rattle.table.specs.Form as table
 use Rattle.admission.specs.Admission.{admitted}
 use Rattle.campaigns.specs.Passes.{Try, waitsOn, outcome, outcomesOf}
 use Rattle.campaigns.specs.Promises.{TriedFrom}

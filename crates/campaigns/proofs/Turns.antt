@@ -20,7 +20,7 @@ use Rattle.shelf.specs.Rules.{isFor}
 use Rattle.shelf.specs.Steps.{noWaiting, without}
 use Rattle.admission.specs.Admission.{admission, admitted}
 use Rattle.admission.proofs.Effect.{refused-table}
-use Rattle.campaigns.specs.Passes.{Passed, waitsOn, outcome, outcomesOf, triedBefore, leftBefore, admits, pass, passes, settled}
+use Rattle.campaigns.specs.Passes.{PassResult, waitsOn, outcome, outcomesOf, triedBefore, leftBefore, admits, pass, passes, settled}
 use Rattle.campaigns.specs.Steps.{Turned, passedBy, takenOut, turned}
 use Rattle.campaigns.specs.declared.Pass.{Pass}
 use Rattle.campaigns.proofs.Inductions.{pass-fewer, passes-enough}
@@ -52,10 +52,10 @@ pub record Result : Type 0 where
   pub admitted : Bool
 
 -- what waits before the entries that are left, what has been noted and admitted, and what a pass over the rest leaves
-abbrev pub resumed : List Waiting → Noted → Bool → Passed → Result
+abbrev pub resumed : List Waiting → Noted → Bool → PassResult → Result
 resumed us e adm q = record { table = q .table; waiting = us ++ q .waiting; outcomes = noted e (outcomesOf (q .tries)); admitted = adm || admits (q .tries) }
 
-module _ (us : List Waiting) (e : Noted) (adm : Bool) (w : Waiting) (q : Passed) where
+module _ (us : List Waiting) (e : Noted) (adm : Bool) (w : Waiting) (q : PassResult) where
   snoc : (us ++ (w ∷ [])) ++ q .waiting ≡ us ++ (w ∷ q .waiting)
   snoc = append-assoc us (w ∷ []) (q .waiting)
 
@@ -83,7 +83,7 @@ pub record Came : Type 0 where
   pub waiting : List Waiting
   pub outcomes : Noted
 
-abbrev pub cameTo : Noted → Passed → Came
+abbrev pub cameTo : Noted → PassResult → Came
 cameTo e q = record { table = q .table; waiting = q .waiting; outcomes = noted e (outcomesOf (q .tries)) }
 
 module _ (digest : Bytes → Bytes) (c : ℕ) where

@@ -15,14 +15,14 @@ use Rattle.answer.specs.Promises.{elsewhere}
 use Rattle.answer.proofs.Checks.{number-of, never-answered}
 use Rattle.shelf.specs.Layout.{Waiting, waitingIn, shelfBytes}
 use Rattle.shelf.specs.Rules.{maxCampaign, hasPlace, waits}
-use Rattle.shelf.specs.Form.{inForm}
-use Rattle.shelf.proofs.InForm.{formed-of}
+use Rattle.shelf.specs.Form.{shelfInForm}
+use Rattle.shelf.proofs.InForm.{shelf-form}
 use Rattle.table.specs.Layout.{setupOf, countOf, viewOf}
-use Rattle.table.specs.Form as table
+use Rattle.table.specs.Form.{inForm}
 use Rattle.admission.specs.Admission.{admission, admitted}
 use Rattle.admission.proofs.Causes.{by-checks}
-use Rattle.campaigns.specs.Passes.{Passed, settled}
-use Rattle.campaigns.specs.Arriving.{Arrived, Called, outcomesSize, behind, shelved, arrived, arrival}
+use Rattle.campaigns.specs.Passes.{PassResult, settled}
+use Rattle.campaigns.specs.Arriving.{Arrived, Called, outcomesSize, waitingLast, shelved, arrived, arrival}
 use Rattle.campaigns.specs.Promises.{called, Tested, WouldGet9}
 
 -- ---- admission answers none of the numbers that are an arrival's own
@@ -36,7 +36,7 @@ pub record Elsewhere (n : ℕ) : Type 0 where
 pub admission-elsewhere : (digest : Bytes → Bytes) (t b : Bytes) (verdict : ℕ) → Elsewhere (admission digest t b verdict .refusal)
 unfolding admission elsewhere
 admission-elsewhere digest t b verdict =
-    let e = sym (number-of (by-checks digest (table.inForm t) (setupOf t) (viewOf t) b verdict (countOf t))) in
+    let e = sym (number-of (by-checks digest (inForm t) (setupOf t) (viewOf t) b verdict (countOf t))) in
     record {
       not17 = λ q. never-answered 17 _ _ refl (e ∙ q);
       not19 = λ q. never-answered 19 _ _ refl (e ∙ q);
@@ -60,10 +60,10 @@ module _ (digest : Bytes → Bytes) (t s : Bytes) (c : ℕ) (b : Bytes) (verdict
 
   -- the block waits
   abbrev pub taken : Called
-  taken = record { answer = answer; table = t; shelf = shelfBytes (behind ws c b); tries = [] }
+  taken = record { answer = answer; table = t; shelf = shelfBytes (waitingLast ws c b); tries = [] }
 
   -- the passes after an admission
-  abbrev pub passed : Passed
+  abbrev pub passed : PassResult
   passed = settled digest (admitted digest t b verdict) c ws
 
   abbrev pub admits : Called
@@ -77,13 +77,13 @@ module _ (digest : Bytes → Bytes) (t s : Bytes) (c : ℕ) (b : Bytes) (verdict
   unfolding arrival answerTo
   at17 l h = rw (le-leb c maxCampaign l, lt-leb outcomesSize room h)
 
-  pub at2 : c ≤ maxCampaign → outcomesSize ≤ room → inForm s ≡ false → all ≡ leaves (refused 2 0)
+  pub at2 : c ≤ maxCampaign → outcomesSize ≤ room → shelfInForm s ≡ false → all ≡ leaves (refused 2 0)
   unfolding arrival answerTo
   at2 l h n = rw (le-leb c maxCampaign l, le-leb outcomesSize room h, n)
 
   module _ (k : Tested digest t s c b verdict room) where
     laid : s ≡ shelfBytes ws
-    laid = formed-of s (k .formed) .laid .bytes
+    laid = shelf-form s (k .formed) .laid .bytes
 
     -- over what waits
     by-list : (x : Arrived) → arrived digest (hasPlace c ws) t ws c b verdict ≡ x → (y : Bytes) → shelfBytes (x .waiting) ≡ y
@@ -126,7 +126,7 @@ module _ (digest : Bytes → Bytes) (t s : Bytes) (c : ℕ) (b : Bytes) (verdict
   pub by-way : (P : Called → Type 0)
       → (maxCampaign < c → P (leaves (refused 21 0)))
       → (c ≤ maxCampaign → room < outcomesSize → P (leaves (refused 17 outcomesSize)))
-      → (c ≤ maxCampaign → outcomesSize ≤ room → inForm s ≡ false → P (leaves (refused 2 0)))
+      → (c ≤ maxCampaign → outcomesSize ≤ room → shelfInForm s ≡ false → P (leaves (refused 2 0)))
       → (WouldGet9 digest t s c b verdict room → waits c b ws ≡ true → P (leaves (refused 20 0)))
       → (WouldGet9 digest t s c b verdict room → waits c b ws ≡ false → hasPlace c ws ≡ false → P (leaves (refused 19 0)))
       → (WouldGet9 digest t s c b verdict room → waits c b ws ≡ false → hasPlace c ws ≡ true → P taken)
@@ -140,7 +140,7 @@ module _ (digest : Bytes → Bytes) (t s : Bytes) (c : ℕ) (b : Bytes) (verdict
       by-test (leb outcomesSize room)
       (λ rc.
       let r = leb-true outcomesSize room rc in
-      by-test (inForm s)
+      by-test (shelfInForm s)
       (λ f.
       let k : Tested digest t s c b verdict room = record { campaign = l; outcomes = r; formed = f } in
       by-test (eqb (answer .refusal) 9)

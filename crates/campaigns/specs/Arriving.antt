@@ -8,9 +8,9 @@ use Rattle.answer.specs.declared.Answer.{Answer}
 use Rattle.answer.specs.Checks.{Check, check, answerTo, refused}
 use Rattle.shelf.specs.Layout.{Waiting, waitingIn, shelfBytes}
 use Rattle.shelf.specs.Rules.{maxCampaign, maxShare, hasPlace, waits}
-use Rattle.shelf.specs.Form.{inForm}
+use Rattle.shelf.specs.Form.{shelfInForm}
 use Rattle.admission.specs.Admission.{admission, admitted}
-use Rattle.campaigns.specs.Passes.{Try, Passed, outcomesOf, settled}
+use Rattle.campaigns.specs.Passes.{Try, PassResult, outcomesOf, settled}
 
 -- ---- over what waits
 
@@ -26,19 +26,19 @@ abbrev pub unchanged : Answer → Bytes → List Waiting → Arrived
 unchanged a t ws = record { answer = a; table = t; waiting = ws; tries = [] }
 
 -- the block waits behind those that wait
-abbrev pub behind : List Waiting → ℕ → Bytes → List Waiting
-behind ws c b = ws ++ (record { campaign = c; block = b } ∷ [])
+abbrev pub waitingLast : List Waiting → ℕ → Bytes → List Waiting
+waitingLast ws c b = ws ++ (record { campaign = c; block = b } ∷ [])
 
 -- a is a 9: "instead of it 20, its bytes already wait for that campaign, else 19, no place by the shelf rule"; else it is "still answered 9 and
 -- waits, with its bytes". `place` says whether there is a place
 unfoldable pub shelved : Bool → Answer → Bytes → List Waiting → ℕ → Bytes → Arrived
 shelved place a t ws c b =
     cond (waits c b ws) (unchanged (refused 20 0) t ws)
-    (cond place (unchanged a t (behind ws c b))
+    (cond place (unchanged a t (waitingLast ws c b))
     (unchanged (refused 19 0) t ws))
 
 -- an admission's answer with what the passes leave
-abbrev pub withPasses : Answer → Passed → Arrived
+abbrev pub withPasses : Answer → PassResult → Arrived
 withPasses a p = record { answer = a; table = p .table; waiting = p .waiting; tries = p .tries }
 
 module _ (digest : Bytes → Bytes) where
@@ -72,7 +72,7 @@ abbrev pub arrivalChecks : ℕ → ℕ → Bytes → List Check
 arrivalChecks c room s =
     check 21 (leb c maxCampaign) 0
     ∷ check 17 (leb outcomesSize room) outcomesSize
-    ∷ check 2 (inForm s) 0
+    ∷ check 2 (shelfInForm s) 0
     ∷ []
 
 module _ (digest : Bytes → Bytes) where

@@ -36,7 +36,7 @@ outcomesOf [] = []
 outcomesOf (y ∷ ys) = cond (waitsOn (y .answer)) (outcomesOf ys) (outcome (y .answer) ∷ outcomesOf ys)
 
 -- what tries leave
-pub record Passed : Type 0 where
+pub record PassResult : Type 0 where
   pub table : Bytes
   -- what waits on, for any campaign, in its order
   pub waiting : List Waiting
@@ -44,7 +44,7 @@ pub record Passed : Type 0 where
   pub tries : List Try
 
 -- w stands before the blocks of a pass: it was tried and answered a, or it waits for another campaign
-abbrev pub triedBefore : Waiting → Answer → Passed → Passed
+abbrev pub triedBefore : Waiting → Answer → PassResult → PassResult
 triedBefore w a p =
     record {
       table = p .table;
@@ -52,11 +52,11 @@ triedBefore w a p =
       tries = record { block = w .block; answer = a } ∷ p .tries;
     }
 
-abbrev pub leftBefore : Waiting → Passed → Passed
+abbrev pub leftBefore : Waiting → PassResult → PassResult
 leftBefore w p = record { table = p .table; waiting = w ∷ p .waiting; tries = p .tries }
 
 -- one pass, then others
-abbrev pub andThen : Passed → Passed → Passed
+abbrev pub andThen : PassResult → PassResult → PassResult
 andThen p q = record { table = q .table; waiting = q .waiting; tries = p .tries ++ q .tries }
 
 -- a pass admits a block
@@ -65,19 +65,19 @@ admits ys = someIn letIn ys
 
 module _ (digest : Bytes → Bytes) where
   -- one pass for a campaign: each of its blocks is tried once, and those let in before it are held
-  unfoldable pub pass : Bytes → ℕ → List Waiting → Passed
+  unfoldable pub pass : Bytes → ℕ → List Waiting → PassResult
   pass t c [] = record { table = t; waiting = []; tries = [] }
   pass t c (w ∷ ws) =
       let p = pass (cond (isFor c w) (admitted digest t (w .block) 1) t) c ws in
       cond (isFor c w) (triedBefore w (admission digest t (w .block) 1) p) (leftBefore w p)
 
   -- at most n passes, up to one that admits none
-  unfoldable pub passes : ℕ → Bytes → ℕ → List Waiting → Passed
+  unfoldable pub passes : ℕ → Bytes → ℕ → List Waiting → PassResult
   passes zero t c ws = record { table = t; waiting = ws; tries = [] }
   passes (suc n) t c ws =
       let p = pass t c ws in
       cond (admits (p .tries)) (andThen p (passes n (p .table) c (p .waiting))) p
 
   -- each pass but the last lets a block in, so one more than blocks wait are enough (Promises: `settled`)
-  unfoldable pub settled : Bytes → ℕ → List Waiting → Passed
+  unfoldable pub settled : Bytes → ℕ → List Waiting → PassResult
   settled t c ws = passes (suc (length ws)) t c ws

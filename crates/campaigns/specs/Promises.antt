@@ -11,11 +11,11 @@ use Rattle.base.specs.Bytes.{Bytes, sameBytes}
 use Rattle.base.specs.List.{countIn, thoseIn}
 use Rattle.shelf.specs.Layout.{Waiting, waitingIn, shelfBytes}
 use Rattle.shelf.specs.Rules.{maxCampaign, reserved, maxShare, isFor, holds, hasPlace, isSame, waits}
-use Rattle.shelf.specs.Form.{inForm}
-use Rattle.table.specs.Form as table
+use Rattle.shelf.specs.Form.{shelfInForm}
+use Rattle.table.specs.Form.{inForm}
 use Rattle.admission.specs.Admission.{admission, admitted}
 use Rattle.campaigns.specs.Passes.{Try, waitsOn}
-use Rattle.campaigns.specs.Arriving.{Called, outcomesSize, behind, listed, arrival}
+use Rattle.campaigns.specs.Arriving.{Called, outcomesSize, waitingLast, listed, arrival}
 
 -- what waits for one campaign, in its order
 abbrev pub only : ℕ → List Waiting → List Waiting
@@ -42,8 +42,8 @@ module _ (digest : Bytes → Bytes) where
     abbrev pub called : Called
     called = arrival digest t s c b verdict room
 
-    abbrev pub number : ℕ
-    number = called .answer .refusal
+    abbrev pub answered : ℕ
+    answered = called .answer .refusal
 
     -- checks 21 and 17 hold
     pub record Lent : Type 0 where
@@ -54,7 +54,7 @@ module _ (digest : Bytes → Bytes) where
     pub record Tested : Type 0 where
       pub campaign : c ≤ maxCampaign
       pub outcomes : outcomesSize ≤ room
-      pub formed : inForm s ≡ true
+      pub formed : shelfInForm s ≡ true
 
     -- "where an arrival would get 9"
     pub record WouldGet9 : Type 0 where
@@ -63,39 +63,39 @@ module _ (digest : Bytes → Bytes) where
 
     -- each refusal comes under its cause and under no other
     pub record Causes : Type 0 where
-      pub twentyOne : (number ≡ 21) ↔ (maxCampaign < c)
-      pub seventeen : (number ≡ 17) ↔ ((c ≤ maxCampaign) × (room < outcomesSize))
-      pub twenty : (number ≡ 20) ↔ (WouldGet9 × (waits c b (waitingIn s) ≡ true))
-      pub nineteen : (number ≡ 19) ↔ (WouldGet9 × ((waits c b (waitingIn s) ≡ false) × (hasPlace c (waitingIn s) ≡ false)))
-      pub nine : (number ≡ 9) ↔ (WouldGet9 × ((waits c b (waitingIn s) ≡ false) × (hasPlace c (waitingIn s) ≡ true)))
+      pub twentyOne : (answered ≡ 21) ↔ (maxCampaign < c)
+      pub seventeen : (answered ≡ 17) ↔ ((c ≤ maxCampaign) × (room < outcomesSize))
+      pub twenty : (answered ≡ 20) ↔ (WouldGet9 × (waits c b (waitingIn s) ≡ true))
+      pub nineteen : (answered ≡ 19) ↔ (WouldGet9 × ((waits c b (waitingIn s) ≡ false) × (hasPlace c (waitingIn s) ≡ false)))
+      pub nine : (answered ≡ 9) ↔ (WouldGet9 × ((waits c b (waitingIn s) ≡ false) × (hasPlace c (waitingIn s) ≡ true)))
       -- 2: shelf or table not in form
-      pub two : (number ≡ 2) ↔ (Lent × ((inForm s ≡ false) ⊎ (table.inForm t ≡ false)))
+      pub two : (answered ≡ 2) ↔ (Lent × ((shelfInForm s ≡ false) ⊎ (inForm t ≡ false)))
       -- any other number is admission's
       pub otherNumbers : (n : ℕ) → n ≢ 2 → n ≢ 9 → n ≢ 17 → n ≢ 19 → n ≢ 20 → n ≢ 21
-          → (number ≡ n) ↔ (Tested × (admission digest t b verdict .refusal ≡ n))
+          → (answered ≡ n) ↔ (Tested × (admission digest t b verdict .refusal ≡ n))
       -- and then the whole answer is; that of a 9 too
       pub others : Tested → admission digest t b verdict .refusal ≢ 9 → called .answer ≡ admission digest t b verdict
-      pub index : number ≡ 9 → called .answer ≡ admission digest t b verdict
+      pub index : answered ≡ 9 → called .answer ≡ admission digest t b verdict
       -- 17 tells how many numbers are needed; beside all but 17 and those for which admission names a value it is 0
-      pub needed : number ≡ 17 → called .answer .value ≡ outcomesSize
-      pub noValue : number ≢ 17 → number ≢ 0 → number ≢ 6 → number ≢ 7 → number ≢ 8 → number ≢ 9 → called .answer .value ≡ 0
+      pub needed : answered ≡ 17 → called .answer .value ≡ outcomesSize
+      pub noValue : answered ≢ 17 → answered ≢ 0 → answered ≢ 6 → answered ≢ 7 → answered ≢ 8 → answered ≢ 9 → called .answer .value ≡ 0
 
     pub record CallKeeps : Type 0 where
       pub causes : Causes
       -- "a campaign holding fewer than 2 never gets 19"
-      pub never19 : inForm s ≡ true → holds c (waitingIn s) < reserved → number ≢ 19
+      pub never19 : shelfInForm s ≡ true → holds c (waitingIn s) < reserved → answered ≢ 19
       -- form is kept, the shelf's and the table's
-      pub shelfFormed : inForm s ≡ true → inForm (called .shelf) ≡ true
-      pub tableFormed : table.inForm t ≡ true → table.inForm (called .table) ≡ true
+      pub shelfFormed : shelfInForm s ≡ true → shelfInForm (called .shelf) ≡ true
+      pub tableFormed : inForm t ≡ true → inForm (called .table) ≡ true
       -- "By that 9 and by a drop the shelf changes and nothing else"; by any other refusal nothing does, and none is tried
-      pub tableLeft : number ≢ 0 → called .table ≡ t
-      pub shelfLeft : number ≢ 0 → number ≢ 9 → called .shelf ≡ s
-      pub noneTried : number ≢ 0 → called .tries ≡ []
-      pub nineWaits : number ≡ 9 → called .shelf ≡ shelfBytes (behind (waitingIn s) c b)
+      pub tableLeft : answered ≢ 0 → called .table ≡ t
+      pub shelfLeft : answered ≢ 0 → answered ≢ 9 → called .shelf ≡ s
+      pub noneTried : answered ≢ 0 → called .tries ≡ []
+      pub nineWaits : answered ≡ 9 → called .shelf ≡ shelfBytes (waitingLast (waitingIn s) c b)
       -- after an admission each try is an admission of its own, and one that is refused leaves the table
-      pub triedFrom : number ≡ 0 → TriedFrom (admitted digest t b verdict) (called .tries) (called .table)
+      pub triedFrom : answered ≡ 0 → TriedFrom (admitted digest t b verdict) (called .tries) (called .table)
       -- "until a pass admits none": what waits on for the campaign gets 9 from the table as it is
-      pub settled : number ≡ 0 → (w : Waiting) → List·Memᴰ w (waitingIn (called .shelf)) → w .campaign ≡ c
+      pub settled : answered ≡ 0 → (w : Waiting) → List·Memᴰ w (waitingIn (called .shelf)) → w .campaign ≡ c
           → admission digest (called .table) (w .block) 1 .refusal ≡ 9
       -- the outcomes have room
       pub few : length (listed called) ≤ maxShare
@@ -104,7 +104,7 @@ module _ (digest : Bytes → Bytes) where
       -- nothing is lost and nothing is invented: what waited, and the arrival if it got 9, waits on or has ended, as often
       pub accounted : (x : Bytes)
           → timesWaiting c x (waitingIn (called .shelf)) + timesEnded x (called .tries)
-          ≡ timesWaiting c x (waitingIn s) + cond (eqb number 9 && sameBytes b x) 1 0
+          ≡ timesWaiting c x (waitingIn s) + cond (eqb answered 9 && sameBytes b x) 1 0
 
   pub record Promises : Type 0 where
     pub kept : (t s : Bytes) (c : ℕ) (b : Bytes) (verdict room : ℕ) → CallKeeps t s c b verdict room

@@ -31,7 +31,7 @@ pub record Passable (s : Bytes) (ended : ℕ) : Type 0 where
   pub few : ended + length (waitingIn s) ≤ maxWaiting
 
 -- a pass stands at an entry
-pub record Standing (s : Bytes) (p : Pass) : Type 0 where
+pub record AtEntry (s : Bytes) (p : Pass) : Type 0 where
   pub passable : Passable s (p .ended)
   pub below : p .at < length (waitingIn s)
 

@@ -8,7 +8,7 @@ ghost use Rattle.sha256.specs.Sha256.{sha256};
 ghost use Rattle.answer.specs.Buffer.{putAnswers};
 ghost use Rattle.shelf.specs.Layout.{waitingIn, shelfBytes};
 ghost use Rattle.campaigns.specs.Passes.{outcome, outcomesOf, admits, pass};
-ghost use Rattle.campaigns.specs.Steps.{Passable, Standing, turned};
+ghost use Rattle.campaigns.specs.Steps.{Passable, AtEntry, turned};
 
 // The place of a block let in, or the number of one dropped.
 fn outcome_of(answer: Answer) -> Answer
@@ -22,7 +22,7 @@ fn outcome_of(answer: Answer) -> Answer
 
 // Tries the block of the entry at which the pass stands, if it is the campaign's. One that is let in or dropped is taken out.
 fn turn(table: &mut [u8], shelf: &mut [u8], campaign: u8, outcomes: &mut [u64], p: Pass) -> Pass
-    requires { ⌜ Standing (now shelf) p ⌝ }
+    requires { ⌜ AtEntry (now shelf) p ⌝ }
     ensures { λ r. ⌜ r ≡ turned sha256 (now (table .entry)) (waitingIn (now (shelf .entry))) (now (outcomes .entry)) campaign p .next ⌝ }
     ensures { λ _. ⌜ now (table .exit) ≡ turned sha256 (now (table .entry)) (waitingIn (now (shelf .entry))) (now (outcomes .entry)) campaign p .table ⌝ }
     ensures { λ _. ⌜ now (shelf .exit) ≡ shelfBytes (turned sha256 (now (table .entry)) (waitingIn (now (shelf .entry))) (now (outcomes .entry)) campaign p .waiting) ⌝ }

@@ -20,10 +20,10 @@ use Rattle.run.specs.Ledger.{Call, Ledger, empty}
 use Rattle.run.specs.Promises.{deliveredEntry}
 use Rattle.agreement.proofs.TwoSites.{promised}
 use Rattle.arrival.specs.Full.{Full}
-use Rattle.arrival.specs.Arrival.{AllInterpreted, entryIn, Premises, Arrival}
+use Rattle.arrival.specs.Arrival.{AllInterpreted, entryIn, Premises, ArrivalPromise}
 use Rattle.arrival.proofs.Theorem.{arrival}
 use Rattle.cases.specs.Toy.{toy}
-use Rattle.cases.specs.Run.{zeros, callsOf, answersOf, Step, arriving}
+use Rattle.cases.specs.Run.{zeroRecords, callsOf, answersOf, Step, arriving}
 use Rattle.cases.specs.Blocks.{sites, threeSites, fourSites, echoing, readying}
 use Rattle.cases.specs.Arrival.{echoingBeside, readyingBeside, echoingAfter, readyingAfter, twoSites, AllButTwo, ledger, site, Run, NothingDelivered, Arrives, OneSiteFewer, LastNotFull, ArrivalCases}
 use Rattle.cases.proofs.Toy.{toyDigest}
@@ -105,7 +105,7 @@ module _ (steps : List Step) (last : Bytes) (place : ℕ)
   -- the part of the place is the last block's meaning
   part-is : partOf (site steps .records) place ≡ meaning (sites 4) (historyOf toy (ledger steps .blocks) last)
   part-is =
-      let keeps = promised toy (toyDigest .size) (sites 4) lawful-setup zeros [] calls [] .first in
+      let keeps = promised toy (toyDigest .size) (sites 4) lawful-setup zeroRecords [] calls [] .first in
       keeps .shown (keeps .unretired none-retired) place (all-interpreted place below)
       ∙ ap (λ (b : Bytes). meaning (sites 4) (historyOf toy (ledger steps .blocks) b)) last-at
 
@@ -140,7 +140,7 @@ module _ (steps : List Step) (last : Bytes) (place : ℕ)
           rounds = but-two .rounds;
           lastFull = last-full full;
         } in
-        let promise : Arrival toy (sites 4) zeros calls = arrival toy (toyDigest .size) (sites 4) lawful-setup zeros calls in
+        let promise : ArrivalPromise toy (sites 4) zeroRecords calls = arrival toy (toyDigest .size) (sites 4) lawful-setup zeroRecords calls in
         record {
           run = run;
           forkedSites = of-ledger (λ l. listBelow (forked (l .blocks)) 4 ≡ forks) e;

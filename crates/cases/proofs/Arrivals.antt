@@ -12,15 +12,15 @@ use Rattle.campaigns.specs.Arriving.{shelved, arrived, arrival}
 use Rattle.cases.specs.Toy.{toy}
 use Rattle.cases.specs.Run.{placed}
 use Rattle.cases.specs.Blocks.{numbered, holding}
-use Rattle.cases.specs.Shelf.{_for_, lacking}
-use Rattle.cases.specs.Arrivals.{beside, partly, orphan, afterLast, tableOf, chain, damaged, leaving, _getting_, lacks, arrives, ArrivalOrderCases, MissingCases, PassCases, OutcomeCases, LeftCases}
+use Rattle.cases.specs.Shelf.{_for_, lackingReference}
+use Rattle.cases.specs.Arrivals.{beside, partly, orphan, afterLast, tableOf, chainBlock, damaged, leaving, _getting_, lacks, arrives, ArrivalOrderCases, MissingCases, PassCases, OutcomeCases, ArrivalLeftCases}
 use Rattle.cases.proofs.Shelf.{openedShelf}
 use Rattle.cases.proofs.Full.{answerAt, nextTable, answer-is, table-is, last-placed, last-leaves, full-formed}
 
 -- what an arrival is computed by
 unfoldable openedArrivals : Bool
 unfolding openedShelf outcomesOf admits pass passes settled shelved arrived arrival putAnswer putAnswers beside partly orphan afterLast tableOf
-    chain damaged
+    chainBlock damaged
 openedArrivals = true
 
 -- ---- a full table
@@ -37,7 +37,7 @@ unfolding someIn admits pass passes settled arrived
 is-dropped t t′ b w e₁ e₂ e₃ e₄ = rw (e₁, e₂, e₃, e₄)
 
 -- admission's answers at the table of 64
-lacking-at : answerAt (holding 64) (lacking 0) ≡ lacks 0
+lacking-at : answerAt (holding 64) (lackingReference 0) ≡ lacks 0
 unfolding openedArrivals answerAt
 lacking-at = refl
 
@@ -49,8 +49,8 @@ after-leaves : nextTable (holding 64) afterLast ≡ holding 64
 unfolding nextTable
 after-leaves = rw after-at
 
-full-table : arrives (holding 64) [] 0 (lacking 0) 1 ≡ leaving (lacks 0) (holding 64) (lacking 0 for 0 ∷ []) []
-full-table = waits-alone (holding 64) (lacking 0) (answer-is (holding 64) (lacking 0) full-formed ∙ lacking-at)
+full-table : arrives (holding 64) [] 0 (lackingReference 0) 1 ≡ leaving (lacks 0) (holding 64) (lackingReference 0 for 0 ∷ []) []
+full-table = waits-alone (holding 64) (lackingReference 0) (answer-is (holding 64) (lackingReference 0) full-formed ∙ lacking-at)
 
 dropped-by-11 :
     arrives (holding 63) (afterLast for 0 ∷ []) 0 (numbered 63) 1
@@ -122,6 +122,6 @@ pub outcomes : OutcomeCases
 unfolding openedArrivals
 outcomes = record { outcomesListed = refl; numberAlone = refl; tenOutcomes = refl; outcomesInBuffer = refl }
 
-pub left : LeftCases
+pub left : ArrivalLeftCases
 unfolding openedArrivals
 left = record { stillLacking = refl; freeByLettingIn = (refl, refl); freeByDropping = (refl, refl) }

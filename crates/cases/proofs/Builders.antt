@@ -30,7 +30,7 @@ use Rattle.arrival.specs.Full.{BlockBy, Full}
 use Rattle.arrival.specs.Building.{OwnIsBuilt, BuildsByRule, BuildersFull}
 use Rattle.arrival.proofs.Building.{builders-full}
 use Rattle.cases.specs.Toy.{toy}
-use Rattle.cases.specs.Run.{zeros, callsOf, ledgerLeft}
+use Rattle.cases.specs.Run.{zeroRecords, callsOf, ledgerLeft}
 use Rattle.cases.specs.Blocks.{sites, first}
 use Rattle.cases.specs.Building.{room}
 use Rattle.cases.specs.Builders.{builtTooEarly, firstBuilt, nextBuilt, ownTurns, otherTurns, builtLate, lateTurns, BuilderCases}
@@ -63,8 +63,8 @@ module _ (p : ℕ) (requests output : Bytes) where
   unfoldable allKept : Bytes → List Call → Bool
   allKept t [] = true
   allKept t (admit b verdict ∷ cs) = kept t b verdict && allKept (admitted toy t b verdict) cs
-  allKept t (interpret place ∷ cs) = allKept (marked t zeros place) cs
-  allKept t (retire ∷ cs) = allKept (retiredTable t zeros) cs
+  allKept t (interpret place ∷ cs) = allKept (marked t zeroRecords place) cs
+  allKept t (retire ∷ cs) = allKept (retiredTable t zeroRecords) cs
   allKept t (takeBack ∷ cs) = allKept (takenBack t) cs
 
   is-built : (x : Site) (b : Bytes) (verdict : ℕ) → kept (x .table) b verdict ≡ true → OwnIsBuilt toy p x (admit b verdict)
@@ -74,15 +74,15 @@ module _ (p : ℕ) (requests output : Bytes) where
       let y = passes-where (admittedOwn (x .table) b verdict) (writes (x .table) b) e asked in
       record { requests = requests; output = output; success = eqb-true _ _ (search and-left); writes = same-equal _ _ (search and-right) }
 
-  marked-same : (x : Site) → length (x .records) ≡ length zeros → (place : ℕ) → marked (x .table) (x .records) place ≡ marked (x .table) zeros place
+  marked-same : (x : Site) → length (x .records) ≡ length zeroRecords → (place : ℕ) → marked (x .table) (x .records) place ≡ marked (x .table) zeroRecords place
   unfolding interpretation marked
   marked-same x w place = rw w
 
-  retired-same : (x : Site) → length (x .records) ≡ length zeros → retiredTable (x .table) (x .records) ≡ retiredTable (x .table) zeros
+  retired-same : (x : Site) → length (x .records) ≡ length zeroRecords → retiredTable (x .table) (x .records) ≡ retiredTable (x .table) zeroRecords
   unfolding retiring retiredTable
   retired-same x w = rw w
 
-  by-rule : (x : Site) (cs : List Call) → length (x .records) ≡ length zeros → allKept (x .table) cs ≡ true → BuildsByRule toy p x cs
+  by-rule : (x : Site) (cs : List Call) → length (x .records) ≡ length zeroRecords → allKept (x .table) cs ≡ true → BuildsByRule toy p x cs
   unfolding allKept siteStep OwnIsBuilt BuildsByRule
   by-rule x [] w e = tt
   by-rule x (admit b verdict ∷ cs) w e =
@@ -92,13 +92,13 @@ module _ (p : ℕ) (requests output : Bytes) where
   by-rule x (retire ∷ cs) w e = (tt, by-rule _ cs (retired.promises .sized (x .table) (x .records) ∙ w) (rw (retired-same x w) e))
   by-rule x (takeBack ∷ cs) w e = (tt, by-rule _ cs w e)
 
-own-by-rule : BuildsByRule toy 1 (started (sites 4) zeros) (callsOf ownTurns)
+own-by-rule : BuildsByRule toy 1 (started (sites 4) zeroRecords) (callsOf ownTurns)
 unfolding openedWatch freshTable builtTooEarly firstBuilt nextBuilt ownTurns writes admittedOwn kept allKept
-own-by-rule = by-rule 1 (3 ∷ 0 ∷ 7 ∷ []) (room (blockSize 4 1)) (started (sites 4) zeros) (callsOf ownTurns) refl refl
+own-by-rule = by-rule 1 (3 ∷ 0 ∷ 7 ∷ []) (room (blockSize 4 1)) (started (sites 4) zeroRecords) (callsOf ownTurns) refl refl
 
-late-by-rule : BuildsByRule toy 1 (started (sites 4) zeros) (callsOf lateTurns)
+late-by-rule : BuildsByRule toy 1 (started (sites 4) zeroRecords) (callsOf lateTurns)
 unfolding openedWatch freshTable marked withMark movedBytes moveDown retiredTable builtLate lateTurns writes admittedOwn kept allKept
-late-by-rule = by-rule 1 [] (room (blockSize 1 0)) (started (sites 4) zeros) (callsOf lateTurns) refl refl
+late-by-rule = by-rule 1 [] (room (blockSize 1 0)) (started (sites 4) zeroRecords) (callsOf lateTurns) refl refl
 
 -- ---- two ledgers
 
@@ -148,8 +148,8 @@ late-not-full = rw (ledger-left (sites 4) lateTurns lawful-setup refl) (not-full
 
 -- ---- what the theorem on builders says of them
 
-theorem : BuildersFull toy (sites 4) zeros zeros (callsOf ownTurns) (callsOf otherTurns) 1
-theorem = builders-full toy (toyDigest .size) (sites 4) lawful-setup zeros zeros (callsOf ownTurns) (callsOf otherTurns) 1
+theorem : BuildersFull toy (sites 4) zeroRecords zeroRecords (callsOf ownTurns) (callsOf otherTurns) 1
+theorem = builders-full toy (toyDigest .size) (sites 4) lawful-setup zeroRecords zeroRecords (callsOf ownTurns) (callsOf otherTurns) 1
 
 pub builderCases : BuilderCases
 unfolding openedBuilders openedLate

@@ -4,14 +4,14 @@ use lib.Count.{ones, onesIn}
 use Rattle.base.specs.Search.{firstBelow, anyBelow, allBelow}
 use Rattle.base.specs.Count.{countBelow}
 use Rattle.base.specs.Mask.{maskBelow}
-use Rattle.base.specs.List.{listBelow, passing}
-use Rattle.base.specs.Bytes.{sameBytes, allZero, parts, joined, splice}
-use Rattle.base.specs.LowFirst.{word, wordBytes}
+use Rattle.base.specs.List.{listBelow, passingBelow}
+use Rattle.base.specs.Bytes.{sameBytes, allZero, parts, concat, splice}
+use Rattle.base.specs.LowFirst.{lowFirst, lowFirstBytes}
 use Rattle.answer.specs.Checks.{answerTo}
 use Rattle.setup.specs.Setup.{lawfulSites, ownersBelow, lawful, faults, echoQuorum, readyAmplification, readyQuorum}
 use Rattle.block.specs.Layout.{countedRequest, encode}
 use Rattle.block.specs.Reading.{wellShaped, reading}
-use Rattle.broadcast.specs.Process.{madeOf, support, onlyIf, readyOnEchoes, readyOnReadies, deliverOnReadies, takeSend, takeEcho, takeReady, take, receive, receiveAll, request}
+use Rattle.broadcast.specs.Process.{madeOf, support, onlyIf, readyOnEchoes, readyOnReadies, deliverOnReadies, takeSend, takeEcho, takeReady, take, receive, receiveAll, takeRequest}
 use Rattle.table.specs.Layout.{rowBytes, layout, withRow}
 use Rattle.table.specs.Writing.{withoutRow}
 use Rattle.table.specs.Rules.{parents, parentRule, parentInForm, rowInForm, heldInForm}
@@ -35,16 +35,16 @@ use Rattle.cases.specs.Blocks.{fresh, unlawful, first, fork, second, bot
 use Rattle.cases.specs.Starred.{chained, twoEchoes, twoReadies, thirdReady, thirteen}
 use Rattle.cases.specs.Thresholds.{oneReady, oneMoreReady, threeReadies, fourOfFiveEchoes, twoReadiesOfFive, thirdReadyOfFive, ownReady, fiveReadies}
 use Rattle.cases.specs.Traps.{echoingTwin, readyingTwin, otherEchoing, otherReadying, twinEchoes, oneSender, sameSender, idle, afterIdle, besideIdle, bothReversed, mixedEchoes, readyingThree, twoSlots}
-use Rattle.cases.specs.Premises.{forkEchoing, turning, turned, firstTurns, secondTurns}
-use Rattle.cases.specs.Arrival.{branch, echoingBeside, readyingBeside, deliveringBeside, quiet, asking, echoingAfter, readyingAfter, askingAgain, newcomer}
+use Rattle.cases.specs.Premises.{forkEchoing, turning, afterTurning, firstTurns, secondTurns}
+use Rattle.cases.specs.Arrival.{branch, echoingBeside, readyingBeside, deliveringBeside, quiet, askingBlock, echoingAfter, readyingAfter, askingAgain, newcomer}
 use Rattle.cases.proofs.LedgerRun.{claimed, answerInForm, told, ledgerFrom, allMarked, madeBy}
 
 -- `unfolding openedBlocks` opens what this line names: the blocks of the cases
 unfoldable pub openedBlocks : Bool
-unfolding joined encode seen toy block first fork second both stranger third fourth later echoing readying delivering numbered chained twoEchoes
+unfolding concat encode seen toy block first fork second both stranger third fourth later echoing readying delivering numbered chained twoEchoes
     twoReadies thirdReady oneReady oneMoreReady threeReadies fourOfFiveEchoes twoReadiesOfFive thirdReadyOfFive ownReady fiveReadies echoingTwin
     readyingTwin otherEchoing otherReadying twinEchoes oneSender sameSender idle afterIdle besideIdle bothReversed mixedEchoes readyingThree
-    twoSlots forkEchoing turning turned branch echoingBeside readyingBeside deliveringBeside quiet asking echoingAfter readyingAfter
+    twoSlots forkEchoing turning afterTurning branch echoingBeside readyingBeside deliveringBeside quiet askingBlock echoingAfter readyingAfter
     askingAgain newcomer
 openedBlocks = true
 
@@ -52,20 +52,20 @@ openedBlocks = true
 unfoldable pub openedLedger : Bool
 unfolding openedBlocks firstBelow anyBelow allBelow countBelow maskBelow listBelow sameBytes parts countedRequest wellShaped reading lawfulSites
     ownersBelow lawful faults echoQuorum readyAmplification readyQuorum ones onesIn madeOf support onlyIf readyOnEchoes readyOnReadies
-    deliverOnReadies takeSend takeEcho takeReady take receive receiveAll request parents parentRule retirable answerTo parentState insert insertIf numbers
+    deliverOnReadies takeSend takeEcho takeReady take receive receiveAll takeRequest parents parentRule retirable answerTo parentState insert insertIf numbers
     messagesOf messages interpretSlot taken slotRecord directs found gather find historyOf fresh arriving claimed answerInForm told ledgerFrom
     allMarked madeBy firstTurns secondTurns thirteen
 openedLedger = true
 
 -- what a table's answers are computed by
 unfoldable pub openedTable : Bool
-unfolding openedBlocks firstBelow anyBelow allBelow countBelow maskBelow listBelow sameBytes allZero parts splice word wordBytes countedRequest
+unfolding openedBlocks firstBelow anyBelow allBelow countBelow maskBelow listBelow sameBytes allZero parts splice lowFirst lowFirstBytes countedRequest
     wellShaped reading lawfulSites ownersBelow lawful rowBytes layout withRow parents parentRule parentInForm rowInForm heldInForm inForm emptyTable answerTo
     admission admitted interpretation retirable retiring withoutRow takingBack takenBack siteAnswer siteStep siteAfter siteAnswers tableAfter answers fresh unlawful four holding
 openedTable = true
 
 -- what the watch and building answer to a table is computed by
 unfoldable pub openedWatch : Bool
-unfolding openedTable faults ones onesIn passing forkedIn forks reached ancestors greatestBelow nextSequence picked nextContent wellListed buildingFrom
+unfolding openedTable faults ones onesIn passingBelow forkedIn forks reached ancestors greatestBelow nextSequence picked nextContent wellListed buildingFrom
     builtFrom
 openedWatch = true

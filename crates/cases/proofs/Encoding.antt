@@ -1,9 +1,9 @@
 -- What calls a list of bytes is, by computing. Assumes nothing.
 use mathlib.Core.Path.{refl}
-use Rattle.base.specs.LowFirst.{word}
+use Rattle.base.specs.LowFirst.{lowFirst}
 use Rattle.run.specs.Encoding.{firstSize, firstCall, firstCalls, callsIn}
 use Rattle.cases.specs.Encoding.{EncodingCases}
 
 pub encoding : EncodingCases
-unfolding word firstSize firstCall firstCalls callsIn
+unfolding lowFirst firstSize firstCall firstCalls callsIn
 encoding = record { none = refl; each = refl; emptyBlock = refl; cutBlock = refl; cutLength = refl; cutPlace = refl; otherByte = refl }

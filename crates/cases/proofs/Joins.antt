@@ -15,23 +15,23 @@ use Rattle.table.specs.Fresh.{freshTable}
 use Rattle.records.specs.Layout.{flatten, partStart, partOf, numbersOf}
 use Rattle.interpret.specs.Interpretation.{joinIf, directsBelow, recordFor, marked, recorded}
 use Rattle.join.specs.Join.{sameBlock, joinedCount, joinChecks, joinAnswer, joinPlace, joinBelow, joinedTable, handedBack, copiedBelow, joined, copied}
-use Rattle.cases.specs.Run.{zeros}
+use Rattle.cases.specs.Run.{zeroRecords}
 use Rattle.cases.specs.Blocks.{fresh, stranger, numbered, four, holding}
 use Rattle.cases.specs.Form.{changed}
 use Rattle.cases.specs.Arrivals.{tableOf}
-use Rattle.cases.specs.Joins.{joining, unformed, otherOwner, twin, otherSite, closing, leftTable, rightTable, rising, leftRecords, rightRecords, thirdBuffer, tableFrom, bufferFrom, result, resultRecords, admittedResult, admittedExchanged, resultParts, exchangedParts, Stays, JoinOrderCases, JoinSetupCases, ClashCases, JoinFullCases, HandedBackCases, ResultCases, ResultPartCases, ReachedCases, leftSite, rightSite}
+use Rattle.cases.specs.Joins.{joining, unformed, otherOwner, twin, otherSite, closing, leftTable, rightTable, rising, leftRecords, rightRecords, thirdBuffer, tableFrom, bufferFrom, joinResult, resultRecords, admittedResult, admittedExchanged, resultParts, exchangedParts, LeftUnchanged, JoinOrderCases, JoinSetupCases, ClashCases, JoinFullCases, HandedBackCases, ResultCases, ResultPartCases, ReachedCases, leftSite, rightSite}
 use Rattle.cases.proofs.Computing.{openedLedger, openedTable}
 use Rattle.cases.proofs.Full.{formed, full-formed}
 
 -- what joining is computed by
 unfoldable openedJoins : Bool
 unfolding openedTable withMark sameBlock joinAnswer joinPlace joinBelow handedBack copiedBelow joined copied tableOf unformed otherOwner twin
-    otherSite closing leftTable rightTable rising leftRecords rightRecords thirdBuffer result resultRecords admittedResult
+    otherSite closing leftTable rightTable rising leftRecords rightRecords thirdBuffer joinResult resultRecords admittedResult
     admittedExchanged resultParts exchangedParts
 openedJoins = true
 
 -- a table and a buffer stay where a number is answered
-stays : (left right : Bytes) (records : List ℕ) → eqb (joinAnswer left right records rightRecords thirdBuffer .refusal) 0 ≡ false → Stays left right records
+stays : (left right : Bytes) (records : List ℕ) → eqb (joinAnswer left right records rightRecords thirdBuffer .refusal) 0 ≡ false → LeftUnchanged left right records
 unfolding joined copied
 stays left right records e = (rw e, rw e)
 
@@ -58,14 +58,14 @@ module _ (left right : Bytes) (e : inForm left ≡ true) (f : inForm right ≡ t
   unfolding joinAnswer answerTo answerFormed
   answer-formed a b c = rw (e, f)
 
-  answers : (y : Answer) → answerFormed left right zeros zeros zeros ≡ y → joining left right ≡ y
-  answers y g = answer-formed zeros zeros zeros ∙ g
+  answers : (y : Answer) → answerFormed left right zeroRecords zeroRecords zeroRecords ≡ y → joining left right ≡ y
+  answers y g = answer-formed zeroRecords zeroRecords zeroRecords ∙ g
 
   joins : eqb (answerFormed left right leftRecords rightRecords thirdBuffer .refusal) 0 ≡ true → tableFrom left right ≡ joinedTable left right
   unfolding joined
   joins g = rw (answer-formed leftRecords rightRecords thirdBuffer, g)
 
-  refuses : eqb (answerFormed left right leftRecords rightRecords thirdBuffer .refusal) 0 ≡ false → Stays left right leftRecords
+  refuses : eqb (answerFormed left right leftRecords rightRecords thirdBuffer .refusal) 0 ≡ false → LeftUnchanged left right leftRecords
   refuses g = stays left right leftRecords (ap (λ (y : Answer). eqb (y .refusal) 0) (answer-formed leftRecords rightRecords thirdBuffer) ∙ g)
 
 -- all that computing an answer there opens
@@ -106,7 +106,7 @@ full =
       lastPlace = last-place;
     }
 
-by-full : Stays (holding 64) one leftRecords
+by-full : LeftUnchanged (holding 64) one leftRecords
 unfolding openedFormed
 by-full = refuses (holding 64) one full-formed refl refl
 
@@ -184,7 +184,7 @@ results =
       leftMarks = refl;
       rightMarks = refl;
       marks = refl;
-      asAdmitted = same-equal result admittedResult refl;
+      asAdmitted = same-equal joinResult admittedResult refl;
       exchanged = same-equal (tableFrom rightTable leftTable) admittedExchanged refl;
       emptyRight = same-equal (tableFrom leftTable fresh) leftTable refl;
       emptyLeft = same-equal (tableFrom fresh rightTable) rightTable refl;

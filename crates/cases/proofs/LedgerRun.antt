@@ -33,10 +33,10 @@ use Rattle.history.proofs.Meanings.{record-sized}
 use Rattle.run.specs.Ledger.{Call, admit, interpret, retire, takeBack, Ledger, empty, taken, viewIn, ledgerAnswer, ledgerStep, ledgerAfter, ledgerAnswers}
 use Rattle.run.specs.Run.{Site, started, siteAfter, siteAnswers}
 use Rattle.run.specs.Promises.{Interpreted, RetiredClear, historyAt, ledgerOf, siteWith}
-use Rattle.agreement.specs.TwoSites.{Promised}
+use Rattle.agreement.specs.TwoSites.{TwoSites}
 use Rattle.agreement.proofs.TwoSites.{promised}
 use Rattle.cases.specs.Toy.{toy}
-use Rattle.cases.specs.Run.{good, zeros, at, answers, Turn, callsOf, answersOf, ledgerLeft, Session, Step, arriving, Campaign}
+use Rattle.cases.specs.Run.{good, zeroRecords, at, answers, Turn, callsOf, answersOf, ledgerLeft, Session, Step, arriving, Campaign}
 use Rattle.cases.proofs.Toy.{toyDigest}
 
 -- ---- the ledger, told by answers
@@ -94,7 +94,7 @@ module _ (s : Setup) where
 
   module _ (law : lawful s ≡ true) (buffer : List ℕ) (whole : length buffer ≡ bufferSize) (calls : List Call) (ys : List Answer)
       (e : told empty calls ys ≡ ys) where
-    promises : Promised toy s buffer [] calls []
+    promises : TwoSites toy s buffer [] calls []
     promises = promised toy (toyDigest .size) s law buffer [] calls []
 
     so : Told empty calls ys
@@ -157,7 +157,7 @@ ledgerFrom turns = claimed empty (callsOf turns) (answersOf turns)
 pub ledger-left : (s : Setup) (turns : List Turn) → lawful s ≡ true → told s empty (callsOf turns) (answersOf turns) ≡ answersOf turns
     → ledgerLeft s turns ≡ ledgerFrom turns
 unfolding ledgerFrom
-ledger-left s turns law e = ledger-told s law zeros (whole 0) (callsOf turns) (answersOf turns) e
+ledger-left s turns law e = ledger-told s law zeroRecords (whole 0) (callsOf turns) (answersOf turns) e
 
 -- blocks that arrive and are interpreted retire none
 pub arriving-unretired : (l : Ledger) (place : ℕ) (steps : List Step)
@@ -198,8 +198,8 @@ campaign s slot steps law h e marks made =
       taken = session s turns law e;
       recorded = list-same _ _ (length steps) (λ i l. ap (λ (r : SlotRecord). r .made)
           (ap (λ (x : Site). recordIn (siteAfter toy x (callsOf turns) .records) i slot) (sym (start s law))
-          ∙ record-told s law zeros (whole 0) (callsOf turns) (answersOf turns) e
-          (unretired-told s law zeros (whole 0) (callsOf turns) (answersOf turns) e (arriving-unretired empty 0 steps)) i slot h
+          ∙ record-told s law zeroRecords (whole 0) (callsOf turns) (answersOf turns) e
+          (unretired-told s law zeroRecords (whole 0) (callsOf turns) (answersOf turns) e (arriving-unretired empty 0 steps)) i slot h
           (marked-interpreted (ledgerFrom turns) (length steps) marks i l))) ∙ made;
     }
   where

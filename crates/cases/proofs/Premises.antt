@@ -14,12 +14,12 @@ use Rattle.records.specs.Layout.{flatten, numbersOf}
 use Rattle.history.specs.History.{meaning}
 use Rattle.history.specs.Forks.{forked, NoCollision}
 use Rattle.run.specs.Ledger.{Ledger, empty}
-use Rattle.agreement.specs.TwoSites.{Promised}
+use Rattle.agreement.specs.TwoSites.{TwoSites}
 use Rattle.agreement.proofs.TwoSites.{promised}
 use Rattle.cases.specs.Toy.{toy}
 use Rattle.cases.specs.Run.{callsOf, answersOf}
 use Rattle.cases.specs.Blocks.{sites}
-use Rattle.cases.specs.Premises.{firstTurns, secondTurns, firstBuffer, secondBuffer, firstLedger, secondLedger, Met, ForkedCases, PremiseCases}
+use Rattle.cases.specs.Premises.{firstTurns, secondTurns, firstBuffer, secondBuffer, firstLedger, secondLedger, PremisesMet, ForkedCases, PremiseCases}
 use Rattle.cases.proofs.Toy.{toyDigest}
 use Rattle.cases.proofs.LedgerRun.{told, ledgerFrom, whole, answers-told, ledger-told}
 use Rattle.cases.proofs.Computing.{openedLedger}
@@ -36,7 +36,7 @@ no-collision blocks n a b m k e = by-test (sameBytes a b) (λ y. same-equal a b 
 
 -- ---- the two ledgers
 
-met : Met (ledgerFrom firstTurns) (ledgerFrom secondTurns)
+met : PremisesMet (ledgerFrom firstTurns) (ledgerFrom secondTurns)
 unfolding openedLedger collision someIn forked meaning numbersOf flatten
 met =
     record {
@@ -73,13 +73,13 @@ second-is : secondLedger ≡ ledgerFrom secondTurns
 unfolding ledgerFrom
 second-is = ledger-told (sites 4) lawful-setup secondBuffer (whole 7) (callsOf secondTurns) (answersOf secondTurns) second-told
 
-met-by-both : Met firstLedger secondLedger
+met-by-both : PremisesMet firstLedger secondLedger
 met-by-both =
-    subst (λ (l : Ledger). Met l secondLedger) (sym first-is) (subst (λ (l : Ledger). Met (ledgerFrom firstTurns) l) (sym second-is) met)
+    subst (λ (l : Ledger). PremisesMet l secondLedger) (sym first-is) (subst (λ (l : Ledger). PremisesMet (ledgerFrom firstTurns) l) (sym second-is) met)
 
 -- ---- the theorem
 
-theorem : Promised toy (sites 4) firstBuffer secondBuffer (callsOf firstTurns) (callsOf secondTurns)
+theorem : TwoSites toy (sites 4) firstBuffer secondBuffer (callsOf firstTurns) (callsOf secondTurns)
 theorem = promised toy (toyDigest .size) (sites 4) lawful-setup firstBuffer secondBuffer (callsOf firstTurns) (callsOf secondTurns)
 
 pub forkedCases : ForkedCases

@@ -12,10 +12,10 @@ use Rattle.history.specs.History.{slotRecord}
 use Rattle.run.specs.Ledger.{Call, empty}
 use Rattle.run.specs.Promises.{historyAt}
 use Rattle.cases.specs.Toy.{toy}
-use Rattle.cases.specs.Run.{zeros, Step, callsOf, answersOf, arriving}
+use Rattle.cases.specs.Run.{zeroRecords, Step, callsOf, answersOf, arriving}
 use Rattle.cases.specs.Blocks.{sites}
 use Rattle.cases.specs.Traps.{sharedOut}
-use Rattle.cases.specs.Records.{Numbers, chain, hearsAll, mixed, inSlotFive, RecordCases}
+use Rattle.cases.specs.Records.{Numbers, chainOfFour, hearsAll, mixed, inSlotFive, RecordCases}
 use Rattle.cases.proofs.Computing.{openedLedger}
 use Rattle.cases.proofs.LedgerRun.{told, ledgerFrom, allMarked, marked-interpreted, whole, arriving-unretired, unretired-told, numbers-told}
 
@@ -29,8 +29,8 @@ unfolding ledgerFrom
 numbers s steps place slot ns law h l e marks shown =
     record {
       written =
-          numbers-told s law zeros (whole 0) calls answers e
-          (unretired-told s law zeros (whole 0) calls answers e (arriving-unretired empty 0 steps)) place slot h
+          numbers-told s law zeroRecords (whole 0) calls answers e
+          (unretired-told s law zeroRecords (whole 0) calls answers e (arriving-unretired empty 0 steps)) place slot h
           (marked-interpreted (ledgerFrom (arriving 0 steps)) (length steps) marks place l)
           ∙ shown;
     }
@@ -42,16 +42,16 @@ numbers s steps place slot ns law h l e marks shown =
     answers = answersOf (arriving 0 steps)
 
 pub records : RecordCases
-unfolding openedLedger flatten chain hearsAll mixed inSlotFive
+unfolding openedLedger flatten chainOfFour hearsAll mixed inSlotFive
 records =
     record {
       recordNumbers = refl;
       placeNumbers = refl;
       bufferNumbers = refl;
-      sendMade = numbers (sites 1) chain 0 0 _ refl (omega arith) (omega arith) refl refl refl;
-      echoMade = numbers (sites 1) chain 1 0 _ refl (omega arith) (omega arith) refl refl refl;
-      readyMade = numbers (sites 1) chain 2 0 _ refl (omega arith) (omega arith) refl refl refl;
-      deliveryMade = numbers (sites 1) chain 3 0 _ refl (omega arith) (omega arith) refl refl refl;
+      sendMade = numbers (sites 1) chainOfFour 0 0 _ refl (omega arith) (omega arith) refl refl refl;
+      echoMade = numbers (sites 1) chainOfFour 1 0 _ refl (omega arith) (omega arith) refl refl refl;
+      readyMade = numbers (sites 1) chainOfFour 2 0 _ refl (omega arith) (omega arith) refl refl refl;
+      deliveryMade = numbers (sites 1) chainOfFour 3 0 _ refl (omega arith) (omega arith) refl refl refl;
       heardFromEach = numbers (sites 4) mixed 11 0 _ refl (omega arith) (omega arith) refl refl refl;
       slotFive = numbers sharedOut inSlotFive 1 5 _ refl (omega arith) (omega arith) refl refl refl;
       slotOne = numbers sharedOut inSlotFive 1 1 _ refl (omega arith) (omega arith) refl refl refl;

@@ -8,7 +8,7 @@ use native.Mathlib.Omega.{arith}
 use lib.Dec.{eqb}
 use lib.ListN.{length, drop}
 use Rattle.base.specs.Bytes.{Bytes}
-use Rattle.base.specs.List.{someIn, passing}
+use Rattle.base.specs.List.{someIn, passingBelow}
 use Rattle.base.proofs.Bytes.{same-equal}
 use Rattle.base.proofs.List.{list-same}
 use Rattle.broadcast.specs.declared.SlotRecord.{SlotRecord}
@@ -24,12 +24,12 @@ use Rattle.run.specs.Ledger.{Ledger, empty, viewIn}
 use Rattle.run.specs.Promises.{RetiredClear, historyAt}
 use Rattle.agreement.proofs.TwoSites.{promised}
 use Rattle.cases.specs.Toy.{toy}
-use Rattle.cases.specs.Run.{Turn, callsOf, answersOf, ledgerLeft, siteLeft, zeros}
+use Rattle.cases.specs.Run.{Turn, callsOf, answersOf, ledgerLeft, siteLeft, zeroRecords}
 use Rattle.cases.specs.Blocks.{sites, fork, four}
 use Rattle.cases.specs.Watch.{naming}
 use Rattle.cases.specs.Arrivals.{tableOf}
 use Rattle.cases.specs.Joins.{rising}
-use Rattle.cases.specs.Retiring.{RetiringOrderCases, afterFork, RetirableCases, lastOne, threeMarked, pairOf, rowsLeft, numbers, twins, LeftCases, afterwards, AfterwardsCases, forkRetired, ForkRetiredCases, inRound, makes, roundOf, rounds, GoingOnCases}
+use Rattle.cases.specs.Retiring.{RetiringOrderCases, afterFork, RetirableCases, lastOne, threeMarked, pairOf, rowsLeft, risingNumbers, twins, RetiringLeftCases, afterwards, AfterwardsCases, forkRetired, ForkRetiredCases, inRound, makes, roundOf, roundTurns, GoingOnCases}
 use Rattle.cases.proofs.Toy.{toyDigest}
 use Rattle.cases.proofs.Computing.{openedLedger, openedWatch}
 use Rattle.cases.proofs.LedgerRun.{told, session, ledgerFrom, ledger-left, allMarked, marked-interpreted, whole, record-told}
@@ -37,11 +37,11 @@ use Rattle.cases.proofs.Premises.{lawful-setup, collision, no-collision
 
 -- what retiring is computed by
 unfoldable openedRetiring : Bool
-unfolding openedWatch movedBytes moveDown movedParts retiredTable retiredRecords tableOf rising afterFork lastOne threeMarked pairOf rowsLeft numbers twins
+unfolding openedWatch movedBytes moveDown movedParts retiredTable retiredRecords tableOf rising afterFork lastOne threeMarked pairOf rowsLeft risingNumbers twins
 openedRetiring = true
 
 unfoldable openedTurns : Bool
-unfolding openedLedger someIn passing forked collision afterFork afterwards forkRetired inRound makes roundOf rounds
+unfolding openedLedger someIn passingBelow forked collision afterFork afterwards forkRetired inRound makes roundOf roundTurns
 openedTurns = true
 
 pub order : RetiringOrderCases
@@ -65,28 +65,28 @@ retirableCases =
       noLater = session (sites 4) _ refl refl;
     }
 
-table-left : retiredTable threeMarked numbers ≡ layout (sites 4) (record { retired = 1; held = 3; row = rowsLeft })
+table-left : retiredTable threeMarked risingNumbers ≡ layout (sites 4) (record { retired = 1; held = 3; row = rowsLeft })
 unfolding openedRetiring
-table-left = same-equal (retiredTable threeMarked numbers) (layout (sites 4) (record { retired = 1; held = 3; row = rowsLeft })) refl
+table-left = same-equal (retiredTable threeMarked risingNumbers) (layout (sites 4) (record { retired = 1; held = 3; row = rowsLeft })) refl
 
-records-left : retiredRecords threeMarked numbers ≡ partOf numbers 1 ++ (partOf numbers 2 ++ (partOf numbers 3 ++ drop (partStart 3) numbers))
+records-left : retiredRecords threeMarked risingNumbers ≡ partOf risingNumbers 1 ++ (partOf risingNumbers 2 ++ (partOf risingNumbers 3 ++ drop (partStart 3) risingNumbers))
 unfolding openedRetiring
-records-left = same-equal (retiredRecords threeMarked numbers) (partOf numbers 1 ++ (partOf numbers 2 ++ (partOf numbers 3 ++ drop (partStart 3) numbers))) refl
+records-left = same-equal (retiredRecords threeMarked risingNumbers) (partOf risingNumbers 1 ++ (partOf risingNumbers 2 ++ (partOf risingNumbers 3 ++ drop (partStart 3) risingNumbers))) refl
 
 -- a table and a buffer stay where a number is answered
-stays : (t : Bytes) → eqb (retiring t numbers .refusal) 0 ≡ false → (retiredTable t numbers ≡ t) × (retiredRecords t numbers ≡ numbers)
+stays : (t : Bytes) → eqb (retiring t risingNumbers .refusal) 0 ≡ false → (retiredTable t risingNumbers ≡ t) × (retiredRecords t risingNumbers ≡ risingNumbers)
 unfolding retiredTable retiredRecords
 stays t e = (rw e, rw e)
 
-four-stays : (retiredTable four numbers ≡ four) × (retiredRecords four numbers ≡ numbers)
+four-stays : (retiredTable four risingNumbers ≡ four) × (retiredRecords four risingNumbers ≡ risingNumbers)
 unfolding openedRetiring
 four-stays = stays four refl
 
-twin-left : forks (retiredTable twins numbers) ≡ naming 0 0 true
+twin-left : forks (retiredTable twins risingNumbers) ≡ naming 0 0 true
 unfolding openedRetiring
 twin-left = refl
 
-pub leftCases : LeftCases
+pub leftCases : RetiringLeftCases
 unfolding openedRetiring
 leftCases =
     record {
@@ -142,16 +142,16 @@ module _ (turns : List Turn) (e : told (sites 4) empty (callsOf turns) (answersO
   clear : RetiredClear toy (ledgerLeft (sites 4) turns)
   clear a b m n =
       let none : NoCollision toy (ledgerLeft (sites 4) turns .blocks) = rw (is-left turns e) (no-collision (ledgerFrom turns .blocks) safe) in
-      none a b (promised toy (toyDigest .size) (sites 4) lawful-setup zeros [] (callsOf turns) [] .first .placed a .1 (inr m)) n
+      none a b (promised toy (toyDigest .size) (sites 4) lawful-setup zeroRecords [] (callsOf turns) [] .first .placed a .1 (inr m)) n
 
   record-is : (i : ℕ) → i < 4 → recordIn (siteLeft (sites 4) turns .records) i 0 ≡ slotRecord (sites 4) 0 (historyAt toy (ledgerFrom turns) i)
   unfolding ledgerFrom
   record-is i h =
-      record-told (sites 4) lawful-setup zeros (whole 0) (callsOf turns) (answersOf turns) e clear i 0 (omega arith)
+      record-told (sites 4) lawful-setup zeroRecords (whole 0) (callsOf turns) (answersOf turns) e clear i 0 (omega arith)
       (marked-interpreted (ledgerFrom turns) 4 marks i h)
 
 abbrev rounds-told : (r : ℕ) → Type 0
-rounds-told r = told (sites 4) empty (callsOf (rounds r)) (answersOf (rounds r)) ≡ answersOf (rounds r)
+rounds-told r = told (sites 4) empty (callsOf (roundTurns r)) (answersOf (roundTurns r)) ≡ answersOf (roundTurns r)
 
 four-told : rounds-told 4
 unfolding openedTurns
@@ -165,9 +165,9 @@ pub goingOnCases : GoingOnCases
 unfolding openedTurns
 goingOnCases =
     record {
-      taken = session (sites 4) (rounds 4) lawful-setup four-told;
-      held = ap (λ (l : Ledger). l .held) (is-left (rounds 4) four-told);
-      retiredCount = ap (λ (l : Ledger). length (l .retired)) (is-left (rounds 4) four-told);
-      stillDelivered = list-same _ _ 4 (λ i h. ap (λ (x : SlotRecord). x .sent .delivered) (record-is (rounds 4) four-told refl refl i h));
-      delivering = list-same _ _ 4 (λ i h. ap (λ (x : SlotRecord). x .made) (record-is (rounds 3) three-told refl refl i h));
+      taken = session (sites 4) (roundTurns 4) lawful-setup four-told;
+      held = ap (λ (l : Ledger). l .held) (is-left (roundTurns 4) four-told);
+      retiredCount = ap (λ (l : Ledger). length (l .retired)) (is-left (roundTurns 4) four-told);
+      stillDelivered = list-same _ _ 4 (λ i h. ap (λ (x : SlotRecord). x .sent .delivered) (record-is (roundTurns 4) four-told refl refl i h));
+      delivering = list-same _ _ 4 (λ i h. ap (λ (x : SlotRecord). x .made) (record-is (roundTurns 3) three-told refl refl i h));
     }

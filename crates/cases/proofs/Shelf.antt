@@ -5,13 +5,13 @@ use Rattle.base.specs.Count.{sumBelow}
 use Rattle.base.specs.List.{someIn, countIn}
 use Rattle.shelf.specs.Layout.{waitingIn, entryBytes, shelfBytes}
 use Rattle.shelf.specs.Rules.{holds, hasPlace, waits, eachSound, shared, rulesHold}
-use Rattle.shelf.specs.Form.{inForm}
-use Rattle.cases.specs.Shelf.{lacking, longest, sharing, threeWaiting, ofThree, LimitCases, PlaceCases, SameBytesCases, ShelfBytesCases, ShelfFormCases}
+use Rattle.shelf.specs.Form.{shelfInForm}
+use Rattle.cases.specs.Shelf.{lackingReference, longest, sharing, threeWaiting, ofThree, LimitCases, PlaceCases, SameBytesCases, ShelfBytesCases, ShelfFormCases}
 use Rattle.cases.proofs.Computing.{openedTable}
 
 -- what the rules of the shelf and its form are computed by
 unfoldable pub openedShelf : Bool
-unfolding openedTable sumBelow someIn countIn waitingIn entryBytes shelfBytes holds hasPlace waits eachSound shared rulesHold inForm lacking longest
+unfolding openedTable sumBelow someIn countIn waitingIn entryBytes shelfBytes holds hasPlace waits eachSound shared rulesHold shelfInForm lackingReference longest
     sharing threeWaiting ofThree
 openedShelf = true
 

@@ -22,10 +22,10 @@ use Rattle.run.specs.Ledger.Call.{takeBack}
 use Rattle.run.specs.Promises.{Interpreted}
 use Rattle.agreement.proofs.TwoSites.{promised}
 use Rattle.cases.specs.Toy.{toy}
-use Rattle.cases.specs.Run.{tableAfter, callsOf, answersOf, ledgerLeft, siteLeft, zeros, echoes}
+use Rattle.cases.specs.Run.{tableAfter, callsOf, answersOf, ledgerLeft, siteLeft, zeroRecords, echoes}
 use Rattle.cases.specs.Blocks.{sites, fresh, numbered, holding}
-use Rattle.cases.specs.Form.{marked, retiredSome}
-use Rattle.cases.specs.Arrivals.{tableOf, chain}
+use Rattle.cases.specs.Form.{withMarkAt, retiredSome}
+use Rattle.cases.specs.Arrivals.{tableOf, chainBlock}
 use Rattle.cases.specs.Retiring.{afterFork, forkRetired}
 use Rattle.cases.specs.TakingBack.{fourMarked, TakingBackOrderCases, three, twinOf, twinsHeld, BeforeCases, LetInCases, takenBackTurns, forkTakenBack, forkHeld, againTakenBack, CountedCases, alike, alikeTakenBack, alikeUnknown, SharedDigestCases}
 use Rattle.cases.proofs.Toy.{toyDigest}
@@ -58,9 +58,9 @@ three-undone : takenBack three ≡ twinsHeld
 unfolding openedBefore
 three-undone = same-equal (takenBack three) twinsHeld refl
 
-marks-stay : takenBack (marked (marked three 0 1) 1 1) ≡ marked (marked twinsHeld 0 1) 1 1
+marks-stay : takenBack (withMarkAt (withMarkAt three 0 1) 1 1) ≡ withMarkAt (withMarkAt twinsHeld 0 1) 1 1
 unfolding openedBefore
-marks-stay = same-equal (takenBack (marked (marked three 0 1) 1 1)) (marked (marked twinsHeld 0 1) 1 1) refl
+marks-stay = same-equal (takenBack (withMarkAt (withMarkAt three 0 1) 1 1)) (withMarkAt (withMarkAt twinsHeld 0 1) 1 1) refl
 
 retired-stays : takenBack (retiredSome three) ≡ retiredSome twinsHeld
 unfolding openedBefore
@@ -98,17 +98,17 @@ beforeCases =
       notNamed = refl;
     }
 
-two-left : takenBack (chain 3) ≡ chain 2
-unfolding openedBefore chain
-two-left = same-equal (takenBack (chain 3)) (chain 2) refl
+two-left : takenBack (chainBlock 3) ≡ chainBlock 2
+unfolding openedBefore chainBlock
+two-left = same-equal (takenBack (chainBlock 3)) (chainBlock 2) refl
 
-one-left : takenBack (chain 2) ≡ chain 1
-unfolding openedBefore chain
-one-left = same-equal (takenBack (chain 2)) (chain 1) refl
+one-left : takenBack (chainBlock 2) ≡ chainBlock 1
+unfolding openedBefore chainBlock
+one-left = same-equal (takenBack (chainBlock 2)) (chainBlock 1) refl
 
-none-left : takenBack (chain 1) ≡ fresh
-unfolding openedBefore chain
-none-left = same-equal (takenBack (chain 1)) fresh refl
+none-left : takenBack (chainBlock 1) ≡ fresh
+unfolding openedBefore chainBlock
+none-left = same-equal (takenBack (chainBlock 1)) fresh refl
 
 pub letInCases : LetInCases
 letInCases = record { letIn = ap (λ (r : Arrived). r .table) (passing .mixedPasses); oneByOne = (two-left, (one-left, none-left)) }
@@ -168,8 +168,8 @@ echo-is : recordIn (siteLeft (sites 4) alikeTakenBack .records) 2 0 .made ≡ ec
 unfolding openedTurns
 echo-is =
     ap (λ (r : SlotRecord). r .made)
-    (record-told (sites 4) lawful-setup zeros (whole 0) (callsOf alikeTakenBack) (answersOf alikeTakenBack) refl
-    (unretired-told (sites 4) lawful-setup zeros (whole 0) (callsOf alikeTakenBack) (answersOf alikeTakenBack) refl refl) 2 0 (omega arith) one-place)
+    (record-told (sites 4) lawful-setup zeroRecords (whole 0) (callsOf alikeTakenBack) (answersOf alikeTakenBack) refl
+    (unretired-told (sites 4) lawful-setup zeroRecords (whole 0) (callsOf alikeTakenBack) (answersOf alikeTakenBack) refl refl) 2 0 (omega arith) one-place)
 
 pub sharedDigestCases : SharedDigestCases
 unfolding openedTurns
@@ -180,7 +180,7 @@ sharedDigestCases =
       shared = refl;
       different = refl;
       noCollision = no-collisions;
-      samePart = promised toy (toyDigest .size) (sites 4) lawful-setup zeros zeros (callsOf alikeTakenBack) (callsOf alikeUnknown) .same no-collisions 2 1
+      samePart = promised toy (toyDigest .size) (sites 4) lawful-setup zeroRecords zeroRecords (callsOf alikeTakenBack) (callsOf alikeUnknown) .same no-collisions 2 1
           (subst (λ (l : Ledger). Interpreted l 2) (sym one-is) one-place) (subst (λ (l : Ledger). Interpreted l 1) (sym other-is) other-place)
           (ap (λ (l : Ledger). l .block 2) one-is ∙ same-block ∙ ap (λ (l : Ledger). l .block 1) (sym other-is));
       echo = echo-is;

@@ -7,7 +7,7 @@ use Rattle.base.specs.List.{listBelow}
 use Rattle.base.specs.Bytes.{allZero}
 use Rattle.answer.specs.Checks.{refused}
 use Rattle.setup.specs.Setup.{slotCount}
-use Rattle.table.specs.Layout.{rowStart, countOf, digestAt, siteAt, sequenceAt, referencesAt, requestAt, markAt, withRow}
+use Rattle.table.specs.Layout.{rowStart, countOf, digestAt, siteAt, sequenceAt, referencesAt, countedRequestAt, markAt, withRow}
 use Rattle.table.specs.Fresh.{nothing}
 use Rattle.admission.specs.Admission.{rowFor}
 use Rattle.cases.specs.Toy.{toy, request, block}
@@ -77,9 +77,9 @@ pub record RowCases : Type 0 where
   pub sequences : listBelow (sequenceAt four) 4 ≡ 0 ∷ 0 ∷ 0 ∷ 1 ∷ []
   -- as masks: the third refers to place 1, the fourth to places 0 and 2
   pub references : listBelow (referencesAt four) 4 ≡ 0 ∷ 0 ∷ 2 ∷ 5 ∷ []
-  pub requestedOnce : listBelow (requestAt four 0) slotCount ≡ 42 ∷ 0 ∷ 0 ∷ 0 ∷ 0 ∷ 0 ∷ 0 ∷ 0 ∷ []
+  pub requestedOnce : listBelow (countedRequestAt four 0) slotCount ≡ 42 ∷ 0 ∷ 0 ∷ 0 ∷ 0 ∷ 0 ∷ 0 ∷ 0 ∷ []
   -- "If a slot is requested twice in a block, the first counts"
-  pub requestedTwice : listBelow (requestAt four 3) slotCount ≡ 0 ∷ 0 ∷ 0 ∷ 0 ∷ 0 ∷ 772 ∷ 0 ∷ 1 ∷ []
+  pub requestedTwice : listBelow (countedRequestAt four 3) slotCount ≡ 0 ∷ 0 ∷ 0 ∷ 0 ∷ 0 ∷ 772 ∷ 0 ∷ 1 ∷ []
   -- "uninterpreted"
   pub marks : listBelow (markAt four) 4 ≡ 0 ∷ 0 ∷ 0 ∷ 0 ∷ []
   -- "Entries from the count on are zero"

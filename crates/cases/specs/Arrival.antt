@@ -44,15 +44,15 @@ deliveringBeside p = block p (later p 2) (map (λ q. toy (readyingBeside q)) thr
 unfoldable pub quiet : Bytes
 quiet = block 0 0 [] []
 
-unfoldable pub asking : Bytes
-asking = block 0 1 (toy quiet ∷ []) (request 0 42 ∷ [])
+unfoldable pub askingBlock : Bytes
+askingBlock = block 0 1 (toy quiet ∷ []) (request 0 42 ∷ [])
 
 -- the three other sites go on from there
 abbrev pub otherSites : List ℕ
 otherSites = 1 ∷ 2 ∷ 3 ∷ []
 
 unfoldable pub echoingAfter : ℕ → Bytes
-echoingAfter p = block p 0 (toy quiet ∷ toy asking ∷ []) []
+echoingAfter p = block p 0 (toy quiet ∷ toy askingBlock ∷ []) []
 
 unfoldable pub readyingAfter : ℕ → Bytes
 readyingAfter p = block p 1 (map (λ q. toy (echoingAfter q)) otherSites) []
@@ -60,7 +60,7 @@ readyingAfter p = block p 1 (map (λ q. toy (echoingAfter q)) otherSites) []
 -- and the owner, which refers to all of their blocks and requests 43
 unfoldable pub askingAgain : Bytes
 askingAgain =
-    block 0 2 (toy asking ∷ (map (λ q. toy (echoingAfter q)) otherSites ++ map (λ q. toy (readyingAfter q)) otherSites)) (request 0 43 ∷ [])
+    block 0 2 (toy askingBlock ∷ (map (λ q. toy (echoingAfter q)) otherSites ++ map (λ q. toy (readyingAfter q)) otherSites)) (request 0 43 ∷ [])
 
 -- one site fewer than n - f
 abbrev pub twoSites : List ℕ
@@ -154,7 +154,7 @@ pub record ArrivalCases : Type 0 where
   -- sites 1, 2 and 3 are the set: the owner, outside it, has the last block too; its request is in its second block, and another one comes later
   pub ownerOutside : Arrives
       (quiet making none
-      ∷ asking making sends 42
+      ∷ askingBlock making sends 42
       ∷ echoingAfter 1 making echoes 42
       ∷ echoingAfter 2 making echoes 42
       ∷ echoingAfter 3 making echoes 42
@@ -163,7 +163,7 @@ pub record ArrivalCases : Type 0 where
       ∷ readyingAfter 3 making readies 42
       ∷ askingAgain making withEcho 42 (readiesAndDelivers 42)
       ∷ [])
-      askingAgain 8 asking (λ p. ltb 0 p) (false ∷ false ∷ false ∷ false ∷ [])
+      askingAgain 8 askingBlock (λ p. ltb 0 p) (false ∷ false ∷ false ∷ false ∷ [])
   -- sites 0 and 1 are the set: their two ECHOs are no quorum
   pub oneSiteFewer : OneSiteFewer
       (first making sends 42

@@ -20,7 +20,7 @@ use Rattle.cases.specs.Run.{good, placed, tableAfter}
 use Rattle.cases.specs.Blocks.{fresh, unlawful, fork, stranger, numbered, holding}
 use Rattle.cases.specs.Form.{changed}
 use Rattle.cases.specs.Starred.{chained}
-use Rattle.cases.specs.Shelf.{_for_, lacking, longest, sharing, ofThree, takers, allOfThem, noneOfThem}
+use Rattle.cases.specs.Shelf.{_for_, lackingReference, longest, sharing, ofThree, takers, allOfThem, noneOfThem}
 
 -- ---- blocks
 
@@ -46,8 +46,8 @@ afterLast = block 1 0 (toy (numbered 63) ∷ []) []
 unfoldable pub tableOf : List Bytes → Bytes
 tableOf bs = tableAfter toy fresh (map good bs)
 
-unfoldable pub chain : ℕ → Bytes
-chain k = tableOf (listBelow chained k)
+unfoldable pub chainBlock : ℕ → Bytes
+chainBlock k = tableOf (listBelow chained k)
 
 -- a shelf whose last byte is not 0
 unfoldable pub damaged : Bytes
@@ -76,7 +76,7 @@ lacks index = refused 9 index
 
 -- what waits when the chain's first block arrives: two are then let in, one is dropped, and two wait on
 abbrev pub mixture : List Waiting
-mixture = partly for 0 ∷ chained 2 for 0 ∷ orphan 0 for 0 ∷ lacking 0 for 0 ∷ chained 1 for 0 ∷ []
+mixture = partly for 0 ∷ chained 2 for 0 ∷ orphan 0 for 0 ∷ lackingReference 0 for 0 ∷ chained 1 for 0 ∷ []
 
 -- a full shelf, on which b is the first
 abbrev pub fullWith : Bytes → List Waiting
@@ -107,63 +107,63 @@ pub record ArrivalOrderCases : Type 0 where
   -- 2, 3: four bytes and a table that is not in form; one that is stands above
   pub tableBeforeBlock : arrival toy unlawful emptyShelf 0 noBlock 1 20 ≡ calling (refused 2 0) unlawful emptyShelf []
   -- campaign 3 and 20 numbers are enough, and so are more
-  pub enoughRoom : arrival toy fresh emptyShelf 3 (chained 0) 1 20 ≡ calling (placed 0) (chain 1) emptyShelf []
-  pub moreRoom : arrival toy fresh emptyShelf 0 (chained 0) 1 21 ≡ calling (placed 0) (chain 1) emptyShelf []
+  pub enoughRoom : arrival toy fresh emptyShelf 3 (chained 0) 1 20 ≡ calling (placed 0) (chainBlock 1) emptyShelf []
+  pub moreRoom : arrival toy fresh emptyShelf 0 (chained 0) 1 21 ≡ calling (placed 0) (chainBlock 1) emptyShelf []
 
 -- "where an arrival would get 9". `partly` lacks its second reference in a table that holds its first: 9 with index 1.
 pub record MissingCases : Type 0 where
   -- "still answered 9 and waits, with its bytes": behind all others, and with the index
   pub waitsBehind :
-      arrives (chain 1) (sharing 1 1 0 0) 0 partly 1
-      ≡ leaving (lacks 1) (chain 1) (lacking 0 for 0 ∷ lacking 0 for 1 ∷ partly for 0 ∷ []) []
+      arrives (chainBlock 1) (sharing 1 1 0 0) 0 partly 1
+      ≡ leaving (lacks 1) (chainBlock 1) (lackingReference 0 for 0 ∷ lackingReference 0 for 1 ∷ partly for 0 ∷ []) []
   -- the same over the shelf's bytes
   pub waitsInBytes :
-      arrival toy (chain 1) ofThree 1 partly 1 20
-      ≡ calling (lacks 1) (chain 1) (shelfBytes (lacking 0 for 0 ∷ lacking 0 for 3 ∷ longest for 0 ∷ partly for 1 ∷ [])) []
+      arrival toy (chainBlock 1) ofThree 1 partly 1 20
+      ≡ calling (lacks 1) (chainBlock 1) (shelfBytes (lackingReference 0 for 0 ∷ lackingReference 0 for 3 ∷ longest for 0 ∷ partly for 1 ∷ [])) []
   -- "instead of it 20, its bytes already wait for that campaign", with 0 beside it
   pub waitsAlready :
-      arrives (chain 1) (lacking 0 for 0 ∷ partly for 0 ∷ []) 0 partly 1
-      ≡ leaving (refused 20 0) (chain 1) (lacking 0 for 0 ∷ partly for 0 ∷ []) []
-  pub waitsAlreadyInBytes : arrival toy fresh ofThree 3 (lacking 0) 1 20 ≡ calling (refused 20 0) fresh ofThree []
+      arrives (chainBlock 1) (lackingReference 0 for 0 ∷ partly for 0 ∷ []) 0 partly 1
+      ≡ leaving (refused 20 0) (chainBlock 1) (lackingReference 0 for 0 ∷ partly for 0 ∷ []) []
+  pub waitsAlreadyInBytes : arrival toy fresh ofThree 3 (lackingReference 0) 1 20 ≡ calling (refused 20 0) fresh ofThree []
   -- they wait for another campaign alone
   pub waitsForAnother :
-      arrives (chain 1) (lacking 0 for 0 ∷ partly for 1 ∷ []) 0 partly 1
-      ≡ leaving (lacks 1) (chain 1) (lacking 0 for 0 ∷ partly for 1 ∷ partly for 0 ∷ []) []
+      arrives (chainBlock 1) (lackingReference 0 for 0 ∷ partly for 1 ∷ []) 0 partly 1
+      ≡ leaving (lacks 1) (chainBlock 1) (lackingReference 0 for 0 ∷ partly for 1 ∷ partly for 0 ∷ []) []
   -- "else 19, no place by the shelf rule", with 0 beside it: 10 are held; no place is free; those that are free are lacked by another
   pub noEleventh :
-      arrives (chain 1) (sharing 10 0 0 0) 0 partly 1
-      ≡ leaving (refused 19 0) (chain 1) (sharing 10 0 0 0) []
+      arrives (chainBlock 1) (sharing 10 0 0 0) 0 partly 1
+      ≡ leaving (refused 19 0) (chainBlock 1) (sharing 10 0 0 0) []
   pub noneFree :
-      arrives (chain 1) (sharing 5 2 2 7) 0 partly 1
-      ≡ leaving (refused 19 0) (chain 1) (sharing 5 2 2 7) []
+      arrives (chainBlock 1) (sharing 5 2 2 7) 0 partly 1
+      ≡ leaving (refused 19 0) (chainBlock 1) (sharing 5 2 2 7) []
   pub lackedByAnother :
-      arrives (chain 1) (sharing 6 0 2 6) 0 partly 1
-      ≡ leaving (refused 19 0) (chain 1) (sharing 6 0 2 6) []
+      arrives (chainBlock 1) (sharing 6 0 2 6) 0 partly 1
+      ≡ leaving (refused 19 0) (chainBlock 1) (sharing 6 0 2 6) []
   -- on the same shelf that other one, which holds fewer than 2, gets 9
   pub belowTwo :
-      arrives (chain 1) (sharing 6 0 2 6) 1 partly 1
-      ≡ leaving (lacks 1) (chain 1) (sharing 6 0 2 6 ++ (partly for 1 ∷ [])) []
+      arrives (chainBlock 1) (sharing 6 0 2 6) 1 partly 1
+      ≡ leaving (lacks 1) (chainBlock 1) (sharing 6 0 2 6 ++ (partly for 1 ∷ [])) []
   -- both over the shelf's bytes
   pub ruleInBytes :
-      (arrival toy (chain 1) (shelfBytes (sharing 6 0 2 6)) 3 partly 1 20 ≡ calling (refused 19 0) (chain 1) (shelfBytes (sharing 6 0 2 6)) [])
-      × (arrival toy (chain 1) (shelfBytes (sharing 6 0 2 6)) 1 partly 1 20
-      ≡ calling (lacks 1) (chain 1) (shelfBytes (sharing 6 0 2 6 ++ (partly for 1 ∷ []))) [])
+      (arrival toy (chainBlock 1) (shelfBytes (sharing 6 0 2 6)) 3 partly 1 20 ≡ calling (refused 19 0) (chainBlock 1) (shelfBytes (sharing 6 0 2 6)) [])
+      × (arrival toy (chainBlock 1) (shelfBytes (sharing 6 0 2 6)) 1 partly 1 20
+      ≡ calling (lacks 1) (chainBlock 1) (shelfBytes (sharing 6 0 2 6 ++ (partly for 1 ∷ []))) [])
   -- 20, 19: its bytes wait for the campaign and no place is free
   pub sameBeforeNoPlace :
-      arrives (chain 1) (sharing 5 2 2 6 ++ (partly for 0 ∷ [])) 0 partly 1
-      ≡ leaving (refused 20 0) (chain 1) (sharing 5 2 2 6 ++ (partly for 0 ∷ [])) []
+      arrives (chainBlock 1) (sharing 5 2 2 6 ++ (partly for 0 ∷ [])) 0 partly 1
+      ≡ leaving (refused 20 0) (chainBlock 1) (sharing 5 2 2 6 ++ (partly for 0 ∷ [])) []
   -- 5, 9: with verdict 0 nothing waits
   pub verdictBefore :
-      arrives (chain 1) [] 0 partly 0 ≡ leaving (refused 5 0) (chain 1) [] []
+      arrives (chainBlock 1) [] 0 partly 0 ≡ leaving (refused 5 0) (chainBlock 1) [] []
   -- 5 although its bytes wait, and although no place is free
   pub verdictBeforeSame :
-      arrives fresh (sharing 10 2 2 2) 0 (lacking 0) 0 ≡ leaving (refused 5 0) fresh (sharing 10 2 2 2) []
+      arrives fresh (sharing 10 2 2 2) 0 (lackingReference 0) 0 ≡ leaving (refused 5 0) fresh (sharing 10 2 2 2) []
   -- 8, 9: a held block has its digest
   pub heldBefore :
       arrives (tableOf (chained 0 ∷ fork ∷ block 1 0 (toy (chained 0) ∷ toy fork ∷ []) [] ∷ [])) [] 0 partly 1
       ≡ leaving (refused 8 2) (tableOf (chained 0 ∷ fork ∷ block 1 0 (toy (chained 0) ∷ toy fork ∷ []) [] ∷ [])) [] []
   -- 9, 11: it waits though the table is full
-  pub fullTable : arrives (holding 64) [] 0 (lacking 0) 1 ≡ leaving (lacks 0) (holding 64) (lacking 0 for 0 ∷ []) []
+  pub fullTable : arrives (holding 64) [] 0 (lackingReference 0) 1 ≡ leaving (lacks 0) (holding 64) (lackingReference 0 for 0 ∷ []) []
 
 -- "After each admission of an arrival the campaign's waiting blocks are tried in passes, in the order they came, until a pass admits none; one refused
 -- by another number than 9 is dropped".
@@ -171,21 +171,21 @@ pub record PassCases : Type 0 where
   -- one is let in
   pub oneLetIn :
       arrives fresh (chained 1 for 0 ∷ []) 0 (chained 0) 1
-      ≡ leaving (placed 0) (chain 2) [] (chained 1 getting placed 1 ∷ [])
+      ≡ leaving (placed 0) (chainBlock 2) [] (chained 1 getting placed 1 ∷ [])
   -- a chain that waits in its order behind one that waits on: each is let in by the one before it, in the same pass
   pub chainInOrder :
-      arrives fresh (lacking 0 for 0 ∷ chained 1 for 0 ∷ chained 2 for 0 ∷ chained 3 for 0 ∷ []) 0 (chained 0) 1
-      ≡ leaving (placed 0) (chain 4) (lacking 0 for 0 ∷ [])
-      (lacking 0 getting lacks 0
+      arrives fresh (lackingReference 0 for 0 ∷ chained 1 for 0 ∷ chained 2 for 0 ∷ chained 3 for 0 ∷ []) 0 (chained 0) 1
+      ≡ leaving (placed 0) (chainBlock 4) (lackingReference 0 for 0 ∷ [])
+      (lackingReference 0 getting lacks 0
       ∷ chained 1 getting placed 1
       ∷ chained 2 getting placed 2
       ∷ chained 3 getting placed 3
-      ∷ lacking 0 getting lacks 0
+      ∷ lackingReference 0 getting lacks 0
       ∷ [])
   -- one that came in reverse order: three passes let one in each
   pub chainReversed :
       arrives fresh (chained 3 for 0 ∷ chained 2 for 0 ∷ chained 1 for 0 ∷ []) 0 (chained 0) 1
-      ≡ leaving (placed 0) (chain 4) []
+      ≡ leaving (placed 0) (chainBlock 4) []
       (chained 3 getting lacks 0
       ∷ chained 2 getting lacks 0
       ∷ chained 1 getting placed 1
@@ -200,66 +200,66 @@ pub record PassCases : Type 0 where
       (beside 2 getting placed 1 ∷ beside 3 getting placed 2 ∷ beside 1 getting placed 3 ∷ [])
   -- a pass that lets one in is followed by another, also if none is let in by that
   pub oneMorePass :
-      arrives fresh (lacking 0 for 0 ∷ chained 1 for 0 ∷ []) 0 (chained 0) 1
-      ≡ leaving (placed 0) (chain 2) (lacking 0 for 0 ∷ [])
-      (lacking 0 getting lacks 0 ∷ chained 1 getting placed 1 ∷ lacking 0 getting lacks 0 ∷ [])
+      arrives fresh (lackingReference 0 for 0 ∷ chained 1 for 0 ∷ []) 0 (chained 0) 1
+      ≡ leaving (placed 0) (chainBlock 2) (lackingReference 0 for 0 ∷ [])
+      (lackingReference 0 getting lacks 0 ∷ chained 1 getting placed 1 ∷ lackingReference 0 getting lacks 0 ∷ [])
   -- one that only drops is the last
   pub onlyDrops :
-      arrives fresh (lacking 0 for 0 ∷ orphan 0 for 0 ∷ []) 0 (chained 0) 1
-      ≡ leaving (placed 0) (chain 1) (lacking 0 for 0 ∷ [])
-      (lacking 0 getting lacks 0 ∷ orphan 0 getting refused 10 0 ∷ [])
+      arrives fresh (lackingReference 0 for 0 ∷ orphan 0 for 0 ∷ []) 0 (chained 0) 1
+      ≡ leaving (placed 0) (chainBlock 1) (lackingReference 0 for 0 ∷ [])
+      (lackingReference 0 getting lacks 0 ∷ orphan 0 getting refused 10 0 ∷ [])
   -- and so is one that does neither
   pub nothingEnds :
-      arrives fresh (lacking 0 for 0 ∷ partly for 0 ∷ []) 0 (chained 0) 1
-      ≡ leaving (placed 0) (chain 1) (lacking 0 for 0 ∷ partly for 0 ∷ [])
-      (lacking 0 getting lacks 0 ∷ partly getting lacks 1 ∷ [])
+      arrives fresh (lackingReference 0 for 0 ∷ partly for 0 ∷ []) 0 (chained 0) 1
+      ≡ leaving (placed 0) (chainBlock 1) (lackingReference 0 for 0 ∷ partly for 0 ∷ [])
+      (lackingReference 0 getting lacks 0 ∷ partly getting lacks 1 ∷ [])
   -- one dropped is not tried again, and what waits on keeps its order
   pub mixedPasses :
       arrives fresh mixture 0 (chained 0) 1
-      ≡ leaving (placed 0) (chain 3) (partly for 0 ∷ lacking 0 for 0 ∷ [])
+      ≡ leaving (placed 0) (chainBlock 3) (partly for 0 ∷ lackingReference 0 for 0 ∷ [])
       (partly getting lacks 1
       ∷ chained 2 getting lacks 0
       ∷ orphan 0 getting refused 10 0
-      ∷ lacking 0 getting lacks 0
+      ∷ lackingReference 0 getting lacks 0
       ∷ chained 1 getting placed 1
       ∷ partly getting lacks 1
       ∷ chained 2 getting placed 2
-      ∷ lacking 0 getting lacks 0
+      ∷ lackingReference 0 getting lacks 0
       ∷ partly getting lacks 1
-      ∷ lacking 0 getting lacks 0
+      ∷ lackingReference 0 getting lacks 0
       ∷ [])
   -- dropped by 8: the block could have been admitted, and then it arrived once more
   pub droppedBy8 :
-      arrives (chain 1) (chained 1 for 0 ∷ []) 0 (chained 1) 1
-      ≡ leaving (placed 1) (chain 2) [] (chained 1 getting refused 8 1 ∷ [])
+      arrives (chainBlock 1) (chained 1 for 0 ∷ []) 0 (chained 1) 1
+      ≡ leaving (placed 1) (chainBlock 2) [] (chained 1 getting refused 8 1 ∷ [])
   -- by 10: it has no parent
   pub droppedBy10 :
-      arrives fresh (orphan 0 for 0 ∷ []) 0 (chained 0) 1 ≡ leaving (placed 0) (chain 1) [] (orphan 0 getting refused 10 0 ∷ [])
+      arrives fresh (orphan 0 for 0 ∷ []) 0 (chained 0) 1 ≡ leaving (placed 0) (chainBlock 1) [] (orphan 0 getting refused 10 0 ∷ [])
   -- by 11: 64 blocks are held, and with the last of them it lacks nothing
   pub droppedBy11 :
       arrives (holding 63) (afterLast for 0 ∷ []) 0 (numbered 63) 1 ≡ leaving (placed 63) (holding 64) [] (afterLast getting refused 11 0 ∷ [])
   -- by 4: no arrival leaves such a block on the shelf, but the form of a shelf does not ask for its site
   pub droppedBy4 :
-      arrives fresh (beside 4 for 0 ∷ []) 0 (chained 0) 1 ≡ leaving (placed 0) (chain 1) [] (beside 4 getting refused 4 0 ∷ [])
+      arrives fresh (beside 4 for 0 ∷ []) 0 (chained 0) 1 ≡ leaving (placed 0) (chainBlock 1) [] (beside 4 getting refused 4 0 ∷ [])
   -- what waits for other campaigns is not tried, and stays in its order, though the reference is the same
   pub otherCampaigns :
       arrives fresh (chained 1 for 1 ∷ chained 1 for 0 ∷ chained 1 for 3 ∷ []) 0 (chained 0) 1
-      ≡ leaving (placed 0) (chain 2) (chained 1 for 1 ∷ chained 1 for 3 ∷ []) (chained 1 getting placed 1 ∷ [])
+      ≡ leaving (placed 0) (chainBlock 2) (chained 1 for 1 ∷ chained 1 for 3 ∷ []) (chained 1 getting placed 1 ∷ [])
   -- after a refusal none is tried, though it could be admitted: 8, and 9
   pub afterRefusal :
-      arrives (chain 1) (chained 1 for 0 ∷ []) 0 (chained 0) 1
-      ≡ leaving (refused 8 0) (chain 1) (chained 1 for 0 ∷ []) []
+      arrives (chainBlock 1) (chained 1 for 0 ∷ []) 0 (chained 0) 1
+      ≡ leaving (refused 8 0) (chainBlock 1) (chained 1 for 0 ∷ []) []
   pub afterMissing :
-      arrives (chain 1) (chained 1 for 0 ∷ []) 0 partly 1
-      ≡ leaving (lacks 1) (chain 1) (chained 1 for 0 ∷ partly for 0 ∷ []) []
+      arrives (chainBlock 1) (chained 1 for 0 ∷ []) 0 partly 1
+      ≡ leaving (lacks 1) (chainBlock 1) (chained 1 for 0 ∷ partly for 0 ∷ []) []
   -- after an admission it is, also if it does not refer to the block admitted
   pub afterAnother :
-      arrives (chain 1) (chained 1 for 0 ∷ []) 0 fork 1
+      arrives (chainBlock 1) (chained 1 for 0 ∷ []) 0 fork 1
       ≡ leaving (placed 1) (tableOf (chained 0 ∷ fork ∷ chained 1 ∷ [])) [] (chained 1 getting placed 2 ∷ [])
   -- over the shelf's bytes, for campaign 2
   pub passesInBytes :
-      arrival toy fresh (shelfBytes (lacking 0 for 0 ∷ chained 2 for 2 ∷ chained 1 for 2 ∷ partly for 2 ∷ [])) 2 (chained 0) 1 20
-      ≡ calling (placed 0) (chain 3) (shelfBytes (lacking 0 for 0 ∷ partly for 2 ∷ []))
+      arrival toy fresh (shelfBytes (lackingReference 0 for 0 ∷ chained 2 for 2 ∷ chained 1 for 2 ∷ partly for 2 ∷ [])) 2 (chained 0) 1 20
+      ≡ calling (placed 0) (chainBlock 3) (shelfBytes (lackingReference 0 for 0 ∷ partly for 2 ∷ []))
       (chained 2 getting lacks 0
       ∷ chained 1 getting placed 1
       ∷ partly getting lacks 1
@@ -269,7 +269,7 @@ pub record PassCases : Type 0 where
       ∷ [])
   -- a refusal of admission's leaves the shelf's bytes
   pub refusedInBytes :
-      arrival toy (chain 1) ofThree 0 (chained 0) 1 20 ≡ calling (refused 8 0) (chain 1) ofThree []
+      arrival toy (chainBlock 1) ofThree 0 (chained 0) 1 20 ≡ calling (refused 8 0) (chainBlock 1) ofThree []
 
 -- "The answer lists, in the order tried, the place of each block let in and the number of each dropped".
 pub record OutcomeCases : Type 0 where
@@ -284,7 +284,7 @@ pub record OutcomeCases : Type 0 where
   pub outcomesInBuffer : putAnswers (replicate 20 7) 0 (outcomesOf (arrives fresh mixture 0 (chained 0) 1 .tries)) ≡ 10 ∷ 0 ∷ 0 ∷ 1 ∷ 0 ∷ 2 ∷ replicate 14 7
 
 -- What an arrival leaves to the next.
-pub record LeftCases : Type 0 where
+pub record ArrivalLeftCases : Type 0 where
   -- what waits on for the campaign gets 9 from the table as it is, each with its index
   pub stillLacking :
       map (λ w. admission toy (arrives fresh mixture 0 (chained 0) 1 .table) (w .block) 1) (arrives fresh mixture 0 (chained 0) 1 .waiting)

@@ -11,7 +11,7 @@ use Rattle.run.specs.Run.{started}
 use Rattle.arrival.specs.Full.{BlockBy, Full}
 use Rattle.arrival.specs.Building.{BuildsByRule}
 use Rattle.cases.specs.Toy.{toy, request, block}
-use Rattle.cases.specs.Run.{good, placed, done, zeros, Turn, _giving_, callsOf, ledgerLeft, Session}
+use Rattle.cases.specs.Run.{good, placed, done, zeroRecords, Turn, _giving_, callsOf, ledgerLeft, Session}
 use Rattle.cases.specs.Blocks.{sites, first, fork, second, third, fourth, echoing}
 
 -- site 1's blocks: one that it takes back before another arrives; one that refers to all four blocks that it then holds; and the next, which refers
@@ -66,7 +66,7 @@ lateTurns =
 -- site 1 builds all of its blocks by the rule, and so it is full: the one that it took back does not count
 pub record BuilderFull : Type 0 where
   pub taken : Session (sites 4) ownTurns
-  pub byRule : BuildsByRule toy 1 (started (sites 4) zeros) (callsOf ownTurns)
+  pub byRule : BuildsByRule toy 1 (started (sites 4) zeroRecords) (callsOf ownTurns)
   pub full : Full toy (ledgerLeft (sites 4) ownTurns .blocks) 1
 
 -- and so it is at the other site
@@ -79,7 +79,7 @@ pub record FullElsewhere : Type 0 where
 -- where something was retired, a site may build by the rule and not be full: it cannot refer to what its table does not hold any more
 pub record BuilderLate : Type 0 where
   pub taken : Session (sites 4) lateTurns
-  pub byRule : BuildsByRule toy 1 (started (sites 4) zeros) (callsOf lateTurns)
+  pub byRule : BuildsByRule toy 1 (started (sites 4) zeroRecords) (callsOf lateTurns)
   pub notFull : Full toy (ledgerLeft (sites 4) lateTurns .blocks) 1 → ⊥
 
 pub record BuilderCases : Type 0 where

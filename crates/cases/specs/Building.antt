@@ -20,8 +20,8 @@ use Rattle.cases.specs.Form.{changed, referring}
 use Rattle.cases.specs.Watch.{interpretedRow}
 
 -- the bytes of a request
-abbrev pub asking : ℕ → ℕ → Bytes
-asking slot number = slot ∷ 0 ∷ number ∷ []
+abbrev pub requestWritten : ℕ → ℕ → Bytes
+requestWritten slot number = slot ∷ 0 ∷ number ∷ []
 
 -- an output of so many bytes
 abbrev pub room : ℕ → Bytes
@@ -50,10 +50,10 @@ pub record BuildingOrderCases : Type 0 where
   -- 4, 3: a list of one byte
   pub siteBeforeList : (building fresh 4 (0 ∷ []) [] ≡ refused 4 0) × (building fresh 3 (0 ∷ []) [] ≡ refused 3 0)
   -- 3, 6: a request of slot 8 and a byte more, then without it
-  pub listBeforeRequest : (building fresh 3 (asking 8 1 ++ (0 ∷ [])) [] ≡ refused 3 0) × (building fresh 3 (asking 8 1) [] ≡ refused 6 0)
+  pub listBeforeRequest : (building fresh 3 (requestWritten 8 1 ++ (0 ∷ [])) [] ≡ refused 3 0) × (building fresh 3 (requestWritten 8 1) [] ≡ refused 6 0)
   -- 6, 16: a second request of number 0 by a site that forked, then of number 1
   pub requestBeforeFork :
-      (building four 0 (asking 0 1 ++ asking 1 0) [] ≡ refused 6 1) × (building four 0 (asking 0 1 ++ asking 1 1) [] ≡ refused 16 0)
+      (building four 0 (requestWritten 0 1 ++ requestWritten 1 0) [] ≡ refused 6 1) × (building four 0 (requestWritten 0 1 ++ requestWritten 1 1) [] ≡ refused 16 0)
   -- 16, 17: no output, by a site that forked, then by one that did not
   pub forkBeforeOutput : (building four 0 [] [] ≡ refused 16 0) × (building four 3 [] [] ≡ refused 17 (blockSize 1 0))
   -- 16, 30: two blocks of sequence number 65,535, then one
@@ -67,19 +67,19 @@ pub record BuildingCases : Type 0 where
   pub pastLast : building (numberedTo 1 65535) 0 [] (room 37) ≡ refused 30 0
   pub pastLastOther : building (numberedTo 1 65535) 1 [] (room 37) ≡ success 37
   -- "request list over 24 bytes"
-  pub eightRequests : building fresh 3 (asking 0 1 ++ asking 1 1 ++ asking 2 1 ++ asking 3 1 ++ asking 4 1 ++ asking 5 1 ++ asking 6 1 ++ asking 7 1) (room 29)
+  pub eightRequests : building fresh 3 (requestWritten 0 1 ++ requestWritten 1 1 ++ requestWritten 2 1 ++ requestWritten 3 1 ++ requestWritten 4 1 ++ requestWritten 5 1 ++ requestWritten 6 1 ++ requestWritten 7 1) (room 29)
       ≡ success 29
   pub nineRequests : building fresh 3 (replicate (maxRequestListSize + 3) 1) (room 29) ≡ refused 3 0
   -- a block's length, and one byte less
-  pub exact : building fresh 3 (asking 0 1) (room 8) ≡ success 8
-  pub short : building fresh 3 (asking 0 1) (room 7) ≡ refused 17 8
+  pub exact : building fresh 3 (requestWritten 0 1) (room 8) ≡ success 8
+  pub short : building fresh 3 (requestWritten 0 1) (room 7) ≡ refused 17 8
   -- "Bytes after the block stay", and all of them beside a refusal
-  pub stays : built fresh 3 (asking 0 1) (room 10) ≡ block 3 0 [] (request 0 1 ∷ []) ++ room 2
-  pub refusedStays : built fresh 3 (asking 0 1) (room 7) ≡ room 7
+  pub stays : built fresh 3 (requestWritten 0 1) (room 10) ≡ block 3 0 [] (request 0 1 ∷ []) ++ room 2
+  pub refusedStays : built fresh 3 (requestWritten 0 1) (room 7) ≡ room 7
   -- no held block: sequence 0, and every block in place order
   pub firstBlock : nextBlock everywhere (viewOf four) 1 [] ≡ block 1 0 (toy first ∷ toy fork ∷ toy third ∷ toy fourth ∷ []) []
   -- one more than the greatest, and nothing else where its blocks refer to all others
-  pub nextOne : nextBlock everywhere (viewOf four) 3 (asking 5 7) ≡ block 3 2 (toy fourth ∷ []) (request 5 7 ∷ [])
+  pub nextOne : nextBlock everywhere (viewOf four) 3 (requestWritten 5 7) ≡ block 3 2 (toy fourth ∷ []) (request 5 7 ∷ [])
   -- its greatest block first, then what none of its blocks refers to directly: place 1 is referred to by place 2 alone, which now refers to
   -- nothing
   pub greatestFirst : nextBlock everywhere (viewOf (referring four 2 0)) 3 [] ≡ block 3 2 (toy fourth ∷ toy fork ∷ []) []

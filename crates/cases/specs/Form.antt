@@ -5,7 +5,7 @@ use mathlib.Core.List.{[], _∷_, _++_}
 use Prim.Native.Nat.{ℕ, _+_, _-_, _^_}
 use lib.ListN.{take}
 use Rattle.base.specs.Bytes.{Bytes, splice}
-use Rattle.base.specs.LowFirst.{wordSize, wordBytes}
+use Rattle.base.specs.LowFirst.{wordSize, lowFirstBytes}
 use Rattle.table.specs.Layout.{ownersOffset, retiredOffset, countOffset, siteOffset, sequenceOffset, referencesOffset, markOffset, rowStart, tableSize, digestAt}
 use Rattle.table.specs.Form.{inForm}
 use Rattle.cases.specs.Blocks.{fresh, four, holding}
@@ -16,23 +16,23 @@ changed t at byte = splice t at (byte ∷ [])
 
 -- the table with another set of places that a place refers to
 abbrev pub referring : Bytes → ℕ → ℕ → Bytes
-referring t i mask = splice t (rowStart i + referencesOffset) (wordBytes wordSize mask)
+referring t i mask = splice t (rowStart i + referencesOffset) (lowFirstBytes wordSize mask)
 
 -- the table with a place marked
-abbrev pub marked : Bytes → ℕ → ℕ → Bytes
-marked t i mark = changed t (rowStart i + markOffset) mark
+abbrev pub withMarkAt : Bytes → ℕ → ℕ → Bytes
+withMarkAt t i mark = changed t (rowStart i + markOffset) mark
 
 -- a table that has retired something
 abbrev pub retiredSome : Bytes → Bytes
 retiredSome t = changed t retiredOffset 1
 
 -- `four` with site 3's blocks one sequence number higher: the first of them, at place 2, has no parent
-abbrev pub lacking : Bytes
-lacking = changed (changed four (rowStart 2 + sequenceOffset + 1) 1) (rowStart 3 + sequenceOffset + 1) 2
+abbrev pub lackingParent : Bytes
+lackingParent = changed (changed four (rowStart 2 + sequenceOffset + 1) 1) (rowStart 3 + sequenceOffset + 1) 2
 
 -- `four` with all four places marked, and place 3 after both forks
 abbrev pub twoParented : Bytes
-twoParented = marked (marked (marked (marked (changed (referring four 3 7) (rowStart 3 + siteOffset) 0) 0 1) 1 1) 2 1) 3 1
+twoParented = withMarkAt (withMarkAt (withMarkAt (withMarkAt (changed (referring four 3 7) (rowStart 3 + siteOffset) 0) 0 1) 1 1) 2 1) 3 1
 
 -- `four` holds two forks of site 0 at places 0 and 1, a block of site 3 that refers to place 1 at place 2, and the one after it, which
 -- refers to places 0 and 2, at place 3
@@ -61,10 +61,10 @@ pub record FormCases : Type 0 where
   pub higherHeld : inForm (referring four 0 4) ≡ false
   pub beyond : inForm (referring four 0 (2 ^ 63)) ≡ false
   -- interpreted or not
-  pub markTwo : inForm (marked four 0 2) ≡ false
+  pub markTwo : inForm (withMarkAt four 0 2) ≡ false
   -- "an interpreted place has all its references interpreted"
-  pub referenceMarked : inForm (marked (marked four 1 1) 2 1) ≡ true
-  pub referenceUnmarked : inForm (marked (marked four 0 1) 2 1) ≡ false
+  pub referenceMarked : inForm (withMarkAt (withMarkAt four 1 1) 2 1) ≡ true
+  pub referenceUnmarked : inForm (withMarkAt (withMarkAt four 0 1) 2 1) ≡ false
   -- "the parent rule holds": one parent; none; one of another sequence number; two
   pub oneParent : inForm (changed four (rowStart 3 + siteOffset) 0) ≡ true
   pub noParent : inForm (changed four (rowStart 2 + sequenceOffset + 1) 1) ≡ false
@@ -75,7 +75,7 @@ pub record FormCases : Type 0 where
   pub retiredFour : inForm (retiredSome four) ≡ true
   pub retiredTwo : inForm (changed four retiredOffset 2) ≡ false
   -- "form allows a missing parent for interpreted places of such a table": interpreted; not interpreted; nothing retired; two parents
-  pub missingParent : inForm (retiredSome (marked (marked lacking 1 1) 2 1)) ≡ true
-  pub missingUninterpreted : inForm (retiredSome (marked lacking 1 1)) ≡ false
-  pub missingUnretired : inForm (marked (marked lacking 1 1) 2 1) ≡ false
+  pub missingParent : inForm (retiredSome (withMarkAt (withMarkAt lackingParent 1 1) 2 1)) ≡ true
+  pub missingUninterpreted : inForm (retiredSome (withMarkAt lackingParent 1 1)) ≡ false
+  pub missingUnretired : inForm (withMarkAt (withMarkAt lackingParent 1 1) 2 1) ≡ false
   pub retiredTwoParents : inForm (retiredSome twoParented) ≡ false

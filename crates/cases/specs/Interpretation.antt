@@ -12,7 +12,7 @@ use Rattle.run.specs.Run.{Site, siteAnswers}
 use Rattle.cases.specs.Toy.{toy}
 use Rattle.cases.specs.Run.{good, placed, done, answers, _giving_, Session}
 use Rattle.cases.specs.Blocks.{sites, fresh, unlawful, first, fork, second, third, fourth, four}
-use Rattle.cases.specs.Form.{changed, marked}
+use Rattle.cases.specs.Form.{changed, withMarkAt}
 
 -- a table, with a record buffer of so many zeros
 abbrev pub lent : Bytes → ℕ → Site
@@ -33,8 +33,8 @@ pub record InterpretationOrderCases : Type 0 where
       (answers toy unlawful (interpret 0 ∷ []) ≡ refused 2 0 ∷ []) × (answers toy fresh (interpret 0 ∷ []) ≡ refused 13 0 ∷ [])
   -- 2, 14: a place that is marked, where the place that it refers to is not marked, and where it is
   pub formBeforeMark :
-      (answers toy (marked (marked four 0 1) 2 1) (interpret 2 ∷ []) ≡ refused 2 0 ∷ [])
-      × (answers toy (marked (marked four 1 1) 2 1) (interpret 2 ∷ []) ≡ refused 14 0 ∷ [])
+      (answers toy (withMarkAt (withMarkAt four 0 1) 2 1) (interpret 2 ∷ []) ≡ refused 2 0 ∷ [])
+      × (answers toy (withMarkAt (withMarkAt four 1 1) 2 1) (interpret 2 ∷ []) ≡ refused 14 0 ∷ [])
   -- 2, 15: a place that refers to one that is not marked, in a table that names a site 4, and in one that does not
   pub formBeforeReference :
       (answers toy (changed four (rowStart 1 + siteOffset) 4) (interpret 2 ∷ []) ≡ refused 2 0 ∷ [])
@@ -45,8 +45,8 @@ pub record InterpretationOrderCases : Type 0 where
       × (siteAnswers toy (lent fresh bufferSize) (interpret 0 ∷ []) ≡ refused 13 0 ∷ [])
   -- 12, 14
   pub sizeBeforeMark :
-      (siteAnswers toy (lent (marked four 1 1) (bufferSize - 1)) (interpret 1 ∷ []) ≡ refused 12 0 ∷ [])
-      × (siteAnswers toy (lent (marked four 1 1) bufferSize) (interpret 1 ∷ []) ≡ refused 14 0 ∷ [])
+      (siteAnswers toy (lent (withMarkAt four 1 1) (bufferSize - 1)) (interpret 1 ∷ []) ≡ refused 12 0 ∷ [])
+      × (siteAnswers toy (lent (withMarkAt four 1 1) bufferSize) (interpret 1 ∷ []) ≡ refused 14 0 ∷ [])
   -- 12, 15
   pub sizeBeforeReference :
       (siteAnswers toy (lent four (bufferSize - 1)) (interpret 2 ∷ []) ≡ refused 12 0 ∷ [])

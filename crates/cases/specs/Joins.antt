@@ -10,7 +10,7 @@ use Rattle.base.specs.List.{listBelow}
 use Rattle.answer.specs.declared.Answer.{Answer}
 use Rattle.answer.specs.Checks.{success, refused}
 use Rattle.setup.specs.Setup.{lawful, slotCount}
-use Rattle.table.specs.Layout.{ownersOffset, siteOffset, sequenceOffset, requestsOffset, rowStart, tableSize, setupOf, countOf, digestAt, siteAt, sequenceAt, referencesAt, requestAt, markAt}
+use Rattle.table.specs.Layout.{ownersOffset, siteOffset, sequenceOffset, requestsOffset, rowStart, tableSize, setupOf, countOf, digestAt, siteAt, sequenceAt, referencesAt, countedRequestAt, markAt}
 use Rattle.table.specs.Form.{inForm}
 use Rattle.table.specs.Fresh.{emptyTable}
 use Rattle.records.specs.Layout.{bufferSize, partStart, partOf}
@@ -19,9 +19,9 @@ use Rattle.run.specs.Ledger.Call.{interpret}
 use Rattle.run.specs.Run.{Site}
 use Rattle.run.specs.Promises.{siteWith}
 use Rattle.cases.specs.Toy.{toy, block}
-use Rattle.cases.specs.Run.{good, zeros}
+use Rattle.cases.specs.Run.{good, zeroRecords}
 use Rattle.cases.specs.Blocks.{sites, fresh, first, fork, second, both, stranger, third, fourth, numbered, four, holding}
-use Rattle.cases.specs.Form.{changed, referring, marked, retiredSome}
+use Rattle.cases.specs.Form.{changed, referring, withMarkAt, retiredSome}
 use Rattle.cases.specs.Arrivals.{tableOf}
 
 -- ---- calls
@@ -31,7 +31,7 @@ abbrev pub lending : Bytes → Bytes → ℕ → ℕ → ℕ → Answer
 lending left right a b c = joinAnswer left right (replicate a 0) (replicate b 0) (replicate c 0)
 
 abbrev pub joining : Bytes → Bytes → Answer
-joining left right = joinAnswer left right zeros zeros zeros
+joining left right = joinAnswer left right zeroRecords zeroRecords zeroRecords
 
 -- ---- tables
 
@@ -59,11 +59,11 @@ closing = block 1 1 (toy both ∷ toy fourth ∷ []) []
 
 -- the left; `first`, `second` and `stranger` are interpreted
 unfoldable pub leftTable : Bytes
-leftTable = marked (marked (marked (tableOf (first ∷ fork ∷ third ∷ second ∷ stranger ∷ [])) 0 1) 3 1) 4 1
+leftTable = withMarkAt (withMarkAt (withMarkAt (tableOf (first ∷ fork ∷ third ∷ second ∷ stranger ∷ [])) 0 1) 3 1) 4 1
 
 -- the right; `fork`, `first` and `both` are interpreted. It has four blocks of the left, in another order
 unfoldable pub rightTable : Bytes
-rightTable = marked (marked (marked (tableOf (fork ∷ third ∷ first ∷ second ∷ both ∷ fourth ∷ closing ∷ [])) 0 1) 2 1) 4 1
+rightTable = withMarkAt (withMarkAt (withMarkAt (tableOf (fork ∷ third ∷ first ∷ second ∷ both ∷ fourth ∷ closing ∷ [])) 0 1) 2 1) 4 1
 
 -- k numbers, each one more than the one before
 unfoldable pub rising : ℕ → ℕ → List ℕ
@@ -87,19 +87,19 @@ tableFrom left right = joined left right leftRecords rightRecords thirdBuffer
 abbrev pub bufferFrom : Bytes → Bytes → List ℕ
 bufferFrom left right = copied left right leftRecords rightRecords thirdBuffer
 
-unfoldable pub result : Bytes
-result = tableFrom leftTable rightTable
+unfoldable pub joinResult : Bytes
+joinResult = tableFrom leftTable rightTable
 
 unfoldable pub resultRecords : List ℕ
 resultRecords = bufferFrom leftTable rightTable
 
 -- the result's blocks, admitted one after the other and marked; and those of the result with the sides exchanged
 unfoldable pub admittedResult : Bytes
-admittedResult = marked (marked (marked (marked (marked
+admittedResult = withMarkAt (withMarkAt (withMarkAt (withMarkAt (withMarkAt
     (tableOf (first ∷ fork ∷ third ∷ second ∷ stranger ∷ both ∷ fourth ∷ closing ∷ [])) 0 1) 1 1) 3 1) 4 1) 5 1
 
 unfoldable pub admittedExchanged : Bytes
-admittedExchanged = marked (marked (marked (marked (marked
+admittedExchanged = withMarkAt (withMarkAt (withMarkAt (withMarkAt (withMarkAt
     (tableOf (fork ∷ third ∷ first ∷ second ∷ both ∷ fourth ∷ closing ∷ stranger ∷ [])) 0 1) 2 1) 3 1) 4 1) 7 1
 
 -- the parts that the third buffer then has, place after place, and its rest; and those with the sides exchanged
@@ -126,8 +126,8 @@ exchangedParts =
     ++ drop (partStart 8) thirdBuffer)))))))
 
 -- a refusal hands back the left's table, and the third buffer stays
-abbrev pub Stays : Bytes → Bytes → List ℕ → Type 0
-Stays left right records =
+abbrev pub LeftUnchanged : Bytes → Bytes → List ℕ → Type 0
+LeftUnchanged left right records =
     (joined left right records rightRecords thirdBuffer ≡ left) × (copied left right records rightRecords thirdBuffer ≡ thirdBuffer)
 
 -- ---- two sites that calls reached: both have interpreted `first`, and each has a block that the other lacks
@@ -218,8 +218,8 @@ pub record ClashCases : Type 0 where
   -- other places, which hold the same blocks
   pub sameBlocks : joining four (tableOf (fork ∷ first ∷ third ∷ fourth ∷ [])) ≡ success 4
   -- "interpreted aside"
-  pub rightInterpreted : joining four (marked four 0 1) ≡ success 4
-  pub leftInterpreted : joining (marked four 0 1) four ≡ success 4
+  pub rightInterpreted : joining four (withMarkAt four 0 1) ≡ success 4
+  pub leftInterpreted : joining (withMarkAt four 0 1) four ≡ success 4
   -- places 1 and 2 clash; on the right the block of place 2 stands before that of place 1
   pub lowestLeft : joining four (changed (tableOf (first ∷ twin ∷ fork ∷ [])) (rowStart 2 + siteOffset) 1) ≡ refused 24 1
   -- the same fields beside another digest are another block's
@@ -240,13 +240,13 @@ pub record JoinFullCases : Type 0 where
 -- "a refusal hands back the left's table"; and the third buffer stays.
 pub record HandedBackCases : Type 0 where
   -- 2: also one that is not in form
-  pub byLeft : Stays unformed leftTable leftRecords
-  pub byRight : Stays leftTable unformed leftRecords
+  pub byLeft : LeftUnchanged unformed leftTable leftRecords
+  pub byRight : LeftUnchanged leftTable unformed leftRecords
   -- 12, 23, 24, 25
-  pub bySize : Stays leftTable rightTable []
-  pub bySetup : Stays leftTable otherOwner leftRecords
-  pub byClash : Stays four otherSite leftRecords
-  pub byFull : Stays (holding 64) (tableOf (stranger ∷ [])) leftRecords
+  pub bySize : LeftUnchanged leftTable rightTable []
+  pub bySetup : LeftUnchanged leftTable otherOwner leftRecords
+  pub byClash : LeftUnchanged four otherSite leftRecords
+  pub byFull : LeftUnchanged (holding 64) (tableOf (stranger ∷ [])) leftRecords
 
 -- "From tables and records that calls reached": the theorem's premises are met.
 pub record ReachedCases : Type 0 where
@@ -256,26 +256,26 @@ pub record ReachedCases : Type 0 where
 -- The result's table, field by field and as a whole.
 pub record ResultCases : Type 0 where
   pub answer : joinAnswer leftTable rightTable leftRecords rightRecords thirdBuffer ≡ success 8
-  pub formed : inForm result ≡ true
-  pub setup : setupOf result ≡ sites 4
-  pub count : countOf result ≡ 8
+  pub formed : inForm joinResult ≡ true
+  pub setup : setupOf joinResult ≡ sites 4
+  pub count : countOf joinResult ≡ 8
   -- "the left's places first, then the right's blocks not in the left, in their order"
   pub digests :
-      listBelow (digestAt result) 8
+      listBelow (digestAt joinResult) 8
       ≡ toy first ∷ toy fork ∷ toy third ∷ toy second ∷ toy stranger ∷ toy both ∷ toy fourth ∷ toy closing ∷ []
-  pub siteNumbers : listBelow (siteAt result) 8 ≡ 0 ∷ 0 ∷ 3 ∷ 0 ∷ 3 ∷ 1 ∷ 3 ∷ 1 ∷ []
-  pub sequences : listBelow (sequenceAt result) 8 ≡ 0 ∷ 0 ∷ 0 ∷ 1 ∷ 0 ∷ 0 ∷ 1 ∷ 1 ∷ []
-  pub requested : listBelow (requestAt result 6) slotCount ≡ 0 ∷ 0 ∷ 0 ∷ 0 ∷ 0 ∷ 772 ∷ 0 ∷ 1 ∷ []
+  pub siteNumbers : listBelow (siteAt joinResult) 8 ≡ 0 ∷ 0 ∷ 3 ∷ 0 ∷ 3 ∷ 1 ∷ 3 ∷ 1 ∷ []
+  pub sequences : listBelow (sequenceAt joinResult) 8 ≡ 0 ∷ 0 ∷ 0 ∷ 1 ∷ 0 ∷ 0 ∷ 1 ∷ 1 ∷ []
+  pub requested : listBelow (countedRequestAt joinResult 6) slotCount ≡ 0 ∷ 0 ∷ 0 ∷ 0 ∷ 0 ∷ 772 ∷ 0 ∷ 1 ∷ []
   -- "references renumbered", as masks. On the right `both` refers to places 0 and 2, `fourth` to 1 and 2, `closing` to 4 and 5; in the result to
   -- 0 and 1, to 0 and 2, to 5 and 6
   pub rightReferences : listBelow (referencesAt rightTable) 7 ≡ 0 ∷ 1 ∷ 0 ∷ 4 ∷ 5 ∷ 6 ∷ 48 ∷ []
-  pub references : listBelow (referencesAt result) 8 ≡ 0 ∷ 0 ∷ 2 ∷ 1 ∷ 0 ∷ 3 ∷ 5 ∷ 96 ∷ []
+  pub references : listBelow (referencesAt joinResult) 8 ≡ 0 ∷ 0 ∷ 2 ∷ 1 ∷ 0 ∷ 3 ∷ 5 ∷ 96 ∷ []
   -- "A block interpreted in either is interpreted in the result"
   pub leftMarks : listBelow (markAt leftTable) 5 ≡ 1 ∷ 0 ∷ 0 ∷ 1 ∷ 1 ∷ []
   pub rightMarks : listBelow (markAt rightTable) 7 ≡ 1 ∷ 0 ∷ 1 ∷ 0 ∷ 1 ∷ 0 ∷ 0 ∷ []
-  pub marks : listBelow (markAt result) 8 ≡ 1 ∷ 1 ∷ 0 ∷ 1 ∷ 1 ∷ 1 ∷ 0 ∷ 0 ∷ []
+  pub marks : listBelow (markAt joinResult) 8 ≡ 1 ∷ 1 ∷ 0 ∷ 1 ∷ 1 ∷ 1 ∷ 0 ∷ 0 ∷ []
   -- it is the table that admissions leave, with these marks
-  pub asAdmitted : result ≡ admittedResult
+  pub asAdmitted : joinResult ≡ admittedResult
   -- and so with the sides exchanged
   pub exchanged : tableFrom rightTable leftTable ≡ admittedExchanged
   -- nothing to add: an empty right, an empty left, and twice the same

@@ -27,12 +27,12 @@ namesText =
     ∷ []
 
 -- a line that fills only the first field, of one character, and the last: "x - - - - - y"
-abbrev pub ending : ℕ → ℕ → Bytes
-ending x y = x ∷ 32 ∷ 45 ∷ 32 ∷ 45 ∷ 32 ∷ 45 ∷ 32 ∷ 45 ∷ 32 ∷ 45 ∷ 32 ∷ y ∷ 10 ∷ []
+abbrev pub shortLine : ℕ → ℕ → Bytes
+shortLine x y = x ∷ 32 ∷ 45 ∷ 32 ∷ 45 ∷ 32 ∷ 45 ∷ 32 ∷ 45 ∷ 32 ∷ 45 ∷ 32 ∷ y ∷ 10 ∷ []
 
 -- n and eight owners
-abbrev pub fourSites : Bytes
-fourSites = 4 ∷ replicate 8 0
+abbrev pub fourSitesInput : Bytes
+fourSitesInput = 4 ∷ replicate 8 0
 
 -- ---- a block that delivers in two slots
 
@@ -77,12 +77,12 @@ pub record ListingCases : Type 0 where
   -- "and each refused arrival; arrivals count from 0": verdict 0, a length of 542, four bytes, and a cut one. "0 - - - - - 5", and 3 for the others
   pub refusedCounted :
       listing toy []
-      (fourSites
+      (fourSitesInput
       ++ (0 ∷ 5 ∷ 0 ∷ 0 ∷ 0 ∷ 0 ∷ 0 ∷ 0
       ∷ 2 ∷ 30 ∷ 1 ∷ (replicate 542 6
       ++ (0 ∷ 4 ∷ 1 ∷ 0 ∷ 0 ∷ 0 ∷ 0
       ∷ 0 ∷ 5 ∷ 1 ∷ 0 ∷ []))))
-      ≡ namesText ++ (ending 48 53 ++ (ending 49 51 ++ (ending 50 51 ++ ending 51 51)))
+      ≡ namesText ++ (shortLine 48 53 ++ (shortLine 49 51 ++ (shortLine 50 51 ++ shortLine 51 51)))
   -- "A setup that is short or unlawful gives, after the names, `- - - - - - 1` and the end": eight bytes; n 3
-  pub setupShort : listing toy [] (4 ∷ replicate 7 0) ≡ namesText ++ ending 45 49
-  pub setupUnlawful : listing toy [] (3 ∷ (replicate 8 0 ++ (0 ∷ 5 ∷ 1 ∷ replicate 5 0))) ≡ namesText ++ ending 45 49
+  pub setupShort : listing toy [] (4 ∷ replicate 7 0) ≡ namesText ++ shortLine 45 49
+  pub setupUnlawful : listing toy [] (3 ∷ (replicate 8 0 ++ (0 ∷ 5 ∷ 1 ∷ replicate 5 0))) ≡ namesText ++ shortLine 45 49

@@ -32,8 +32,8 @@ forkEchoing = block 0 1 (toy fork ∷ toy third ∷ []) []
 unfoldable pub turning : Bytes
 turning = block 3 1 (toy third ∷ toy (readying threeSites 1) ∷ toy (readying threeSites 2) ∷ []) []
 
-unfoldable pub turned : Bytes
-turned = block 3 2 (toy turning ∷ []) []
+unfoldable pub afterTurning : Bytes
+afterTurning = block 3 2 (toy turning ∷ []) []
 
 -- ---- the two lists of calls, with their answers
 
@@ -88,7 +88,7 @@ secondTurns =
     ∷ interpret 1 giving done
     ∷ interpret 2 giving done
     ∷ interpret 9 giving done
-    ∷ good turned giving placed 10
+    ∷ good afterTurning giving placed 10
     ∷ interpret 10 giving done
     ∷ []
 
@@ -108,7 +108,7 @@ abbrev pub secondLedger : Ledger
 secondLedger = ledgerOf toy (sites 4) secondBuffer (callsOf secondTurns)
 
 -- what it asks of two ledgers, and a delivery in each
-pub record Met (l₁ l₂ : Ledger) : Type 0 where
+pub record PremisesMet (l₁ l₂ : Ledger) : Type 0 where
   pub noCollision : NoCollision toy (l₁ .blocks ++ l₂ .blocks)
   pub fewForked : countBelow (forked (l₁ .blocks ++ l₂ .blocks)) 4 ≤ faults 4
   -- the bound is reached: site 0 forked, which the first site's blocks alone do not show
@@ -132,7 +132,7 @@ pub record PremiseCases : Type 0 where
   pub secondAnswers : siteAnswers toy (started (sites 4) secondBuffer) (callsOf secondTurns) ≡ answersOf secondTurns
   -- the premises compute
   pub lawfulSetup : lawful (sites 4) ≡ true
-  pub met : Met firstLedger secondLedger
+  pub met : PremisesMet firstLedger secondLedger
   -- and so, by the theorem, the slot has one number at both
   pub oneNumber : (v w : ℕ)
       → Delivered toy (sites 4) firstLedger 0 v ⊎ Delivered toy (sites 4) secondLedger 0 v

@@ -28,8 +28,8 @@ abbrev pub filled : List ℕ → ℕ → List ℕ
 filled numbers n = numbers ++ replicate n 0
 
 -- a record: entries 0 to 3, 4 to 19, 20 to 35, 36 to 39
-abbrev pub numbersOf : List ℕ → List ℕ → List ℕ → List ℕ → List ℕ
-numbersOf sent echoesHeard readiesHeard made = sent ++ (echoesHeard ++ (readiesHeard ++ made))
+abbrev pub numbersWritten : List ℕ → List ℕ → List ℕ → List ℕ → List ℕ
+numbersWritten sent echoesHeard readiesHeard made = sent ++ (echoesHeard ++ (readiesHeard ++ made))
 
 -- nothing heard from any of the 16 sites
 abbrev pub silence : List ℕ
@@ -38,8 +38,8 @@ silence = replicate 16 0
 -- ---- campaigns
 
 -- document 01's chain of four
-unfoldable pub chain : List Step
-chain = chained 0 making sends 7 ∷ chained 1 making echoes 7 ∷ chained 2 making readies 7 ∷ chained 3 making delivers 7 ∷ []
+unfoldable pub chainOfFour : List Step
+chainOfFour = chained 0 making sends 7 ∷ chained 1 making echoes 7 ∷ chained 2 making readies 7 ∷ chained 3 making delivers 7 ∷ []
 
 -- n 4: site 3 sends ECHO 43, and then hears ECHO 42 of three sites, its own, READY 43 of site 1 and READY 42 of site 2
 unfoldable pub hearsAll : Bytes
@@ -68,10 +68,10 @@ pub record RecordCases : Type 0 where
   pub placeNumbers : partSize ≡ 320
   pub bufferNumbers : bufferSize ≡ 20480
   -- "0 SEND sent so far, 1 ECHO sent, 2 READY sent, 3 delivered", "36 to 39 the SEND, ECHO, READY and delivery made in this block"
-  pub sendMade : Numbers (sites 1) chain 0 0 (numbersOf (7 ∷ 0 ∷ 0 ∷ 0 ∷ []) silence silence (7 ∷ 0 ∷ 0 ∷ 0 ∷ []))
-  pub echoMade : Numbers (sites 1) chain 1 0 (numbersOf (7 ∷ 7 ∷ 0 ∷ 0 ∷ []) silence silence (0 ∷ 7 ∷ 0 ∷ 0 ∷ []))
-  pub readyMade : Numbers (sites 1) chain 2 0 (numbersOf (7 ∷ 7 ∷ 7 ∷ 0 ∷ []) (filled (7 ∷ []) 15) silence (0 ∷ 0 ∷ 7 ∷ 0 ∷ []))
-  pub deliveryMade : Numbers (sites 1) chain 3 0 (numbersOf (7 ∷ 7 ∷ 7 ∷ 7 ∷ []) (filled (7 ∷ []) 15) (filled (7 ∷ []) 15) (0 ∷ 0 ∷ 0 ∷ 7 ∷ []))
+  pub sendMade : Numbers (sites 1) chainOfFour 0 0 (numbersWritten (7 ∷ 0 ∷ 0 ∷ 0 ∷ []) silence silence (7 ∷ 0 ∷ 0 ∷ 0 ∷ []))
+  pub echoMade : Numbers (sites 1) chainOfFour 1 0 (numbersWritten (7 ∷ 7 ∷ 0 ∷ 0 ∷ []) silence silence (0 ∷ 7 ∷ 0 ∷ 0 ∷ []))
+  pub readyMade : Numbers (sites 1) chainOfFour 2 0 (numbersWritten (7 ∷ 7 ∷ 7 ∷ 0 ∷ []) (filled (7 ∷ []) 15) silence (0 ∷ 0 ∷ 7 ∷ 0 ∷ []))
+  pub deliveryMade : Numbers (sites 1) chainOfFour 3 0 (numbersWritten (7 ∷ 7 ∷ 7 ∷ 7 ∷ []) (filled (7 ∷ []) 15) (filled (7 ∷ []) 15) (0 ∷ 0 ∷ 0 ∷ 7 ∷ []))
   -- "4 to 19 ECHO heard from each site, 20 to 35 READY heard from each site"
   pub heardFromEach : Numbers (sites 4) mixed 11 0
       (0 ∷ 43 ∷ 42 ∷ 0
@@ -80,5 +80,5 @@ pub record RecordCases : Type 0 where
       ∷ 0 ∷ 0 ∷ 42 ∷ 0
       ∷ [])
   -- "place after place, slot after slot"
-  pub slotFive : Numbers sharedOut inSlotFive 1 5 (numbersOf (45 ∷ 0 ∷ 0 ∷ 0 ∷ []) silence silence (45 ∷ 0 ∷ 0 ∷ 0 ∷ []))
+  pub slotFive : Numbers sharedOut inSlotFive 1 5 (numbersWritten (45 ∷ 0 ∷ 0 ∷ 0 ∷ []) silence silence (45 ∷ 0 ∷ 0 ∷ 0 ∷ []))
   pub slotOne : Numbers sharedOut inSlotFive 1 1 (replicate 40 0)

@@ -7,7 +7,7 @@ use Prim.Native.Nat.{ℕ, zero, suc, _-_}
 use lib.Dec.{eqb}
 use lib.ListN.{length, drop, replicate}
 use Rattle.base.specs.Bytes.{Bytes}
-use Rattle.base.specs.List.{listBelow, passing}
+use Rattle.base.specs.List.{listBelow, passingBelow}
 use Rattle.answer.specs.Checks.{refused}
 use Rattle.broadcast.specs.declared.Sent.{Sent}
 use Rattle.broadcast.specs.Record.{none}
@@ -28,7 +28,7 @@ use Rattle.run.specs.Promises.{InterpretedBlock}
 use Rattle.cases.specs.Toy.{toy, request, block}
 use Rattle.cases.specs.Run.{good, placed, done, answers, Turn, _giving_, ledgerLeft, siteLeft, Session, Step, _making_, sends, echoes, readies, delivers, arriving}
 use Rattle.cases.specs.Blocks.{sites, fresh, unlawful, first, fork, second, fourSites, echoing, four}
-use Rattle.cases.specs.Form.{marked}
+use Rattle.cases.specs.Form.{withMarkAt}
 use Rattle.cases.specs.Interpretation.{lent}
 use Rattle.cases.specs.Watch.{naming, resting}
 use Rattle.cases.specs.Arrivals.{tableOf}
@@ -47,7 +47,7 @@ pub record RetiringOrderCases : Type 0 where
   pub formBeforePlace : (answers toy unlawful (retire ∷ []) ≡ refused 2 0 ∷ []) × (answers toy fresh (retire ∷ []) ≡ refused 13 0 ∷ [])
   -- 2, 29
   pub formBeforeRetirable :
-      (answers toy (marked four 0 2) (retire ∷ []) ≡ refused 2 0 ∷ []) × (answers toy four (retire ∷ []) ≡ refused 29 0 ∷ [])
+      (answers toy (withMarkAt four 0 2) (retire ∷ []) ≡ refused 2 0 ∷ []) × (answers toy four (retire ∷ []) ≡ refused 29 0 ∷ [])
   -- 12, 13
   pub sizeBeforePlace :
       (siteAnswers toy (lent fresh (bufferSize - 1)) (retire ∷ []) ≡ refused 12 0 ∷ [])
@@ -116,7 +116,7 @@ lastOne = block 0 2 (toy second ∷ toy (echoing 2) ∷ []) []
 
 -- `second` and site 2's block refer to the first, and all three are interpreted; the last one is not
 unfoldable pub threeMarked : Bytes
-threeMarked = marked (marked (marked (tableOf (first ∷ second ∷ echoing 2 ∷ lastOne ∷ [])) 0 1) 1 1) 2 1
+threeMarked = withMarkAt (withMarkAt (withMarkAt (tableOf (first ∷ second ∷ echoing 2 ∷ lastOne ∷ [])) 0 1) 1 1) 2 1
 
 -- what stays: two rows that refer to nothing any more, and one that refers to both, now places 0 and 1
 unfoldable pub pairOf : ℕ → Bytes
@@ -128,30 +128,30 @@ rowsLeft zero = markedIf true (rowFor toy nothing second)
 rowsLeft (suc zero) = markedIf true (rowFor toy nothing (echoing 2))
 rowsLeft (suc (suc i)) = rowFor toy (record { retired = 0; held = 2; row = λ j. rowFor toy nothing (pairOf j) }) lastOne
 
-unfoldable pub numbers : List ℕ
-numbers = rising 0 bufferSize
+unfoldable pub risingNumbers : List ℕ
+risingNumbers = rising 0 bufferSize
 
 -- the fork first, then its twin, and the block after the fork: all are interpreted
 unfoldable pub twins : Bytes
-twins = marked (marked (marked (tableOf (fork ∷ first ∷ afterFork ∷ [])) 0 1) 1 1) 2 1
+twins = withMarkAt (withMarkAt (withMarkAt (tableOf (fork ∷ first ∷ afterFork ∷ [])) 0 1) 1 1) 2 1
 
-pub record LeftCases : Type 0 where
+pub record RetiringLeftCases : Type 0 where
   -- "Retire place 0 and move every other place .. down by one", every byte of the table
-  pub table : retiredTable threeMarked numbers ≡ layout (sites 4) (record { retired = 1; held = 3; row = rowsLeft })
+  pub table : retiredTable threeMarked risingNumbers ≡ layout (sites 4) (record { retired = 1; held = 3; row = rowsLeft })
   -- ".. and record"; "the buffer from the new count on stays"
-  pub records : retiredRecords threeMarked numbers ≡ partOf numbers 1 ++ (partOf numbers 2 ++ (partOf numbers 3 ++ drop (partStart 3) numbers))
+  pub records : retiredRecords threeMarked risingNumbers ≡ partOf risingNumbers 1 ++ (partOf risingNumbers 2 ++ (partOf risingNumbers 3 ++ drop (partStart 3) risingNumbers))
   -- a refusal changes nothing
-  pub refusedTable : retiredTable four numbers ≡ four
-  pub refusedRecords : retiredRecords four numbers ≡ numbers
+  pub refusedTable : retiredTable four risingNumbers ≡ four
+  pub refusedRecords : retiredRecords four risingNumbers ≡ risingNumbers
   -- the watch names a fork as long as both blocks are held
   pub named : forks twins ≡ naming 1 1 true
-  pub notNamed : forks (retiredTable twins numbers) ≡ naming 0 0 true
+  pub notNamed : forks (retiredTable twins risingNumbers) ≡ naming 0 0 true
   -- and an ancestor as long as it is held: of the last one, all three others, and then the two that are left
   pub threeAncestors : ancestors threeMarked 3 ≡ resting 7 3
-  pub twoAncestors : ancestors (retiredTable threeMarked numbers) 2 ≡ resting 3 2
+  pub twoAncestors : ancestors (retiredTable threeMarked risingNumbers) 2 ≡ resting 3 2
   -- site 2, whose block refers to the first, refers to it once more if it is admitted again
   pub referredBefore : nextBlock everywhere (viewOf threeMarked) 2 [] ≡ block 2 1 (map toy (echoing 2 ∷ second ∷ lastOne ∷ [])) []
-  pub referredAgain : nextBlock everywhere (viewOf (admitted toy (retiredTable threeMarked numbers) first 1)) 2 []
+  pub referredAgain : nextBlock everywhere (viewOf (admitted toy (retiredTable threeMarked risingNumbers) first 1)) 2 []
       ≡ block 2 1 (map toy (echoing 2 ∷ second ∷ lastOne ∷ first ∷ [])) []
 
 -- ---- afterwards
@@ -208,7 +208,7 @@ pub record ForkRetiredCases : Type 0 where
 unfoldable pub inRound : ℕ → ℕ → Bytes
 inRound zero zero = block 0 0 [] (request 0 42 ∷ [])
 inRound zero (suc p) = block (suc p) 0 [] []
-inRound (suc r) p = block p (suc r) (map (λ q. toy (inRound r q)) (p ∷ passing (λ q. not (eqb q p)) 4)) []
+inRound (suc r) p = block p (suc r) (map (λ q. toy (inRound r q)) (p ∷ passingBelow (λ q. not (eqb q p)) 4)) []
 
 -- what the blocks of a round make of the first one's request
 unfoldable pub makes : ℕ → ℕ → Sent
@@ -226,17 +226,17 @@ abbrev pub fourRetirings : List Turn
 fourRetirings = replicate 4 (retire giving done)
 
 -- round 0, then each further round at places 4 to 7, after which the four lower ones are retired
-unfoldable pub rounds : ℕ → List Turn
-rounds zero = arriving 0 (roundOf 0)
-rounds (suc r) = rounds r ++ (arriving 4 (roundOf (suc r)) ++ fourRetirings)
+unfoldable pub roundTurns : ℕ → List Turn
+roundTurns zero = arriving 0 (roundOf 0)
+roundTurns (suc r) = roundTurns r ++ (arriving 4 (roundOf (suc r)) ++ fourRetirings)
 
 pub record GoingOnCases : Type 0 where
   -- every call passes
-  pub taken : Session (sites 4) (rounds 4)
+  pub taken : Session (sites 4) (roundTurns 4)
   -- four blocks are held, all of the last round, and sixteen were retired
-  pub held : ledgerLeft (sites 4) (rounds 4) .held ≡ 4
-  pub retiredCount : length (ledgerLeft (sites 4) (rounds 4) .retired) ≡ 16
+  pub held : ledgerLeft (sites 4) (roundTurns 4) .held ≡ 4
+  pub retiredCount : length (ledgerLeft (sites 4) (roundTurns 4) .retired) ≡ 16
   -- the number is still shown at each place, though all blocks are retired that brought it about
-  pub stillDelivered : listBelow (λ i. recordIn (siteLeft (sites 4) (rounds 4) .records) i 0 .sent .delivered) 4 ≡ 42 ∷ 42 ∷ 42 ∷ 42 ∷ []
+  pub stillDelivered : listBelow (λ i. recordIn (siteLeft (sites 4) (roundTurns 4) .records) i 0 .sent .delivered) 4 ≡ 42 ∷ 42 ∷ 42 ∷ 42 ∷ []
   -- and in the round of the delivery, the twelve blocks before it being retired but four, each block makes it
-  pub delivering : listBelow (λ i. recordIn (siteLeft (sites 4) (rounds 3) .records) i 0 .made) 4 ≡ replicate 4 (delivers 42)
+  pub delivering : listBelow (λ i. recordIn (siteLeft (sites 4) (roundTurns 3) .records) i 0 .made) 4 ≡ replicate 4 (delivers 42)

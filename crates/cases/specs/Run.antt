@@ -39,12 +39,12 @@ done = success 0
 -- ---- runs
 
 -- a record buffer of zeros
-abbrev pub zeros : List ℕ
-zeros = replicate bufferSize 0
+abbrev pub zeroRecords : List ℕ
+zeroRecords = replicate bufferSize 0
 
 -- a table, with such a buffer
 abbrev pub at : Bytes → Site
-at t = record { table = t; records = zeros }
+at t = record { table = t; records = zeroRecords }
 
 module _ (digest : Bytes → Bytes) where
   -- the table that a run leaves
@@ -73,10 +73,10 @@ answersOf turns = map (λ t. t .answer) turns
 
 -- what the calls leave in a ledger, and at a site of this setup
 abbrev pub ledgerLeft : Setup → List Turn → Ledger
-ledgerLeft s turns = ledgerOf toy s zeros (callsOf turns)
+ledgerLeft s turns = ledgerOf toy s zeroRecords (callsOf turns)
 
 abbrev pub siteLeft : Setup → List Turn → Site
-siteLeft s turns = siteWith toy s zeros (callsOf turns)
+siteLeft s turns = siteWith toy s zeroRecords (callsOf turns)
 
 -- at a site of this setup each call gets its answer
 pub record Session (s : Setup) (turns : List Turn) : Type 0 where

@@ -8,7 +8,7 @@ use Rattle.base.specs.Bytes.{Bytes, splice}
 use Rattle.base.specs.List.{listBelow}
 use Rattle.shelf.specs.Layout.{maxWaiting, Waiting, entryHeader, entrySize, entryStart, shelfSize, waitingIn, entryBytes, shelfBytes}
 use Rattle.shelf.specs.Rules.{campaignCount, maxCampaign, reserved, maxShare, hasPlace, waits, rulesHold}
-use Rattle.shelf.specs.Form.{inForm, emptyShelf}
+use Rattle.shelf.specs.Form.{shelfInForm, emptyShelf}
 use Rattle.campaigns.specs.Arriving.{outcomesSize}
 use Rattle.cases.specs.Toy.{toy, request, block}
 use Rattle.cases.specs.Blocks.{first, stranger, numbered}
@@ -22,8 +22,8 @@ abbrev pub _for_ : Bytes → ℕ → Waiting
 b for c = record { campaign = c; block = b }
 
 -- blocks of site 2 that refer to one that never arrives, and differ in the number requested
-unfoldable pub lacking : ℕ → Bytes
-lacking i = block 2 0 (toy stranger ∷ []) (request 0 (i + 1) ∷ [])
+unfoldable pub lackingReference : ℕ → Bytes
+lackingReference i = block 2 0 (toy stranger ∷ []) (request 0 (i + 1) ∷ [])
 
 -- 16 references and 8 requests: 541 bytes
 unfoldable pub longest : Bytes
@@ -32,14 +32,14 @@ longest = block 2 0 (listBelow (λ i. toy (numbered i)) 16) (listBelow (λ i. re
 -- so many of those blocks wait for each campaign, 0 to 3
 unfoldable pub sharing : ℕ → ℕ → ℕ → ℕ → List Waiting
 sharing k₀ k₁ k₂ k₃ =
-    listBelow (λ i. lacking i for 0) k₀
-    ++ (listBelow (λ i. lacking i for 1) k₁
-    ++ (listBelow (λ i. lacking i for 2) k₂
-    ++ listBelow (λ i. lacking i for 3) k₃))
+    listBelow (λ i. lackingReference i for 0) k₀
+    ++ (listBelow (λ i. lackingReference i for 1) k₁
+    ++ (listBelow (λ i. lackingReference i for 2) k₂
+    ++ listBelow (λ i. lackingReference i for 3) k₃))
 
 -- the same bytes for campaigns 0 and 3, and the longest block for campaign 0
 unfoldable pub threeWaiting : List Waiting
-threeWaiting = lacking 0 for 0 ∷ lacking 0 for 3 ∷ longest for 0 ∷ []
+threeWaiting = lackingReference 0 for 0 ∷ lackingReference 0 for 3 ∷ longest for 0 ∷ []
 
 unfoldable pub ofThree : Bytes
 ofThree = shelfBytes threeWaiting
@@ -115,9 +115,9 @@ pub record PlaceCases : Type 0 where
 
 -- "its bytes already wait for that campaign"
 pub record SameBytesCases : Type 0 where
-  pub theyWait : waits 0 (lacking 1) (sharing 2 1 0 0) ≡ true
-  pub forAnother : waits 1 (lacking 1) (sharing 2 1 0 0) ≡ false
-  pub otherBytes : waits 0 (lacking 2) (sharing 2 1 0 0) ≡ false
+  pub theyWait : waits 0 (lackingReference 1) (sharing 2 1 0 0) ≡ true
+  pub forAnother : waits 1 (lackingReference 1) (sharing 2 1 0 0) ≡ false
+  pub otherBytes : waits 0 (lackingReference 2) (sharing 2 1 0 0) ≡ false
   -- one is the beginning of the other
   pub longerOne : waits 0 first ((first ++ (0 ∷ [])) for 0 ∷ []) ≡ false
   pub shorterOne : waits 0 (first ++ (0 ∷ [])) (first for 0 ∷ []) ≡ false
@@ -130,49 +130,49 @@ pub record ShelfBytesCases : Type 0 where
   pub highLength : entryBytes (longest for 2) ≡ 2 ∷ 2 ∷ 29 ∷ longest
   -- the count, the entries in the order of arrival, and zeros
   pub entriesInOrder :
-      ofThree ≡ 3 ∷ (entryBytes (lacking 0 for 0) ++ (entryBytes (lacking 0 for 3) ++ (entryBytes (longest for 0) ++ replicate (13 * 544) 0)))
+      ofThree ≡ 3 ∷ (entryBytes (lackingReference 0 for 0) ++ (entryBytes (lackingReference 0 for 3) ++ (entryBytes (longest for 0) ++ replicate (13 * 544) 0)))
   pub nothingWaits : shelfBytes [] ≡ emptyShelf
   -- what the bytes show
   pub shown : waitingIn ofThree ≡ threeWaiting
 
 -- "The shelf is in form if ..": each condition broken alone where that can be, in the bytes of the shelf of three or in what waits.
 pub record ShelfFormCases : Type 0 where
-  pub shelfFormed : inForm ofThree ≡ true
-  pub emptyFormed : inForm emptyShelf ≡ true
+  pub shelfFormed : shelfInForm ofThree ≡ true
+  pub emptyFormed : shelfInForm emptyShelf ≡ true
   -- the buffer's length
-  pub shelfShorter : inForm (take (shelfSize - 1) ofThree) ≡ false
-  pub shelfLonger : inForm (ofThree ++ (0 ∷ [])) ≡ false
-  pub noBytes : inForm [] ≡ false
+  pub shelfShorter : shelfInForm (take (shelfSize - 1) ofThree) ≡ false
+  pub shelfLonger : shelfInForm (ofThree ++ (0 ∷ [])) ≡ false
+  pub noBytes : shelfInForm [] ≡ false
   -- "16 places": all are taken, and one block more waits; a count of 17
   pub sixteenWait : rulesHold (sharing 10 2 2 2) ≡ true
   pub seventeenWait : rulesHold (sharing 10 3 2 2) ≡ false
-  pub countSeventeen : inForm (changed (shelfBytes (sharing 10 2 2 2)) 0 17) ≡ false
+  pub countSeventeen : shelfInForm (changed (shelfBytes (sharing 10 2 2 2)) 0 17) ≡ false
   -- a count of one more than wait, and of one fewer
-  pub countMore : inForm (changed ofThree 0 4) ≡ false
-  pub countLess : inForm (changed ofThree 0 2) ≡ false
+  pub countMore : shelfInForm (changed ofThree 0 4) ≡ false
+  pub countLess : shelfInForm (changed ofThree 0 2) ≡ false
   -- "for a campaign up to 3"
   pub campaignThree : rulesHold (first for 3 ∷ []) ≡ true
   pub campaignFour : rulesHold (first for 4 ∷ []) ≡ false
-  pub byteFour : inForm (changed ofThree (entryStart 1) 4) ≡ false
+  pub byteFour : shelfInForm (changed ofThree (entryStart 1) 4) ≡ false
   -- "one that the reader accepts": the first block has a request of slot 7; of slot 8, which is the reader's 6
-  pub readable : inForm (changed ofThree (entryStart 0 + entryHeader + 37) 7) ≡ true
-  pub unreadable : inForm (changed ofThree (entryStart 0 + entryHeader + 37) 8) ≡ false
+  pub readable : shelfInForm (changed ofThree (entryStart 0 + entryHeader + 37) 7) ≡ true
+  pub unreadable : shelfInForm (changed ofThree (entryStart 0 + entryHeader + 37) 8) ≡ false
   -- the reader's 3 and 7: one byte less; a repeated reference
   pub misshapen : rulesHold (take 7 first for 0 ∷ []) ≡ false
   pub repeatedReference : rulesHold (block 2 0 (toy first ∷ toy first ∷ []) [] for 0 ∷ []) ≡ false
   -- a length over 541
-  pub lengthOver : inForm (splice ofThree (entryStart 2 + 1) (2 ∷ 30 ∷ [])) ≡ false
+  pub lengthOver : shelfInForm (splice ofThree (entryStart 2 + 1) (2 ∷ 30 ∷ [])) ≡ false
   -- a byte behind a block that is not 0: the first, and the last of its entry
-  pub firstBehindBlock : inForm (changed ofThree (entryStart 0 + entryHeader + 40) 1) ≡ false
-  pub lastBehindBlock : inForm (changed ofThree (entryStart 1 - 1) 1) ≡ false
+  pub firstBehindBlock : shelfInForm (changed ofThree (entryStart 0 + entryHeader + 40) 1) ≡ false
+  pub lastBehindBlock : shelfInForm (changed ofThree (entryStart 1 - 1) 1) ≡ false
   -- a byte behind the last entry that is not 0: the first, and the last of the shelf
-  pub firstBehindEntries : inForm (changed ofThree (entryStart 3) 1) ≡ false
-  pub lastBehindEntries : inForm (changed ofThree (shelfSize - 1) 1) ≡ false
+  pub firstBehindEntries : shelfInForm (changed ofThree (entryStart 3) 1) ≡ false
+  pub lastBehindEntries : shelfInForm (changed ofThree (shelfSize - 1) 1) ≡ false
   -- "no campaign has the same bytes waiting twice": the second block, for campaign 3 in the shelf of three, is for campaign 2, and for campaign 0
-  pub sameForAnother : inForm (changed ofThree (entryStart 1) 2) ≡ true
-  pub sameTwice : inForm (changed ofThree (entryStart 1) 0) ≡ false
+  pub sameForAnother : shelfInForm (changed ofThree (entryStart 1) 2) ≡ true
+  pub sameTwice : shelfInForm (changed ofThree (entryStart 1) 0) ≡ false
   -- the same where others stand between
-  pub sameTwiceApart : rulesHold (lacking 0 for 1 ∷ lacking 1 for 1 ∷ lacking 0 for 2 ∷ lacking 0 for 1 ∷ []) ≡ false
+  pub sameTwiceApart : rulesHold (lackingReference 0 for 1 ∷ lackingReference 1 for 1 ∷ lackingReference 0 for 2 ∷ lackingReference 0 for 1 ∷ []) ≡ false
   -- "or holds more than 10 places"
   pub tenHeld : rulesHold (sharing 2 10 2 2) ≡ true
   pub elevenHeld : rulesHold (sharing 0 11 0 0) ≡ false

@@ -17,8 +17,8 @@ sevenOwners = record { sites = 7; owners = 6 ∷ 5 ∷ 4 ∷ 3 ∷ 2 ∷ 1 ∷ 0
 
 -- the row of a place: it refers to places 1, 8 and 63, and requests another number in each slot. No table in form has such a row, and form is not
 -- asked here
-abbrev pub rowOf : ℕ → Row
-rowOf i =
+abbrev pub writtenRow : ℕ → Row
+writtenRow i =
     record {
       digest = listBelow (λ k. 100 + k) 32;
       site = 5 + i;
@@ -44,5 +44,5 @@ pub record TableBytesCases : Type 0 where
   pub tableLength : tableSize ≡ 3851
   -- n, the owners, whether something has been retired, the count, the rows, and zeros
   pub tableWritten :
-      layout sevenOwners (record { retired = 1; held = 2; row = rowOf })
+      layout sevenOwners (record { retired = 1; held = 2; row = writtenRow })
       ≡ 7 ∷ 6 ∷ 5 ∷ 4 ∷ 3 ∷ 2 ∷ 1 ∷ 0 ∷ 6 ∷ 1 ∷ 2 ∷ (rowWritten 5 0 ++ (rowWritten 6 1 ++ replicate 3720 0))

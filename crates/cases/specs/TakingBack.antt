@@ -19,17 +19,17 @@ use Rattle.run.specs.Ledger.Call.{interpret, takeBack}
 use Rattle.cases.specs.Toy.{toy, block}
 use Rattle.cases.specs.Run.{good, placed, done, tableAfter, answers, Turn, _giving_, ledgerLeft, siteLeft, Session, echoes}
 use Rattle.cases.specs.Blocks.{sites, fresh, unlawful, first, fork, second, third, echoing, four, holding}
-use Rattle.cases.specs.Form.{marked, retiredSome}
+use Rattle.cases.specs.Form.{withMarkAt, retiredSome}
 use Rattle.cases.specs.Starred.{chained}
 use Rattle.cases.specs.Watch.{naming}
-use Rattle.cases.specs.Arrivals.{tableOf, chain, arrives, mixture}
+use Rattle.cases.specs.Arrivals.{tableOf, chainBlock, arrives, mixture}
 use Rattle.cases.specs.Retiring.{forkRetired}
 
 -- ---- the order of the checks
 
 -- `four` with all places interpreted
 unfoldable pub fourMarked : Bytes
-fourMarked = marked (marked (marked (marked four 0 1) 1 1) 2 1) 3 1
+fourMarked = withMarkAt (withMarkAt (withMarkAt (withMarkAt four 0 1) 1 1) 2 1) 3 1
 
 -- k places, with every row marked, those from the count on too
 abbrev pub markedView : ℕ → View
@@ -42,7 +42,7 @@ pub record TakingBackOrderCases : Type 0 where
   pub formBeforeHeld : (answers toy unlawful (takeBack ∷ []) ≡ refused 2 0 ∷ []) × (answers toy fresh (takeBack ∷ []) ≡ refused 32 0 ∷ [])
   -- 2, 33: the last place is interpreted, what it refers to is not, and then is
   pub formBeforeInterpreted :
-      (answers toy (marked four 3 1) (takeBack ∷ []) ≡ refused 2 0 ∷ []) × (answers toy fourMarked (takeBack ∷ []) ≡ refused 33 0 ∷ [])
+      (answers toy (withMarkAt four 3 1) (takeBack ∷ []) ≡ refused 2 0 ∷ []) × (answers toy fourMarked (takeBack ∷ []) ≡ refused 33 0 ∷ [])
   -- 32, 33: of no table in form can both be said, so this row is about the checks
   pub heldBeforeInterpreted :
       (answerTo (takingBackChecks true (markedView 0)) 0 ≡ refused 32 0) × (answerTo (takingBackChecks true (markedView 1)) 0 ≡ refused 33 0)
@@ -69,7 +69,7 @@ pub record BeforeCases : Type 0 where
   -- "straight after an admission that is the table before it"
   pub undone : takenBack three ≡ twinsHeld
   -- with what is interpreted below, and whether something has been retired, as it was
-  pub marksStay : takenBack (marked (marked three 0 1) 1 1) ≡ marked (marked twinsHeld 0 1) 1 1
+  pub marksStay : takenBack (withMarkAt (withMarkAt three 0 1) 1 1) ≡ withMarkAt (withMarkAt twinsHeld 0 1) 1 1
   pub retiredStays : takenBack (retiredSome three) ≡ retiredSome twinsHeld
   -- of 64 places 63 are left
   pub fullTable : takenBack (holding 64) ≡ holding 63
@@ -77,8 +77,8 @@ pub record BeforeCases : Type 0 where
   pub downToEmpty : tableAfter toy three (replicate 3 takeBack) ≡ fresh
   pub noFurther : answers toy three (replicate 4 takeBack) ≡ done ∷ done ∷ done ∷ refused 32 0 ∷ []
   -- the last place decides, whatever else is interpreted
-  pub lastAlone : answers toy (marked twinsHeld 1 1) (takeBack ∷ []) ≡ refused 33 0 ∷ []
-  pub anotherAlone : answers toy (marked twinsHeld 0 1) (takeBack ∷ []) ≡ done ∷ []
+  pub lastAlone : answers toy (withMarkAt twinsHeld 1 1) (takeBack ∷ []) ≡ refused 33 0 ∷ []
+  pub anotherAlone : answers toy (withMarkAt twinsHeld 0 1) (takeBack ∷ []) ≡ done ∷ []
   -- a refusal changes nothing
   pub refusedTable : takenBack fourMarked ≡ fourMarked
   -- the watch names a fork as long as both blocks are held
@@ -88,8 +88,8 @@ pub record BeforeCases : Type 0 where
 -- "each block let in from the shelf being an admission of its own": the chain's first block arrives and lets two in, which are taken back one by
 -- one, and then it is itself
 pub record LetInCases : Type 0 where
-  pub letIn : arrives fresh mixture 0 (chained 0) 1 .table ≡ chain 3
-  pub oneByOne : (takenBack (chain 3) ≡ chain 2) × ((takenBack (chain 2) ≡ chain 1) × (takenBack (chain 1) ≡ fresh))
+  pub letIn : arrives fresh mixture 0 (chained 0) 1 .table ≡ chainBlock 3
+  pub oneByOne : (takenBack (chainBlock 3) ≡ chainBlock 2) × ((takenBack (chainBlock 2) ≡ chainBlock 1) × (takenBack (chainBlock 1) ≡ fresh))
 
 -- ---- afterwards
 

@@ -13,7 +13,7 @@ use Rattle.watch.specs.declared.ForkedSites.{ForkedSites}
 use Rattle.watch.specs.declared.AncestorPlaces.{AncestorPlaces}
 use Rattle.cases.specs.Toy.{toy}
 use Rattle.cases.specs.Blocks.{sites, fresh, unlawful, numbered, four}
-use Rattle.cases.specs.Form.{changed, referring, marked}
+use Rattle.cases.specs.Form.{changed, referring, withMarkAt}
 
 -- a mask of sites, how many they are, and whether that is at most f
 abbrev pub naming : ℕ → ℕ → Bool → ForkedSites
@@ -42,7 +42,7 @@ pub record WatchCases : Type 0 where
   pub one : forks four ≡ naming 1 1 true
   pub two : forks (changed four (rowStart 3 + sequenceOffset + 1) 0) ≡ naming 9 2 false
   -- interpreted or not
-  pub interpretedToo : forks (marked (marked four 0 1) 1 1) ≡ naming 1 1 true
+  pub interpretedToo : forks (withMarkAt (withMarkAt four 0 1) 1 1) ≡ naming 1 1 true
   -- one sequence number of two sites, and two of one site
   pub otherSite : forks (changed four (rowStart 1 + siteOffset) 1) ≡ naming 0 0 true
   pub otherSequence : forks (changed (referring four 1 1) (rowStart 1 + sequenceOffset + 1) 1) ≡ naming 0 0 true

@@ -1,6 +1,12 @@
--- A run of all campaigns, seen by one of them: an arrival of it alone, one call, and every list of calls. Then an arrival that is taken back.
+-- A run of all campaigns, seen by one of them.
+
+-- an arrival, seen by its campaign alone
 pub mod OwnArrival
+-- one call
 pub mod Steps
+-- every list of calls
 pub mod Runs
+-- an arrival that is taken back
 pub mod Undoing
+-- the promises, with SHA-256
 pub mod Promises

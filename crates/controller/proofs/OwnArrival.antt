@@ -14,7 +14,7 @@ use Rattle.answer.specs.declared.Answer.{Answer}
 use Rattle.shelf.specs.Layout.{Waiting}
 use Rattle.shelf.specs.Rules.{isFor, waits}
 use Rattle.admission.specs.Admission.{admission, admitted}
-use Rattle.campaigns.specs.Arriving.{Arrived, behind, shelved, withPasses, arrived}
+use Rattle.campaigns.specs.Arriving.{Arrived, waitingLast, shelved, withPasses, arrived}
 use Rattle.campaigns.specs.Promises.{only}
 use Rattle.campaigns.proofs.OwnPasses.{waits-only, settled-only}
 
@@ -22,7 +22,7 @@ use Rattle.campaigns.proofs.OwnPasses.{waits-only, settled-only}
 abbrev pub seenBy : ℕ → Arrived → Arrived
 seenBy c r = record { answer = r .answer; table = r .table; waiting = only c (r .waiting); tries = r .tries }
 
-only-behind : (c : ℕ) (b : Bytes) (ws : List Waiting) → only c (behind ws c b) ≡ behind (only c ws) c b
+only-behind : (c : ℕ) (b : Bytes) (ws : List Waiting) → only c (waitingLast ws c b) ≡ waitingLast (only c ws) c b
 unfolding thoseIn
 only-behind c b ws = those-append (isFor c) ws (record { campaign = c; block = b } ∷ []) ∙ rw (eq-eqb c c refl)
 

@@ -13,10 +13,10 @@ use Rattle.setup.specs.Setup.{Setup, lawful}
 use Rattle.block.specs.Limits.{referenceSize}
 use Rattle.shelf.specs.Layout.{Waiting, waitingIn}
 use Rattle.shelf.specs.Rules.{maxCampaign}
-use Rattle.shelf.specs.Form.{inForm, emptyShelf}
+use Rattle.shelf.specs.Form.{shelfInForm, emptyShelf}
 use Rattle.shelf.proofs.InForm.{of-ruled, formed-bytes}
 use Rattle.shelf.proofs.Rules.{ruled-empty}
-use Rattle.shelf.proofs.Layout.{empty-laid, waiting-laid}
+use Rattle.shelf.proofs.ShelfLayout.{empty-laid, waiting-laid}
 use Rattle.campaigns.specs.Promises.{only, timesWaiting}
 use Rattle.run.specs.Run.{started}
 use Rattle.run.specs.Promises.{siteWith}
@@ -29,8 +29,8 @@ use Rattle.controller.proofs.Undoing.{arrival-undone}
 
 -- ---- the empty shelf
 
-empty-formed : inForm emptyShelf ≡ true
-empty-formed = ap inForm empty-laid ∙ formed-bytes [] tt (of-ruled [] ruled-empty)
+empty-formed : shelfInForm emptyShelf ≡ true
+empty-formed = ap shelfInForm empty-laid ∙ formed-bytes [] tt (of-ruled [] ruled-empty)
 
 empty-waiting : waitingIn emptyShelf ≡ []
 empty-waiting = ap waitingIn empty-laid ∙ waiting-laid [] (omega arith) tt

@@ -15,13 +15,13 @@ use Rattle.base.proofs.Selection.{count-in-append}
 use Rattle.block.specs.Limits.{referenceSize}
 use Rattle.shelf.specs.Layout.{Waiting, waitingIn}
 use Rattle.shelf.specs.Rules.{maxCampaign}
-use Rattle.shelf.specs.Form.{inForm}
+use Rattle.shelf.specs.Form.{shelfInForm}
 use Rattle.campaigns.specs.Passes.{outcomesOf}
 use Rattle.campaigns.specs.Promises.{only, timesWaiting, isEnd, timesEnded}
 use Rattle.campaigns.proofs.Tries.{outcomes-append}
 use Rattle.run.specs.Run.{Site, siteAfter}
 use Rattle.run.proofs.Runs.{after-append}
-use Rattle.controller.specs.Run.{CampaignCall, arrives, made, ControllerCall, Reply, Controller, Alone, replyTo, step, after, eachOwn, replies, outcomes, triesBy, tries, isTaken, takenBy, taken, plainBy, plainRun, ownRun, aloneStep, aloneAfter, aloneReplies}
+use Rattle.controller.specs.Run.{CampaignCall, arrives, made, ControllerCall, Reply, Controller, Alone, replyTo, step, after, eachOwn, replies, outcomes, triesBy, tries, isTaken, takenBy, shelvedBlocks, plainBy, plainRun, ownRun, aloneStep, aloneAfter, aloneReplies}
 use Rattle.controller.proofs.Steps.{step-formed, other-site, other-waiting, other-times, own-accounted, own-plain, own-reply, own-view}
 
 module _ (digest : Bytes → Bytes) (sized : (b : Bytes) → length (digest b) ≡ referenceSize) where
@@ -29,7 +29,7 @@ module _ (digest : Bytes → Bytes) (sized : (b : Bytes) → length (digest b) �
   abbrev next : Controller → ControllerCall → Controller
   next x k = step digest x (k .campaign) (k .call)
 
-  pub run-formed : (ks : List ControllerCall) (x : Controller) → inForm (x .shelf) ≡ true → inForm (after digest x ks .shelf) ≡ true
+  pub run-formed : (ks : List ControllerCall) (x : Controller) → shelfInForm (x .shelf) ≡ true → shelfInForm (after digest x ks .shelf) ≡ true
   unfolding after
   run-formed [] x f = f
   run-formed (k ∷ ks) x f = run-formed ks (next x k) (step-formed digest sized x f (k .campaign) (k .call))
@@ -41,9 +41,9 @@ module _ (digest : Bytes → Bytes) (sized : (b : Bytes) → length (digest b) �
     -- what a fact says of a list it says of the first call, of the campaign's own or another's, and of the rest
     module _ (P : Controller → List ControllerCall → Type 0)
         (none : (x : Controller) → P x [])
-        (own : (x : Controller) (k : ControllerCall) (ks : List ControllerCall) → inForm (x .shelf) ≡ true → eqb (k .campaign) c ≡ true → k .campaign ≡ c → P (next x k) ks → P x (k ∷ ks))
-        (other : (x : Controller) (k : ControllerCall) (ks : List ControllerCall) → inForm (x .shelf) ≡ true → eqb (k .campaign) c ≡ false → k .campaign ≢ c → P (next x k) ks → P x (k ∷ ks)) where
-      by-calls : (ks : List ControllerCall) (x : Controller) → inForm (x .shelf) ≡ true → P x ks
+        (own : (x : Controller) (k : ControllerCall) (ks : List ControllerCall) → shelfInForm (x .shelf) ≡ true → eqb (k .campaign) c ≡ true → k .campaign ≡ c → P (next x k) ks → P x (k ∷ ks))
+        (other : (x : Controller) (k : ControllerCall) (ks : List ControllerCall) → shelfInForm (x .shelf) ≡ true → eqb (k .campaign) c ≡ false → k .campaign ≢ c → P (next x k) ks → P x (k ∷ ks)) where
+      by-calls : (ks : List ControllerCall) (x : Controller) → shelfInForm (x .shelf) ≡ true → P x ks
       by-calls [] x f = none x
       by-calls (k ∷ ks) x f =
           let more = by-calls ks (next x k) (step-formed digest sized x f (k .campaign) (k .call)) in
@@ -51,7 +51,7 @@ module _ (digest : Bytes → Bytes) (sized : (b : Bytes) → length (digest b) �
           (λ y. own x k ks f y (eqb-true (k .campaign) c y) more)
           (λ n. other x k ks f n (eqb-false (k .campaign) c n) more)
 
-    pub run-plain : (ks : List ControllerCall) (x : Controller) → inForm (x .shelf) ≡ true → after digest x ks .site c ≡ siteAfter digest (x .site c) (plainRun digest c x ks)
+    pub run-plain : (ks : List ControllerCall) (x : Controller) → shelfInForm (x .shelf) ≡ true → after digest x ks .site c ≡ siteAfter digest (x .site c) (plainRun digest c x ks)
     unfolding after eachOwn siteAfter
     run-plain =
         by-calls (λ x ks. after digest x ks .site c ≡ siteAfter digest (x .site c) (plainRun digest c x ks))
@@ -67,7 +67,7 @@ module _ (digest : Bytes → Bytes) (sized : (b : Bytes) → length (digest b) �
 
     -- ---- the campaign alone
 
-    module _ (x : Controller) (f : inForm (x .shelf) ≡ true) (k : ControllerCall) where
+    module _ (x : Controller) (f : shelfInForm (x .shelf) ≡ true) (k : ControllerCall) where
       -- a call of another campaign is not seen
       unseen : k .campaign ≢ c → view x ≡ view (next x k)
       unseen o =
@@ -78,7 +78,7 @@ module _ (digest : Bytes → Bytes) (sized : (b : Bytes) → length (digest b) �
       seen-own : k .campaign ≡ c → aloneStep digest c (view x) (isTaken digest c x (k .call)) (k .call) ≡ view (next x k)
       seen-own q = own-view digest sized x f c low (k .call) ∙ ap (λ (d : ℕ). view (step digest x d (k .call))) (sym q)
 
-    pub run-alone : (ks : List ControllerCall) (x : Controller) → inForm (x .shelf) ≡ true → aloneAfter digest c (view x) (ownRun digest c x ks) ≡ view (after digest x ks)
+    pub run-alone : (ks : List ControllerCall) (x : Controller) → shelfInForm (x .shelf) ≡ true → aloneAfter digest c (view x) (ownRun digest c x ks) ≡ view (after digest x ks)
     unfolding after eachOwn aloneAfter
     run-alone =
         by-calls (λ x ks. aloneAfter digest c (view x) (ownRun digest c x ks) ≡ view (after digest x ks))
@@ -86,7 +86,7 @@ module _ (digest : Bytes → Bytes) (sized : (b : Bytes) → length (digest b) �
         (λ x k ks f y q more. rw y (ap (λ (a : Alone). aloneAfter digest c a (ownRun digest c (next x k) ks)) (seen-own x f k q) ∙ more))
         (λ x k ks f n o more. rw n (ap (λ (a : Alone). aloneAfter digest c a (ownRun digest c (next x k) ks)) (unseen x f k o) ∙ more))
 
-    pub run-replies : (ks : List ControllerCall) (x : Controller) → inForm (x .shelf) ≡ true → replies digest c x ks ≡ aloneReplies digest c (view x) (ownRun digest c x ks)
+    pub run-replies : (ks : List ControllerCall) (x : Controller) → shelfInForm (x .shelf) ≡ true → replies digest c x ks ≡ aloneReplies digest c (view x) (ownRun digest c x ks)
     unfolding eachOwn aloneReplies
     run-replies =
         by-calls (λ x ks. replies digest c x ks ≡ aloneReplies digest c (view x) (ownRun digest c x ks))
@@ -104,7 +104,7 @@ module _ (digest : Bytes → Bytes) (sized : (b : Bytes) → length (digest b) �
     own-listed x (arrives b verdict room) = refl
     own-listed x (made call) = refl
 
-    pub run-listed : (ks : List ControllerCall) (x : Controller) → inForm (x .shelf) ≡ true → outcomes digest c x ks ≡ outcomesOf (tries digest c x ks)
+    pub run-listed : (ks : List ControllerCall) (x : Controller) → shelfInForm (x .shelf) ≡ true → outcomes digest c x ks ≡ outcomesOf (tries digest c x ks)
     unfolding eachOwn outcomesOf
     run-listed =
         by-calls (λ x ks. outcomes digest c x ks ≡ outcomesOf (tries digest c x ks))
@@ -115,13 +115,13 @@ module _ (digest : Bytes → Bytes) (sized : (b : Bytes) → length (digest b) �
 
     -- ---- every block that waited, and each that was taken, waits or has ended
 
-    pub run-accounted : (b : Bytes) (ks : List ControllerCall) (x : Controller) → inForm (x .shelf) ≡ true
-        → timesWaiting c b (waitingIn (x .shelf)) + countIn (λ y. sameBytes y b) (taken digest c x ks)
+    pub run-accounted : (b : Bytes) (ks : List ControllerCall) (x : Controller) → shelfInForm (x .shelf) ≡ true
+        → timesWaiting c b (waitingIn (x .shelf)) + countIn (λ y. sameBytes y b) (shelvedBlocks digest c x ks)
         ≡ timesWaiting c b (waitingIn (after digest x ks .shelf)) + timesEnded b (tries digest c x ks)
     unfolding after eachOwn countIn
     run-accounted b =
         by-calls
-        (λ x ks. timesWaiting c b (waitingIn (x .shelf)) + countIn (λ y. sameBytes y b) (taken digest c x ks)
+        (λ x ks. timesWaiting c b (waitingIn (x .shelf)) + countIn (λ y. sameBytes y b) (shelvedBlocks digest c x ks)
         ≡ timesWaiting c b (waitingIn (after digest x ks .shelf)) + timesEnded b (tries digest c x ks))
         (λ x. refl)
         (λ x k ks f y q more.
@@ -134,7 +134,7 @@ module _ (digest : Bytes → Bytes) (sized : (b : Bytes) → length (digest b) �
           arith,
           here,
           more,
-          count-in-append (λ y. sameBytes y b) (takenBy digest c x (k .call)) (taken digest c (next x k) ks),
+          count-in-append (λ y. sameBytes y b) (takenBy digest c x (k .call)) (shelvedBlocks digest c (next x k) ks),
           count-in-append (isEnd b) (triesBy digest c x (k .call)) (tries digest c (next x k) ks),
         )))
         (λ x k ks f n o more. rw n (omega (arith, more, other-times digest sized x f c (k .campaign) o (k .call) b)))

@@ -19,7 +19,7 @@ use Rattle.answer.specs.Checks.{answerTo, refused}
 use Rattle.block.specs.Limits.{referenceSize}
 use Rattle.shelf.specs.Layout.{Waiting, waitingIn}
 use Rattle.shelf.specs.Rules.{maxCampaign, isFor, hasPlace}
-use Rattle.shelf.specs.Form.{inForm}
+use Rattle.shelf.specs.Form.{shelfInForm}
 use Rattle.admission.specs.Admission.{admission, admitted}
 use Rattle.admission.proofs.Effect.{refused-table}
 use Rattle.campaigns.specs.Passes.{Try, outcomesOf}
@@ -39,14 +39,14 @@ unfolding TriedFrom siteAfter siteStep
 tries-plain digest records [] t t′ e = ap (λ (x : Bytes). record { table = x; records = records }) e
 tries-plain digest records (y ∷ ys) t t′ e = tries-plain digest records ys (admitted digest t (y .block) 1) t′ (e .1)
 
-module _ (digest : Bytes → Bytes) (sized : (b : Bytes) → length (digest b) ≡ referenceSize) (x : Controller) (formed : inForm (x .shelf) ≡ true) where
+module _ (digest : Bytes → Bytes) (sized : (b : Bytes) → length (digest b) ≡ referenceSize) (x : Controller) (formed : shelfInForm (x .shelf) ≡ true) where
   abbrev ws : List Waiting
   ws = waitingIn (x .shelf)
 
   keeps : (c : ℕ) (b : Bytes) (verdict room : ℕ) → CallKeeps digest (x .site c .table) (x .shelf) c b verdict room
   keeps c b verdict room = call-keeps digest sized (x .site c .table) (x .shelf) c b verdict room
 
-  pub step-formed : (k : ℕ) (call : CampaignCall) → inForm (step digest x k call .shelf) ≡ true
+  pub step-formed : (k : ℕ) (call : CampaignCall) → shelfInForm (step digest x k call .shelf) ≡ true
   unfolding step
   step-formed k (arrives b verdict room) = keeps k b verdict room .shelfFormed formed
   step-formed k (made call) = formed

@@ -8,16 +8,16 @@ use Rattle.base.specs.Bytes.{Bytes, sameBytes}
 use Rattle.base.specs.List.{countIn}
 use Rattle.setup.specs.Setup.{Setup}
 use Rattle.shelf.specs.Layout.{waitingIn}
-use Rattle.shelf.specs.Form.{inForm}
+use Rattle.shelf.specs.Form.{shelfInForm}
 use Rattle.campaigns.specs.Passes.{letIn, outcomesOf}
 use Rattle.campaigns.specs.Promises.{only, timesWaiting, timesEnded}
 use Rattle.take_back.specs.Promises.{UndoneBy}
 use Rattle.run.specs.Ledger.{Call, takeBack}
 use Rattle.run.specs.Run.{siteAfter}
 use Rattle.run.specs.Promises.{siteWith}
-use Rattle.agreement.specs.TwoSites.{Promised}
-use Rattle.arrival.specs.Arrival.{Arrival}
-use Rattle.controller.specs.Run.{ControllerCall, made, Controller, Alone, emptyStart, arrivalAt, step, after, replies, outcomes, tries, taken, plainRun, ownRun, aloneAfter, aloneReplies}
+use Rattle.agreement.specs.TwoSites.{TwoSites}
+use Rattle.arrival.specs.Arrival.{ArrivalPromise}
+use Rattle.controller.specs.Run.{ControllerCall, made, Controller, Alone, emptyStart, arrivalAt, step, after, replies, outcomes, tries, shelvedBlocks, plainRun, ownRun, aloneAfter, aloneReplies}
 
 module _ (digest : Bytes → Bytes) where
   -- ---- one controller
@@ -40,7 +40,7 @@ module _ (digest : Bytes → Bytes) where
     -- of a campaign up to 3
     pub record RunKeeps (c : ℕ) : Type 0 where
       -- the shelf is in form
-      pub formed : inForm (final .shelf) ≡ true
+      pub formed : shelfInForm (final .shelf) ≡ true
       -- the campaign's table and records are those of its plain calls
       pub asPlain : final .site c ≡ siteAfter digest (begin .site c) (plainCalls c)
       -- "a campaign's tables depend only on its own arrivals, the other calls made for it and which of its blocks the shelf took": its table and
@@ -52,7 +52,7 @@ module _ (digest : Bytes → Bytes) where
       pub listed : outcomes digest c begin calls ≡ outcomesOf (tries digest c begin calls)
       -- nothing is lost and nothing is invented: every block that was answered 9 waits, was let in or was dropped, as often
       pub accounted : (x : Bytes)
-          → countIn (λ b. sameBytes b x) (taken digest c begin calls)
+          → countIn (λ b. sameBytes b x) (shelvedBlocks digest c begin calls)
           ≡ timesWaiting c x (waitingIn (final .shelf)) + timesEnded x (tries digest c begin calls)
 
   -- ---- two runs in which a campaign's own calls, and what the shelf took of its blocks, are the same: whatever the other campaigns do, they
@@ -72,9 +72,9 @@ module _ (digest : Bytes → Bytes) where
       pub first : final setups₁ buffers₁ calls₁ .site c ≡ siteWith digest s (buffers₁ c) (plainCalls setups₁ buffers₁ calls₁ c)
       pub second : final setups₂ buffers₂ calls₂ .site c ≡ siteWith digest s (buffers₂ c) (plainCalls setups₂ buffers₂ calls₂ c)
       -- and of these both theorems speak
-      pub promised : Promised digest s (buffers₁ c) (buffers₂ c) (plainCalls setups₁ buffers₁ calls₁ c) (plainCalls setups₂ buffers₂ calls₂ c)
-      pub firstArrives : Arrival digest s (buffers₁ c) (plainCalls setups₁ buffers₁ calls₁ c)
-      pub secondArrives : Arrival digest s (buffers₂ c) (plainCalls setups₂ buffers₂ calls₂ c)
+      pub promised : TwoSites digest s (buffers₁ c) (buffers₂ c) (plainCalls setups₁ buffers₁ calls₁ c) (plainCalls setups₂ buffers₂ calls₂ c)
+      pub firstArrives : ArrivalPromise digest s (buffers₁ c) (plainCalls setups₁ buffers₁ calls₁ c)
+      pub secondArrives : ArrivalPromise digest s (buffers₂ c) (plainCalls setups₂ buffers₂ calls₂ c)
 
 -- ---- taking back
 

@@ -107,8 +107,8 @@ module _ (digest : Bytes → Bytes) where
     takenBy x (arrives b verdict room) = cond (isTaken x (arrives b verdict room)) (b ∷ []) []
     takenBy x (made call) = []
 
-    abbrev pub taken : Controller → List ControllerCall → List Bytes
-    taken = eachOwn takenBy
+    abbrev pub shelvedBlocks : Controller → List ControllerCall → List Bytes
+    shelvedBlocks = eachOwn takenBy
 
     -- its calls as plain ones: an arrival that admission is asked about is an admission, and each try is "an admission call of its own"
     unfoldable pub plainBy : Controller → CampaignCall → List Call

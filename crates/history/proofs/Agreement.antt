@@ -24,18 +24,18 @@ use Rattle.history.proofs.Validity.{heard-echo, delivered-quorum}
 
 -- a collection of histories with all their ancestors, each with a parent unless its sequence number is 0; a site that has not forked has one
 -- history of each sequence number
-pub record World (W : History → Type 0) (forks : ℕ → Bool) : Type 0 where
+pub record Collection (W : History → Type 0) (forks : ℕ → Bool) : Type 0 where
   pub closed : (h c : History) → W h → List·Memᴰ c (children h) → W c
   pub parented : (h : History) → W h
       → (sequenceOf (blockOf h) ≡ 0) ⊎ ((c : History) × List·Memᴰ c (children h) × (isParentOf (blockOf h) (blockOf c) ≡ true))
   pub single : (h g : History) → W h → W g → siteOf (blockOf h) ≡ siteOf (blockOf g) → forks (siteOf (blockOf h)) ≡ false
       → sequenceOf (blockOf h) ≡ sequenceOf (blockOf g) → h ≡ g
 
-pub above-in : {W : History → Type 0} {forks : ℕ → Bool} → World W forks → {a h : History} → Ancestor a h → W h → W a
+pub above-in : {W : History → Type 0} {forks : ℕ → Bool} → Collection W forks → {a h : History} → Ancestor a h → W h → W a
 above-in world (direct m) w = world .closed _ _ w m
 above-in world (further k m) w = above-in world k (world .closed _ _ w m)
 
-module _ (s : Setup) (slot : ℕ) (W : History → Type 0) (forks : ℕ → Bool) (world : World W forks) where
+module _ (s : Setup) (slot : ℕ) (W : History → Type 0) (forks : ℕ → Bool) (world : Collection W forks) where
   -- what a block of a site that has not forked has sent, heard or delivered stays in its later blocks
   chain : (p : ℕ) → forks p ≡ false → (k : History) → W k → siteOf (blockOf k) ≡ p
       → (d : ℕ) (c : History) → W c → siteOf (blockOf c) ≡ p → sequenceOf (blockOf c) ≡ d + sequenceOf (blockOf k)

@@ -14,7 +14,7 @@ use Rattle.history.specs.Ancestry.{historyOf}
 use Rattle.history.specs.Forks.{forked, NoCollision}
 use Rattle.history.proofs.Ancestry.{OneHistory, history-agree, child-of, child-parent}
 use Rattle.history.proofs.Forks.{unforked-single}
-use Rattle.history.proofs.Agreement.{World, agreement}
+use Rattle.history.proofs.Agreement.{Collection, agreement}
 
 module _ (digest : Bytes → Bytes) where
   -- the history of one of the blocks
@@ -39,7 +39,7 @@ module _ (digest : Bytes → Bytes) where
   ]
 
   -- the histories of one list of blocks
-  pub one-world : (bs : List Bytes) → OneHistory digest bs → World (HistoryIn bs) (forked bs)
+  pub one-world : (bs : List Bytes) → OneHistory digest bs → Collection (HistoryIn bs) (forked bs)
   one-world bs g = record {
     closed = child-in bs g;
     parented = parent-in bs g;
@@ -75,7 +75,7 @@ module _ (digest : Bytes → Bytes) where
     parent-either h (inl x) = parent-in bs gb h x
     parent-either h (inr x) = parent-in cs gc h x
 
-    world : World Either (forked (bs ++ cs))
+    world : Collection Either (forked (bs ++ cs))
     world = record {
       closed = child-either;
       parented = parent-either;

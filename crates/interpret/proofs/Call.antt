@@ -19,10 +19,10 @@ use Rattle.table.specs.Rules.{refersUninterpreted}
 use Rattle.table.specs.Form.{inForm}
 use Rattle.table.specs.Steps.{rowOf}
 use Rattle.table.proofs.Views.{row-form}
-use Rattle.table.proofs.InForm.{formed-of}
+use Rattle.table.proofs.InForm.{table-form}
 use Rattle.records.specs.Layout.{bufferSize, partStart}
 use Rattle.interpret.specs.Interpretation.{written, interpretation, marked, recorded}
-use Rattle.interpret.specs.Steps.{Ready}
+use Rattle.interpret.specs.Steps.{Interpretable}
 
 module _ (t : Bytes) (buffer : List ℕ) (i : ℕ) where
   -- an answer, a table and a buffer as they must be
@@ -49,9 +49,9 @@ module _ (t : Bytes) (buffer : List ℕ) (i : ℕ) where
       way13 n = refuses 13 0 refl (rw (e₂, eq-eqb (length buffer) bufferSize e₁₂, le-ltb i (countOf t) n))
 
       module _ (e₁₃ : i < countOf t) where
-        pub ready : Ready t i buffer
+        pub ready : Interpretable t i buffer
         ready =
-            let f = formed-of t e₂ in
+            let f = table-form t e₂ in
             let few : setupOf t .sites ≤ maxSites = sites-few (setupOf t .sites) (sites-lawful (setupOf t) (f .held .lawful)) in
             record {
               size = f .size;

@@ -63,7 +63,7 @@ module _ (t : Bytes) (buffer : List ℕ) (i : ℕ) where
   is-open : FirstHold checks 4 ↔ Open t buffer i
   is-open =
       let here = absent _ _ is-marked in
-      (λ p. record { isHeld = held t buffer i rest .0 (p .0); unmarked = here .0 (p .1) }, λ o. (held t buffer i rest .1 (o .isHeld), here .1 (o .unmarked)))
+      (λ p. record { placeHeld = held t buffer i rest .0 (p .0); unmarked = here .0 (p .1) }, λ o. (held t buffer i rest .1 (o .placeHeld), here .1 (o .unmarked)))
 
   fifteen : (interpretation t buffer i .refusal ≡ 15) ↔ (Open t buffer i × ((j : ℕ) × Unready t i j))
   fifteen = Iff·trans (told .refused 4 (omega arith)) (Iff·and is-open (present _ _ some-unready))

@@ -19,7 +19,7 @@ use Rattle.table.specs.View.{maxPlaces, Row, View}
 use Rattle.table.specs.Layout.{setupOf, countOf, rowAt, viewOf, withMark}
 use Rattle.table.specs.Form.{inForm}
 use Rattle.table.specs.Promises.{Marked}
-use Rattle.table.proofs.InForm.{Formed, formed-of, in-formed}
+use Rattle.table.proofs.InForm.{TableForm, table-form, in-formed}
 use Rattle.table.proofs.MarkedPlace.{marked as mark-read, marked-formed}
 use Rattle.records.specs.Layout.{recordSize, partSize, bufferSize, partStart}
 use Rattle.records.proofs.RecordNumbers.{record-sized}
@@ -72,14 +72,14 @@ module _ (t : Bytes) (buffer : List ℕ) (i : ℕ) (e : interpretation t buffer 
   open-there : Open t buffer i
   open-there = causes t buffer i .none .0 e .0
 
-  pub formed : Formed t
-  formed = formed-of t (open-there .isHeld .isWhole .formed)
+  pub formed : TableForm t
+  formed = table-form t (open-there .placeHeld .recordsSized .formed)
 
   pub whole : length buffer ≡ bufferSize
-  whole = open-there .isHeld .isWhole .size
+  whole = open-there .placeHeld .recordsSized .size
 
   pub here : i < countOf t
-  here = open-there .isHeld .below
+  here = open-there .placeHeld .below
 
   pub low : i < maxPlaces
   low = omega (arith, here, formed .held .fits)

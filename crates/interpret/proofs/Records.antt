@@ -10,7 +10,7 @@ use Rattle.setup.specs.Setup.{maxSites, Setup, ownerOf}
 use Rattle.broadcast.specs.declared.Kind.{Kind}
 use Rattle.broadcast.specs.declared.SlotRecord.{SlotRecord}
 use Rattle.broadcast.specs.Record.{none, nothingMade, withSend, inBoth}
-use Rattle.broadcast.specs.Process.{message, madeOf, onlyIf, request}
+use Rattle.broadcast.specs.Process.{message, madeOf, onlyIf, takeRequest}
 use Rattle.broadcast.proofs.Steps.{Entry, entryOf, Sized, blank-sized, nothingMade-sized, request-sized}
 use Rattle.broadcast.proofs.Steps.Entry.{sendEntry, echoEntry, readyEntry, deliveryEntry}
 use Rattle.broadcast.proofs.Monotonicity.{Kept, kept-both, nothingMade-kept, request-kept, receiveAll-kept, MadeOnce, once-both, request-once, receiveAll-once}
@@ -29,7 +29,7 @@ none-made deliveryEntry = refl
 module _ (s : Setup) (slot site sequence v : ℕ) (ds : List Direct) where
   -- how the block starts: with its parent's record and its own request
   abbrev start : SlotRecord
-  start = request (ownerOf s slot) site v (nothingMade (parentState site sequence ds))
+  start = takeRequest (ownerOf s slot) site v (nothingMade (parentState site sequence ds))
 
   pub interpretSlot-kept : Kept (parentState site sequence ds) (interpretSlot s slot site sequence v ds)
   unfolding interpretSlot
@@ -56,7 +56,7 @@ module _ (s : Setup) (slot site sequence v : ℕ) (ds : List Direct) where
   -- a counted request of the owner is sent where none was before
   pub interpretSlot-sends : site ≡ ownerOf s slot → v ≢ 0 → parentState site sequence ds .sent .send ≡ 0
       → interpretSlot s slot site sequence v ds .made .send ≡ v
-  unfolding interpretSlot request onlyIf
+  unfolding interpretSlot takeRequest onlyIf
   interpretSlot-sends own some z =
       let started : start ≡ inBoth (withSend v) (nothingMade (parentState site sequence ds)) = rw (ne-eqb v 0 some, eq-eqb site (ownerOf s slot) own, eq-eqb _ 0 z) in
       elim (receiveAll-once (s .sites) (ownerOf s slot) (messages (s .sites) ds) start sendEntry) [

@@ -10,7 +10,7 @@ use lib.Dec.{eqb}
 use lib.ListN.{take, drop}
 use lib.Seq.{drop-drop}
 use borrow.Author.Tests.{eqb-true}
-use Rattle.base.specs.Bytes.{Bytes, partAt, joined}
+use Rattle.base.specs.Bytes.{Bytes, partAt, concat}
 use Rattle.base.proofs.Tests.{and-right, or-cases}
 use Rattle.base.proofs.Count.{count-one}
 use Rattle.base.proofs.Parts.{part-of-front}
@@ -103,7 +103,7 @@ module _ (s : Setup) (v w : View) (b c : List ℕ) (i k : ℕ)
 
   pub written-same : written s v b i ≡ written s w c k
   unfolding numbersOf
-  written-same = ap joined (list-same (λ slot. flatten (recordFor s v b i slot)) (λ slot. flatten (recordFor s w c k slot)) slotCount
+  written-same = ap concat (list-same (λ slot. flatten (recordFor s v b i slot)) (λ slot. flatten (recordFor s w c k slot)) slotCount
       (λ slot h. ap flatten (record-same slot h)))
 
 -- what is written is the same in two tables that show the same from a place down, with the same parts where it refers to

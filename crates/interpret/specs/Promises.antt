@@ -14,16 +14,16 @@ use Rattle.records.specs.Layout.{bufferSize}
 use Rattle.interpret.specs.Interpretation.{interpretation, marked, recorded}
 
 -- check 2 holds, then 12, then 13, then 14
-pub record Whole (t : Bytes) (buffer : List ℕ) : Type 0 where
+pub record RecordsSized (t : Bytes) (buffer : List ℕ) : Type 0 where
   pub formed : inForm t ≡ true
   pub size : length buffer ≡ bufferSize
 
-pub record Held (t : Bytes) (buffer : List ℕ) (i : ℕ) : Type 0 where
-  pub isWhole : Whole t buffer
+pub record PlaceHeld (t : Bytes) (buffer : List ℕ) (i : ℕ) : Type 0 where
+  pub recordsSized : RecordsSized t buffer
   pub below : i < countOf t
 
 pub record Open (t : Bytes) (buffer : List ℕ) (i : ℕ) : Type 0 where
-  pub isHeld : Held t buffer i
+  pub placeHeld : PlaceHeld t buffer i
   pub unmarked : markAt t i ≢ 1
 
 -- place j is a direct reference of place i and not interpreted
@@ -36,8 +36,8 @@ pub record Unready (t : Bytes) (i j : ℕ) : Type 0 where
 pub record Causes (t : Bytes) (buffer : List ℕ) (i : ℕ) : Type 0 where
   pub two : (interpretation t buffer i .refusal ≡ 2) ↔ (inForm t ≡ false)
   pub twelve : (interpretation t buffer i .refusal ≡ 12) ↔ ((inForm t ≡ true) × (length buffer ≢ bufferSize))
-  pub thirteen : (interpretation t buffer i .refusal ≡ 13) ↔ (Whole t buffer × (countOf t ≤ i))
-  pub fourteen : (interpretation t buffer i .refusal ≡ 14) ↔ (Held t buffer i × (markAt t i ≡ 1))
+  pub thirteen : (interpretation t buffer i .refusal ≡ 13) ↔ (RecordsSized t buffer × (countOf t ≤ i))
+  pub fourteen : (interpretation t buffer i .refusal ≡ 14) ↔ (PlaceHeld t buffer i × (markAt t i ≡ 1))
   pub fifteen : (interpretation t buffer i .refusal ≡ 15) ↔ (Open t buffer i × ((j : ℕ) × Unready t i j))
   pub none : (interpretation t buffer i .refusal ≡ 0) ↔ (Open t buffer i × (((j : ℕ) × Unready t i j) → ⊥))
   -- "lowest such place"

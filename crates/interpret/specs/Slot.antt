@@ -9,7 +9,7 @@ use Rattle.broadcast.specs.declared.Kind.{Kind}
 use Rattle.broadcast.specs.declared.Kind.the-variants.{Send, Echo, Ready}
 use Rattle.broadcast.specs.declared.SlotRecord.{SlotRecord}
 use Rattle.broadcast.specs.Record.{blank, nothingMade}
-use Rattle.broadcast.specs.Process.{Message, message, madeOf, receiveAll, request}
+use Rattle.broadcast.specs.Process.{Message, message, madeOf, receiveAll, takeRequest}
 use Rattle.table.specs.Rules.{isParent}
 
 -- a block directly referred to: its site, its sequence number, and its record in the slot
@@ -49,4 +49,4 @@ messages n ds = messagesOf Send n ds ++ (messagesOf Echo n ds ++ messagesOf Read
 unfoldable pub interpretSlot : Setup → ℕ → ℕ → ℕ → ℕ → List Direct → SlotRecord
 interpretSlot s slot site sequence v ds =
     receiveAll (s .sites) (ownerOf s slot) (messages (s .sites) ds)
-    (request (ownerOf s slot) site v (nothingMade (parentState site sequence ds)))
+    (takeRequest (ownerOf s slot) site v (nothingMade (parentState site sequence ds)))

@@ -6,7 +6,7 @@ use Prim.Native.Nat.{ℕ, zero, suc, _≤_, _<_}
 use lib.Dec.{eqb, ltb}
 use lib.ListN.{length, getD}
 use Rattle.base.specs.Count.{countBelow}
-use Rattle.base.specs.List.{listBelow, passing}
+use Rattle.base.specs.List.{listBelow, passingBelow}
 use Rattle.base.specs.Bytes.{Bytes}
 use Rattle.setup.specs.Setup.{maxSites, ownerOf, slotCount}
 use Rattle.block.specs.Limits.{maxReferences}
@@ -22,7 +22,7 @@ use Rattle.interpret.specs.Slot.{Direct, messages}
 use Rattle.interpret.specs.Interpretation.{directAt}
 
 -- a table and a record buffer of the right lengths, a place, sites that an array of sixteen has room for, and references that one has room for
-pub record Ready (t : Bytes) (i : ℕ) (buffer : List ℕ) : Type 0 where
+pub record Interpretable (t : Bytes) (i : ℕ) (buffer : List ℕ) : Type 0 where
   pub size : length t ≡ tableSize
   pub place : i < maxPlaces
   pub numbers : length buffer ≡ bufferSize
@@ -32,16 +32,16 @@ pub record Ready (t : Bytes) (i : ℕ) (buffer : List ℕ) : Type 0 where
 
 -- the places below i that place i refers to, lower ones first
 abbrev pub referredBy : Bytes → ℕ → List ℕ
-referredBy t i = passing (rowAt t i .refersTo) i
+referredBy t i = passingBelow (rowAt t i .refersTo) i
 
 -- the same with a slot, and the list of these places
-pub record ReadySlot (t : Bytes) (i : ℕ) (places buffer : List ℕ) (slot : ℕ) : Type 0 where
-  pub ready : Ready t i buffer
+pub record InterpretableSlot (t : Bytes) (i : ℕ) (places buffer : List ℕ) (slot : ℕ) : Type 0 where
+  pub ready : Interpretable t i buffer
   pub listed : places ≡ referredBy t i
   pub below : slot < slotCount
 
 -- what is asked of a list of places and a slot alone
-pub record Listed (t : Bytes) (places buffer : List ℕ) (slot : ℕ) : Type 0 where
+pub record PlaceList (t : Bytes) (places buffer : List ℕ) (slot : ℕ) : Type 0 where
   pub size : length t ≡ tableSize
   pub numbers : length buffer ≡ bufferSize
   pub few : setupOf t .sites ≤ maxSites

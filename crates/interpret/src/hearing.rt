@@ -7,7 +7,7 @@ ghost use mathlib.Core.Path.{_≡_};
 ghost use Prim.Native.Nat.{_≤_};
 ghost use Rattle.setup.specs.Setup.{maxSites};
 ghost use Rattle.broadcast.specs.declared.Kind.the-variants.{Send, Echo, Ready};
-ghost use Rattle.interpret.specs.Steps.{Listed, leastOf, lowestOf, heardFrom, heardAll};
+ghost use Rattle.interpret.specs.Steps.{PlaceList, leastOf, lowestOf, heardFrom, heardAll};
 
 // For each site the lowest number of each kind made in its blocks, 0 if there is none. No other can have an effect.
 struct Lowest {
@@ -31,7 +31,7 @@ fn least(v: u16, w: u16) -> u16
 
 // The lowest numbers made in the blocks of a list of places.
 fn lowest_of(table: &[u8], places: &[u8], records: &[u16], slot: usize) -> Lowest
-    requires { ⌜ Listed (now table) (now places) (now records) slot ⌝ }
+    requires { ⌜ PlaceList (now table) (now places) (now records) slot ⌝ }
     ensures { λ r. ⌜ r .sends ≡ lowestOf (now (table .entry)) (now (places .entry)) (now (records .entry)) slot Send ⌝ }
     ensures { λ r. ⌜ r .echoes ≡ lowestOf (now (table .entry)) (now (places .entry)) (now (records .entry)) slot Echo ⌝ }
     ensures { λ r. ⌜ r .readies ≡ lowestOf (now (table .entry)) (now (places .entry)) (now (records .entry)) slot Ready ⌝ }
@@ -81,7 +81,7 @@ pub fn hear_all(
     records: &[u16],
     slot: usize,
 ) -> SlotRecord
-    requires { ⌜ Listed (now table) (now places) (now records) slot ⌝ }
+    requires { ⌜ PlaceList (now table) (now places) (now records) slot ⌝ }
     ensures { λ r. ⌜ r ≡ heardAll (now (table .entry)) (now (places .entry)) (now (records .entry)) slot state ⌝ }
 {
     let low = lowest_of(table, places, records, slot);

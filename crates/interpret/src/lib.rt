@@ -17,7 +17,7 @@ ghost use Prim.Native.Nat.{_≤_, _<_};
 ghost use lib.ListN.{length, take};
 ghost use Rattle.base.specs.Count.{countBelow};
 ghost use Rattle.base.specs.Mask.{inMask};
-ghost use Rattle.base.specs.List.{passing};
+ghost use Rattle.base.specs.List.{passingBelow};
 ghost use Rattle.setup.specs.Setup.{slotCount};
 ghost use Rattle.block.specs.Limits.{maxReferences};
 ghost use Rattle.broadcast.specs.Record.{nothingMade};
@@ -26,13 +26,13 @@ ghost use Rattle.table.specs.Layout.{setupOf, referencesAt, viewOf};
 ghost use Rattle.table.specs.Steps.{Place};
 ghost use Rattle.records.specs.Layout.{bufferSize};
 ghost use Rattle.interpret.specs.Interpretation.{recordFor, written, interpretation, marked, recorded};
-ghost use Rattle.interpret.specs.Steps.{referredBy, Ready, ReadySlot, parentOf, stateAt};
+ghost use Rattle.interpret.specs.Steps.{referredBy, Interpretable, InterpretableSlot, parentOf, stateAt};
 
 // Puts the places below this one that are in the mask to the front of the list, lower ones first; how many they are.
 fn list_places(references: u64, place: usize, list: &mut [u8]) -> usize
     requires { ⌜ (place ≤ maxPlaces) × (length (now list) ≡ maxReferences) × (countBelow (inMask references) maxPlaces ≤ maxReferences) ⌝ }
     ensures { λ r. ⌜ r ≤ maxReferences ⌝ }
-    ensures { λ r. ⌜ take r (now (list .exit)) ≡ passing (inMask references) place ⌝ }
+    ensures { λ r. ⌜ take r (now (list .exit)) ≡ passingBelow (inMask references) place ⌝ }
 {
     let mut count = 0;
     let mut j = 0;
@@ -89,7 +89,7 @@ fn slot_record(
     records: &[u16],
     slot: usize,
 ) -> SlotRecord
-    requires { ⌜ ReadySlot (now table) place (now places) (now records) slot × (parent ≡ parentOf (now table) place (now places)) ⌝ }
+    requires { ⌜ InterpretableSlot (now table) place (now places) (now records) slot × (parent ≡ parentOf (now table) place (now places)) ⌝ }
     ensures { λ r. ⌜ r ≡ recordFor (setupOf (now (table .entry))) (viewOf (now (table .entry))) (now (records .entry)) place slot ⌝ }
 {
     let site = rows::site_at(table, place);
@@ -102,7 +102,7 @@ fn slot_record(
 
 // The numbers of a place: its records, slot after slot.
 fn place_records(table: &[u8], place: usize, records: &[u16]) -> [u16; PART_SIZE]
-    requires { ⌜ Ready (now table) place (now records) ⌝ }
+    requires { ⌜ Interpretable (now table) place (now records) ⌝ }
     ensures { λ r. ⌜ r ≡ written (setupOf (now (table .entry))) (viewOf (now (table .entry))) (now (records .entry)) place ⌝ }
 {
     let references = rows::references_at(table, place);

@@ -20,7 +20,7 @@ use Rattle.table.specs.Form.{inForm}
 use Rattle.records.specs.Layout.{bufferSize}
 use Rattle.join.specs.Join.{neitherRetired, sameSetup, joinedCount, joinAnswer, joinedTable, joinedRecords, joined, copied}
 use Rattle.join.specs.Promises.{BothFormed, OneSetup}
-use Rattle.join.specs.Steps.{sidesChecks, blocksChecks, blocksAnswer, blocksTable, blocksRecords, Passed}
+use Rattle.join.specs.Steps.{sidesChecks, blocksChecks, blocksAnswer, blocksTable, blocksRecords, JoinableSides}
 use Rattle.join.proofs.CheckedJoin.{setup-same, formed-both, whole-of, unretired-of}
 
 module _ (left right : Bytes) (leftRecords rightRecords third : List ℕ) where
@@ -86,7 +86,7 @@ module _ (left right : Bytes) (leftRecords rightRecords third : List ℕ) where
   unfolding joinAnswer answerTo
   blocks-decide o =
       let u = o .unretired in
-      let w = u .isWhole in
+      let w = u .buffersSized in
       rw (w .leftFormed, w .rightFormed, eq-eqb _ _ (w .leftSize), eq-eqb _ _ (w .rightSize), eq-eqb _ _ (w .size), eq-eqb _ _ (u .leftRetired), eq-eqb _ _ (u .rightRetired), setup-same (setupOf left) (setupOf right) .1 (o .setup))
 
   pub decided : OneSetup left right leftRecords rightRecords third → (a : Answer) (t : Bytes) (b : List ℕ) → a ≡ blocksAnswer left right
@@ -105,9 +105,9 @@ module _ (left right : Bytes) (leftRecords rightRecords third : List ℕ) where
 
   module _ (o : OneSetup left right leftRecords rightRecords third) (a : Answer) (e : a ≡ blocksAnswer left right) where
     pub formed-of-both : BothFormed left right
-    formed-of-both = let w = o .unretired .isWhole in record { leftFormed = w .leftFormed; rightFormed = w .rightFormed }
+    formed-of-both = let w = o .unretired .buffersSized in record { leftFormed = w .leftFormed; rightFormed = w .rightFormed }
 
-    pub passed : a .refusal ≡ 0 → Passed left right leftRecords rightRecords third
+    pub passed : a .refusal ≡ 0 → JoinableSides left right leftRecords rightRecords third
     unfolding different elsewhere
     passed z =
         let h = all-passed (blocksChecks left right) (joinedCount (viewOf left) (viewOf right)) refl (number-of (sym e) ∙ z) in
@@ -120,8 +120,8 @@ module _ (left right : Bytes) (leftRecords rightRecords third : List ℕ) where
             apart = not-true _ (h .0 .1);
             fits = leb-true (joinedCount (viewOf left) (viewOf right)) maxPlaces (h .1);
           };
-          sides = record { formed = formed-of-both; leftSize = o .unretired .isWhole .leftSize; rightSize = o .unretired .isWhole .rightSize };
-          size = o .unretired .isWhole .size;
+          sides = record { formed = formed-of-both; leftSize = o .unretired .buffersSized .leftSize; rightSize = o .unretired .buffersSized .rightSize };
+          size = o .unretired .buffersSized .size;
         }
 
     abbrev Left : Bytes → List ℕ → Type 0

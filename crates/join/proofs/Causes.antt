@@ -23,7 +23,7 @@ use Rattle.table.specs.Rules.{hasDigest}
 use Rattle.table.specs.Form.{inForm}
 use Rattle.records.specs.Layout.{bufferSize}
 use Rattle.join.specs.Join.{sameBlock, clashes, clashAt, neitherRetired, sameSetup, joinedCount, joinChecks, joinAnswer}
-use Rattle.join.specs.Promises.{BothFormed, Whole, Unretired, OneSetup, Clash, Apart, Causes}
+use Rattle.join.specs.Promises.{BothFormed, BuffersSized, Unretired, OneSetup, Clash, Apart, Causes}
 use Rattle.join.proofs.CheckedJoin.{setup-same, formed-both, whole-of, unretired-of}
 
 module _ (left right : Bytes) (leftRecords rightRecords third : List ℕ) where
@@ -80,7 +80,7 @@ module _ (left right : Bytes) (leftRecords rightRecords third : List ℕ) where
   formed : FirstHold checks 1 ↔ BothFormed left right
   formed = (λ p. formed-both left right (p .1), λ f. (tt, rw (f .leftFormed, f .rightFormed)))
 
-  whole : FirstHold checks 2 ↔ Whole left right leftRecords rightRecords third
+  whole : FirstHold checks 2 ↔ BuffersSized left right leftRecords rightRecords third
   whole = (
     λ p. whole-of left right leftRecords rightRecords third (formed .0 (p .0)) (p .1),
     λ w. (
@@ -92,7 +92,7 @@ module _ (left right : Bytes) (leftRecords rightRecords third : List ℕ) where
   unretired : FirstHold checks 3 ↔ Unretired left right leftRecords rightRecords third
   unretired = (
     λ p. unretired-of left right leftRecords rightRecords third (whole .0 (p .0)) (p .1),
-    λ u. (whole .1 (u .isWhole), rw (u .leftRetired, u .rightRetired)),
+    λ u. (whole .1 (u .buffersSized), rw (u .leftRetired, u .rightRetired)),
   )
 
   one-setup : FirstHold checks 4 ↔ OneSetup left right leftRecords rightRecords third

@@ -17,8 +17,8 @@ use Rattle.table.specs.View.{maxPlaces}
 use Rattle.table.specs.Layout.{setupOf, retiredOf, viewOf}
 use Rattle.table.specs.Form.{inForm}
 use Rattle.records.specs.Layout.{bufferSize}
-use Rattle.join.specs.Steps.{Passed}
-use Rattle.join.specs.Promises.{BothFormed, Whole, Unretired}
+use Rattle.join.specs.Steps.{JoinableSides}
+use Rattle.join.specs.Promises.{BothFormed, BuffersSized, Unretired}
 use Rattle.join.specs.Join.{neitherRetired, sameSetup, joinedCount, joinChecks, joinAnswer, joined, copied, joinedTable, joinedRecords}
 
 -- two setups that pass the test are equal, and equal ones pass it
@@ -36,7 +36,7 @@ formed-both left right f = record { leftFormed = and-left (inForm left) (inForm 
 
 pub whole-of : (left right : Bytes) (leftRecords rightRecords third : List ℕ) → BothFormed left right
     → (eqb (length leftRecords) bufferSize && (eqb (length rightRecords) bufferSize && eqb (length third) bufferSize)) ≡ true
-    → Whole left right leftRecords rightRecords third
+    → BuffersSized left right leftRecords rightRecords third
 whole-of left right leftRecords rightRecords third f z =
     let r = and-right (eqb (length leftRecords) bufferSize) (eqb (length rightRecords) bufferSize && eqb (length third) bufferSize) z in
     record {
@@ -48,11 +48,11 @@ whole-of left right leftRecords rightRecords third f z =
     }
 
 -- and 31
-pub unretired-of : (left right : Bytes) (leftRecords rightRecords third : List ℕ) → Whole left right leftRecords rightRecords third → neitherRetired left right ≡ true
+pub unretired-of : (left right : Bytes) (leftRecords rightRecords third : List ℕ) → BuffersSized left right leftRecords rightRecords third → neitherRetired left right ≡ true
     → Unretired left right leftRecords rightRecords third
 unretired-of left right leftRecords rightRecords third w e =
     record {
-      isWhole = w;
+      buffersSized = w;
       leftRetired = eqb-true _ _ (and-left (eqb (retiredOf left) 0) (eqb (retiredOf right) 0) e);
       rightRetired = eqb-true _ _ (and-right (eqb (retiredOf left) 0) (eqb (retiredOf right) 0) e);
     }
@@ -63,12 +63,12 @@ module _ (left right : Bytes) (leftRecords rightRecords third : List ℕ) (e : j
   unfolding joinAnswer different elsewhere
   told = decided _ _ refl
 
-  pub passes : Passed left right leftRecords rightRecords third
+  pub passes : JoinableSides left right leftRecords rightRecords third
   passes =
       let h = told .none .0 e in
       let formed = formed-both left right (h .0 .0 .0 .0 .0 .1) in
       let u = unretired-of left right leftRecords rightRecords third (whole-of left right leftRecords rightRecords third formed (h .0 .0 .0 .0 .1)) (h .0 .0 .0 .1) in
-      let w = u .isWhole in
+      let w = u .buffersSized in
       record {
         sides = record { formed = formed; leftSize = w .leftSize; rightSize = w .rightSize };
         size = w .size;

@@ -16,19 +16,19 @@ use Rattle.base.proofs.Search.{any-true, any-true-at, any-false, any-false-at, 
 use Rattle.base.proofs.Bytes.{same-equal, equal-same}
 use Rattle.setup.specs.Setup.{slotCount}
 use Rattle.table.specs.View.{maxPlaces}
-use Rattle.table.specs.Layout.{countOf, digestAt, siteAt, sequenceAt, referencesAt, requestAt, rowAt, viewOf}
+use Rattle.table.specs.Layout.{countOf, digestAt, siteAt, sequenceAt, referencesAt, countedRequestAt, rowAt, viewOf}
 use Rattle.table.specs.Rules.{hasDigest}
 use Rattle.table.specs.Form.{inForm}
-use Rattle.table.proofs.InForm.{formed-of, formed-row}
+use Rattle.table.proofs.InForm.{table-form, formed-row}
 use Rattle.join.specs.Join.{refersBy, refersWithin, sameBlock, clashes, clashAt, placeIn}
 use Rattle.join.specs.Promises.{BothFormed}
-use Rattle.join.specs.Steps.{Held, withinBy}
+use Rattle.join.specs.Steps.{PlacesFound, withinBy}
 use Rattle.join.proofs.References.{place-has, place-is, place-found, by-place, within}
 
 -- ---- the references of place i of t, as places of u, are among those of place j there
 
 module _ (t u : Bytes) (f : inForm t ≡ true) (g : inForm u ≡ true) (i j : ℕ) (h : i < countOf t) (l : j < countOf u)
-    (wide : referencesAt u j < 2 ^ maxPlaces) (places : List ℕ) (held : Held u t places) where
+    (wide : referencesAt u j < 2 ^ maxPlaces) (places : List ℕ) (held : PlacesFound u t places) where
   abbrev fails : ℕ → Bool
   fails k = inMask (referencesAt t i) k && not (inMask (referencesAt u j) (getD places k 0))
 
@@ -41,7 +41,7 @@ module _ (t u : Bytes) (f : inForm t ≡ true) (g : inForm u ≡ true) (i j : �
       (λ y. all-true (λ k. not (rowAt t i .refersTo k) || refersBy (viewOf u) j (digestAt t k)) (countOf t) (λ k b.
       by-test (inMask (referencesAt t i) k)
       (λ z. let o : inMask (referencesAt u j) (getD places k 0) ≡ true =
-      not-false _ (and-not-right (inMask (referencesAt t i) k) _ (any-false-at fails maxPlaces (not-true _ y) k (omega (arith, b, formed-of t f .held .fits))) z) in
+      not-false _ (and-not-right (inMask (referencesAt t i) k) _ (any-false-at fails maxPlaces (not-true _ y) k (omega (arith, b, table-form t f .held .fits))) z) in
       rw (z, sym (its k b) ∙ o))
       (λ z. rw z)))
       (λ y. ap not (any-false fails maxPlaces (λ k b. by-test (inMask (referencesAt t i) k)
@@ -68,7 +68,7 @@ module _ (left : Bytes) (i : ℕ) (right : Bytes) (j : ℕ) where
 
     module _ (sequence : sequenceAt left i ≡ sequenceAt right j) where
       abbrev requests : Bool
-      requests = allBelow (λ slot. eqb (requestAt left i slot) (requestAt right j slot)) slotCount
+      requests = allBelow (λ slot. eqb (countedRequestAt left i slot) (countedRequestAt right j slot)) slotCount
 
       pub other-request : requests ≡ false → false ≡ same
       unfolding sameBlock

@@ -14,13 +14,13 @@ use Rattle.table.specs.Rules.{hasDigest}
 use Rattle.records.specs.Layout.{partStart}
 use Rattle.join.specs.Join.{isExtra, placeIn, handedBack, partFor, copiedBelow, joinedTable, joinedRecords}
 use Rattle.join.specs.Promises.{placeBehind}
-use Rattle.join.specs.Steps.{Passed, extrasBelow}
+use Rattle.join.specs.Steps.{JoinableSides, extrasBelow}
 use Rattle.join.proofs.References.{place-is}
 use Rattle.join.proofs.PlaceLists.{extra-is}
 use Rattle.join.proofs.PlacesInvariant.{extra-at}
 use Rattle.join.proofs.ThirdBuffer.{whole}
 
-module _ (left right : Bytes) (leftRecords rightRecords third : List ℕ) (p : Passed left right leftRecords rightRecords third) where
+module _ (left right : Bytes) (leftRecords rightRecords third : List ℕ) (p : JoinableSides left right leftRecords rightRecords third) where
   abbrev t : Bytes
   t = joinedTable left right
 

@@ -18,10 +18,10 @@ use Rattle.table.specs.View.{maxPlaces}
 use Rattle.table.specs.Layout.{countOf, digestAt, viewOf}
 use Rattle.table.specs.Rules.{hasDigest, placeOf}
 use Rattle.table.specs.Form.{inForm}
-use Rattle.table.proofs.InForm.{formed-of}
+use Rattle.table.proofs.InForm.{table-form}
 use Rattle.join.specs.Join.{isExtra, placeIn}
 use Rattle.join.specs.Promises.{placeBehind}
-use Rattle.join.specs.Steps.{Held, resultPlace}
+use Rattle.join.specs.Steps.{PlacesFound, resultPlace}
 
 -- ---- the places below k
 
@@ -41,7 +41,7 @@ held-next table other k v places a h e =
 
 -- a place that was looked up is none above the last
 pub found-few : (t : Bytes) → inForm t ≡ true → (d : Bytes) (place : ℕ) → place ≡ placeOf (viewOf t) (countOf t) d → place ≤ maxPlaces
-found-few t f d place e = omega (arith, first-le (hasDigest (viewOf t) d) (countOf t), formed-of t f .held .fits)
+found-few t f d place e = omega (arith, first-le (hasDigest (viewOf t) d) (countOf t), table-form t f .held .fits)
 
 -- ---- the places in the result
 
@@ -59,7 +59,7 @@ pub record NumberedBelow (left right : Bytes) (j next : ℕ) (places : List ℕ)
   pub rest : (i : ℕ) → j ≤ i → i < countOf right → getD places i 0 ≡ placeIn (viewOf left) (digestAt right i)
 
 module _ (left right : Bytes) where
-  pub number-start : (next : ℕ) (places : List ℕ) → Held left right places → next ≡ countOf left → NumberedBelow left right 0 next places
+  pub number-start : (next : ℕ) (places : List ℕ) → PlacesFound left right places → next ≡ countOf left → NumberedBelow left right 0 next places
   unfolding countBelow
   number-start next places a e =
       record { size = a .size; free = omega (arith, e); few = omega (arith, e); done = λ i l. absurd (omega arith); rest = λ i h l. a .at i l }

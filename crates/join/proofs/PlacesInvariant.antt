@@ -20,16 +20,16 @@ use Rattle.table.specs.View.{maxPlaces, SameRow}
 use Rattle.table.specs.Layout.{countOf, digestAt, referencesAt, markAt, viewOf, withRow, withMark}
 use Rattle.table.specs.Rules.{hasDigest}
 use Rattle.table.specs.Steps.{Place, Places, rowWith}
-use Rattle.table.proofs.InForm.{formed-of, formed-places, formed-row, one-place}
+use Rattle.table.proofs.InForm.{table-form, formed-places, formed-row, one-place}
 use Rattle.table.proofs.AddedRow.{put-same}
 use Rattle.join.specs.Join.{refersBy, isExtra, carried, joinPlace, placeIn}
 use Rattle.join.specs.Promises.{placeBehind}
 use Rattle.join.specs.Steps.{Joinable, resultPlace, Numbered, EachPlaced, renumberedBy, Next}
 use Rattle.join.proofs.References.{place-has, place-found, place-is, by-from, by-has}
 use Rattle.join.proofs.PlaceLists.{extra-is}
-use Rattle.join.proofs.TableInvariant.{Joining, joining, room}
+use Rattle.join.proofs.TableInvariant.{TableInvariant, joining, room}
 
-module _ (left right : Bytes) (both : Joinable left right) (k : ℕ) (t : Bytes) (a : Joining left right both k t) where
+module _ (left right : Bytes) (both : Joinable left right) (k : ℕ) (t : Bytes) (a : TableInvariant left right both k t) where
   abbrev n : ℕ
   n = countOf left
 
@@ -68,10 +68,10 @@ module _ (left right : Bytes) (both : Joinable left right) (k : ℕ) (t : Bytes)
     d = digestAt right k
 
     few : c ≤ maxPlaces
-    few = formed-of t (a .formed) .held .fits
+    few = table-form t (a .formed) .held .fits
 
     right-few : countOf right ≤ maxPlaces
-    right-few = formed-of right (both .formed .rightFormed) .held .fits
+    right-few = table-form right (both .formed .rightFormed) .held .fits
 
     -- it is held where its place is below the count
     stands : resultPlace left right k < c → placeIn (viewOf t) d ≡ resultPlace left right k
@@ -150,8 +150,8 @@ module _ (t right : Bytes) (j : ℕ) (places : List ℕ) (next : Next t right j 
   abbrev both : Joinable left right
   both = next .joinable
 
-  so-far : Joining left right both j t
-  so-far = subst (Joining left right both j) (sym (next .is)) (joining left right both j (omega (arith, next .below)))
+  so-far : TableInvariant left right both j t
+  so-far = subst (TableInvariant left right both j) (sym (next .is)) (joining left right both j (omega (arith, next .below)))
 
   place-is-result : getD places j 0 ≡ resultPlace left right j
   place-is-result = next .numbered .at j (next .below)
@@ -160,7 +160,7 @@ module _ (t right : Bytes) (j : ℕ) (places : List ℕ) (next : Next t right j 
   table-sized = formed-places t (so-far .formed)
 
   pub right-place : Place right j
-  right-place = let f = formed-of right (both .formed .rightFormed) in record { size = f .size; place = omega (arith, f .held .fits, next .below) }
+  right-place = let f = table-form right (both .formed .rightFormed) in record { size = f .size; place = omega (arith, f .held .fits, next .below) }
 
   pub each : EachPlaced (referencesAt right j) places
   each = each-placed left right both j t so-far (next .below) places (next .numbered)

@@ -11,7 +11,7 @@ use Rattle.base.proofs.Tests.{by-test}
 use Rattle.table.specs.Form.{inForm}
 use Rattle.join.specs.Join.{joinAnswer, joinedTable, joinedRecords, joined, copied}
 use Rattle.join.specs.Promises.{Shape, Copies, Promises}
-use Rattle.join.specs.Steps.{Passed}
+use Rattle.join.specs.Steps.{JoinableSides}
 use Rattle.join.proofs.CheckedJoin.{passes, joined-passed, copied-passed, value-passed}
 use Rattle.join.proofs.ThirdBuffer.{whole}
 use Rattle.join.proofs.Causes.{causes}
@@ -32,7 +32,7 @@ module _ (left right : Bytes) (leftRecords rightRecords third : List ℕ) where
   refused n = let z = ne-eqb refusal 0 n in (rw z, rw z)
 
   module _ (e : refusal ≡ 0) where
-    p : Passed left right leftRecords rightRecords third
+    p : JoinableSides left right leftRecords rightRecords third
     p = passes left right leftRecords rightRecords third e
 
     table-is : joinedTable left right ≡ t

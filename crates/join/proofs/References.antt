@@ -17,7 +17,7 @@ use Rattle.table.specs.View.{maxPlaces, View}
 use Rattle.table.specs.Layout.{countOf, digestAt, referencesAt, markAt, viewOf}
 use Rattle.table.specs.Rules.{hasDigest}
 use Rattle.table.specs.Form.{inForm}
-use Rattle.table.proofs.InForm.{formed-of, formed-row, one-place}
+use Rattle.table.proofs.InForm.{table-form, formed-row, one-place}
 use Rattle.join.specs.Join.{refersBy, refersWithin, sameBlock, clashes, clashAt, placeIn, interpretedAt}
 
 -- ---- the place of a digest
@@ -40,7 +40,7 @@ pub interpreted-from : (v : View) (i : ℕ) → interpretedAt v i ≡ true → (
 interpreted-from v i y = (ltb-true i (v .held) (and-left (ltb i (v .held)) (eqb (v .row i .mark) 1) y), eqb-true _ 1 (and-right (ltb i (v .held)) (eqb (v .row i .mark) 1) y))
 
 pub interpreted-low : (t : Bytes) → inForm t ≡ true → (i : ℕ) → interpretedAt (viewOf t) i ≡ true → i < maxPlaces
-interpreted-low t f i y = omega (arith, interpreted-from (viewOf t) i y .0, formed-of t f .held .fits)
+interpreted-low t f i y = omega (arith, interpreted-from (viewOf t) i y .0, table-form t f .held .fits)
 
 pub interpreted-here : (t : Bytes) → inForm t ≡ true → (d : Bytes) (i : ℕ) → i < countOf t → digestAt t i ≡ d → markAt t i ≡ 1
     → interpretedAt (viewOf t) (placeIn (viewOf t) d) ≡ true
@@ -72,7 +72,7 @@ by-place t f i h wide d = same-tests _ _
     p = placeIn (viewOf t) d
 
     few : countOf t ≤ maxPlaces
-    few = formed-of t f .held .fits
+    few = table-form t f .held .fits
 
 -- ---- what check 24 compares
 

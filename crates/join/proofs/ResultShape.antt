@@ -11,16 +11,16 @@ use Rattle.base.specs.Bytes.{Bytes}
 use Rattle.base.proofs.Tests.{by-test, not-true-false, same-tests, or-cases, or-true}
 use Rattle.table.specs.View.{maxPlaces, interpreted}
 use Rattle.table.specs.Layout.{countOf, digestAt, markAt, rowAt, viewOf}
-use Rattle.table.proofs.InForm.{formed-of, formed-row, one-place}
+use Rattle.table.proofs.InForm.{table-form, formed-row, one-place}
 use Rattle.join.specs.Join.{refersBy, isExtra, placeIn, interpretedAt, joinedTable, joinedRecords}
 use Rattle.join.specs.Promises.{SameFields, placeBehind, Shape, Copies}
-use Rattle.join.specs.Steps.{Passed}
+use Rattle.join.specs.Steps.{JoinableSides}
 use Rattle.join.proofs.References.{place-has, interpreted-from, by-from}
-use Rattle.join.proofs.TableInvariant.{Carried, Joining}
+use Rattle.join.proofs.TableInvariant.{Carried, TableInvariant}
 use Rattle.join.proofs.PlacesInvariant.{extra-below, extra-at}
 use Rattle.join.proofs.ThirdBuffer.{whole, from-left, marked-by, records-length, records-part, records-rest}
 
-module _ (left right : Bytes) (leftRecords rightRecords third : List ℕ) (p : Passed left right leftRecords rightRecords third) where
+module _ (left right : Bytes) (leftRecords rightRecords third : List ℕ) (p : JoinableSides left right leftRecords rightRecords third) where
   abbrev t : Bytes
   t = joinedTable left right
 
@@ -36,11 +36,11 @@ module _ (left right : Bytes) (leftRecords rightRecords third : List ℕ) (p : P
   abbrev extra : ℕ → Bool
   extra j = isExtra (viewOf left) (viewOf right) j
 
-  all : Joining left right (p .joinable) m t
+  all : TableInvariant left right (p .joinable) m t
   all = whole left right leftRecords rightRecords third p
 
   few : c ≤ maxPlaces
-  few = formed-of t (all .formed) .held .fits
+  few = table-form t (all .formed) .held .fits
 
   -- the place of a block that is not in the left
   module _ (j : ℕ) (h : j < m) (y : extra j ≡ true) where

@@ -21,12 +21,12 @@ use Rattle.base.proofs.Bytes.{same-equal, equal-same, same-other, other-same}
 use Rattle.setup.specs.Setup.{Setup, slotCount}
 use Rattle.block.specs.Limits.{referenceSize, maxReferences}
 use Rattle.table.specs.View.{maxPlaces, Row, interpreted, View}
-use Rattle.table.specs.Layout.{rowStart, setupOf, retiredOf, countOf, digestAt, siteAt, sequenceAt, requestAt, markAt, rowAt, viewOf, withRow, withMark}
+use Rattle.table.specs.Layout.{rowStart, setupOf, retiredOf, countOf, digestAt, siteAt, sequenceAt, countedRequestAt, markAt, rowAt, viewOf, withRow, withMark}
 use Rattle.table.specs.Rules.{hasDigest, placeOf, parentRow, parents, parentRule}
 use Rattle.table.specs.Form.{inForm}
 use Rattle.table.specs.Promises.{Grown, Marked}
 use Rattle.table.proofs.Views.{RowForm, form-row, rule-formed}
-use Rattle.table.proofs.InForm.{formed-of, formed-row, formed-parent, one-place, in-formed}
+use Rattle.table.proofs.InForm.{table-form, formed-row, formed-parent, one-place, in-formed}
 use Rattle.table.proofs.Canonical.{Canonical, row-canonical, mark-canonical}
 use Rattle.table.proofs.AddedRow.{grown, grown-formed}
 use Rattle.table.proofs.MarkedPlace.{marked, marked-formed}
@@ -54,21 +54,21 @@ module _ (left right : Bytes) (both : Joinable left right) where
   extra j = isExtra (viewOf left) (viewOf right) j
 
   few : m ≤ maxPlaces
-  few = formed-of right g .held .fits
+  few = table-form right g .held .fits
 
   -- the row of a place but for its mark
-  pub record Shows (t : Bytes) (p : ℕ) (u : Bytes) (q : ℕ) : Type 0 where
+  pub record PlaceShows (t : Bytes) (p : ℕ) (u : Bytes) (q : ℕ) : Type 0 where
     pub digest : digestAt t p ≡ digestAt u q
     pub site : siteAt t p ≡ siteAt u q
     pub sequence : sequenceAt t p ≡ sequenceAt u q
     pub refersTo : (j : ℕ) → j < maxPlaces → rowAt t p .refersTo j ≡ rowAt u q .refersTo j
-    pub request : (slot : ℕ) → slot < slotCount → requestAt t p slot ≡ requestAt u q slot
+    pub request : (slot : ℕ) → slot < slotCount → countedRequestAt t p slot ≡ countedRequestAt u q slot
 
   -- the right's block j, where it stands in the table
   pub record Carried (t : Bytes) (p j : ℕ) : Type 0 where
     pub site : siteAt t p ≡ siteAt right j
     pub sequence : sequenceAt t p ≡ sequenceAt right j
-    pub request : (slot : ℕ) → slot < slotCount → requestAt t p slot ≡ requestAt right j slot
+    pub request : (slot : ℕ) → slot < slotCount → countedRequestAt t p slot ≡ countedRequestAt right j slot
     pub refers : (q : ℕ) → q < p → rowAt t p .refersTo q ≡ refersBy w j (digestAt t q)
     pub reaches : (i : ℕ) → i < m → rowAt right j .refersTo i ≡ true → (q : ℕ) × (q < p) × (digestAt t q ≡ digestAt right i)
     pub mark : markAt right j ≡ 1 → markAt t p ≡ 1
@@ -90,12 +90,12 @@ module _ (left right : Bytes) (both : Joinable left right) where
     pub mark : markAt right from ≡ 1
 
   -- after the right's places below k
-  pub record Joining (k : ℕ) (t : Bytes) : Type 0 where
+  pub record TableInvariant (k : ℕ) (t : Bytes) : Type 0 where
     pub formed : inForm t ≡ true
     pub setup : setupOf t ≡ setupOf left
     pub retired : retiredOf t ≡ 0
     pub count : countOf t ≡ n + countBelow extra k
-    pub kept : (p : ℕ) → p < n → Shows t p left p
+    pub kept : (p : ℕ) → p < n → PlaceShows t p left p
     pub added : (p : ℕ) → n ≤ p → p < countOf t → Added k t p
     pub placed : (j : ℕ) → j < k → (p : ℕ) × (p < countOf t) × (digestAt t p ≡ digestAt right j)
     pub same : (p j : ℕ) → p < countOf t → j < k → digestAt t p ≡ digestAt right j → Carried t p j
@@ -105,10 +105,10 @@ module _ (left right : Bytes) (both : Joinable left right) where
 
   -- ---- the start
 
-  shows-self : (t : Bytes) (p : ℕ) → Shows t p t p
+  shows-self : (t : Bytes) (p : ℕ) → PlaceShows t p t p
   shows-self t p = record { digest = refl; site = refl; sequence = refl; refersTo = λ j h. refl; request = λ slot h. refl }
 
-  starts : Joining 0 left
+  starts : TableInvariant 0 left
   unfolding countBelow
   starts =
       record {
@@ -127,7 +127,7 @@ module _ (left right : Bytes) (both : Joinable left right) where
 
   -- ---- one place of the right
 
-  module _ (k : ℕ) (below : k < m) (t : Bytes) (a : Joining k t) where
+  module _ (k : ℕ) (below : k < m) (t : Bytes) (a : TableInvariant k t) where
     abbrev c : ℕ
     c = countOf t
 
@@ -141,7 +141,7 @@ module _ (left right : Bytes) (both : Joinable left right) where
     most = count-grows extra k m (omega arith)
 
     held-few : c ≤ maxPlaces
-    held-few = formed-of t (a .formed) .held .fits
+    held-few = table-form t (a .formed) .held .fits
 
     left-within : n ≤ c
     left-within = omega (arith, a .count)
@@ -162,7 +162,7 @@ module _ (left right : Bytes) (both : Joinable left right) where
           let x = a .added p (omega (arith, ltb-false p n z)) at in
           absurd (row .new (x .from) (x .below) (sym (x .digest) ∙ e)))
 
-      old : Shows t p left p
+      old : PlaceShows t p left p
       old = a .kept p in-left
 
       digest-left : digestAt left p ≡ d
@@ -182,7 +182,7 @@ module _ (left right : Bytes) (both : Joinable left right) where
       low q h = a .kept q (omega (arith, in-left)) .digest
 
       left-few : n ≤ maxPlaces
-      left-few = formed-of left f .held .fits
+      left-few = table-form left f .held .fits
 
       refers-is : (q : ℕ) → q < p → rowAt t p .refersTo q ≡ refersBy w k (digestAt t q)
       refers-is q h =
@@ -205,7 +205,7 @@ module _ (left right : Bytes) (both : Joinable left right) where
         setup : setupOf t′ ≡ setupOf t
         retired : retiredOf t′ ≡ retiredOf t
         count : countOf t′ ≡ countOf t
-        rows : (q : ℕ) → Shows t′ q t q
+        rows : (q : ℕ) → PlaceShows t′ q t q
         up : (q : ℕ) → markAt t q ≡ 1 → markAt t′ q ≡ 1
         down : (q : ℕ) → markAt t′ q ≡ 1 → (markAt t q ≡ 1) ⊎ ((q ≡ p) × (markAt right k ≡ 1))
         others : (q : ℕ) → n ≤ q → markAt t′ q ≡ markAt t q
@@ -235,7 +235,7 @@ module _ (left right : Bytes) (both : Joinable left right) where
               mark = x .sets;
             }
 
-        touched-next : Joining (suc k) t′
+        touched-next : TableInvariant (suc k) t′
         touched-next =
             record {
               formed = x .formed;
@@ -298,7 +298,7 @@ module _ (left right : Bytes) (both : Joinable left right) where
       -- where it has, the place is marked
       module _ (y : markAt right k ≡ 1) where
         is : Marked t (withMark t p) p
-        is = marked t p (formed-of t (a .formed) .size) (omega (arith, at, held-few))
+        is = marked t p (table-form t (a .formed) .size) (omega (arith, at, held-few))
 
         mark-there : markAt (withMark t p) p ≡ 1
         mark-there = is .rows p .mark ∙ rw (eq-eqb p p refl)
@@ -306,7 +306,7 @@ module _ (left right : Bytes) (both : Joinable left right) where
         touched : Touched (withMark t p)
         touched =
             record {
-              formed = in-formed (withMark t p) (marked-formed t (withMark t p) p (formed-of t (a .formed)) is at
+              formed = in-formed (withMark t p) (marked-formed t (withMark t p) p (table-form t (a .formed)) is at
                   (λ q h z. ready y q (omega (arith, at)) (sym (refers-is q h) ∙ z)));
               setup = is .setup;
               retired = is .retired;
@@ -318,7 +318,7 @@ module _ (left right : Bytes) (both : Joinable left right) where
                   (λ o. inl (sym (is .rows q .mark ∙ rw o) ∙ z));
               others = λ q h. is .rows q .mark ∙ by-test (eqb q p) (λ o. absurd (omega (arith, in-left, eqb-true q p o))) (λ o. rw o);
               sets = λ z. mark-there;
-              canonical = mark-canonical t p (formed-of t (a .formed) .size) at held-few;
+              canonical = mark-canonical t p (table-form t (a .formed) .size) at held-few;
             }
 
     -- ---- its block is not held
@@ -338,7 +338,7 @@ module _ (left right : Bytes) (both : Joinable left right) where
           omega (arith, a .count, both .fits)
 
       digest-whole : length d ≡ referenceSize
-      digest-whole = length-take-le referenceSize (drop (rowStart k) right) (omega (arith, length-drop (rowStart k) right, formed-of right g .size, few))
+      digest-whole = length-take-le referenceSize (drop (rowStart k) right) (omega (arith, length-drop (rowStart k) right, table-form right g .size, few))
 
       abbrev r : Row
       r = carried (viewOf t) w k
@@ -347,7 +347,7 @@ module _ (left right : Bytes) (both : Joinable left right) where
       t′ = withRow t r
 
       gr : Grown t t′ r
-      gr = grown t r (formed-of t (a .formed) .size) room digest-whole
+      gr = grown t r (table-form t (a .formed) .size) room digest-whole
 
       refers-new : (q : ℕ) → q < c → rowAt t′ c .refersTo q ≡ refersBy w k (digestAt t q)
       refers-new q h = gr .here .refersTo q (omega (arith, room)) ∙ rw (lt-ltb q c h)
@@ -457,10 +457,10 @@ module _ (left right : Bytes) (both : Joinable left right) where
       unfolding countBelow
       count-new = gr .count ∙ rw is-extra (omega (arith, a .count))
 
-      grown-next : Joining (suc k) t′
+      grown-next : TableInvariant (suc k) t′
       grown-next =
           record {
-            formed = in-formed t′ (grown-formed t t′ r (formed-of t (a .formed)) room gr (form-row (setupOf t) (viewOf t′) c new-form));
+            formed = in-formed t′ (grown-formed t t′ r (table-form t (a .formed)) room gr (form-row (setupOf t) (viewOf t′) c new-form));
             setup = gr .setup ∙ a .setup;
             retired = gr .retired ∙ a .retired;
             count = count-new;
@@ -499,7 +499,7 @@ module _ (left right : Bytes) (both : Joinable left right) where
               | inl o ↦ inl o
               | inr o ↦ inr (record { from = o .from; below = omega (arith, o .below); digest = o .digest; mark = o .mark })
             ];
-            canonical = λ o. row-canonical t r (formed-of t (a .formed) .size) room digest-whole (a .canonical o);
+            canonical = λ o. row-canonical t r (table-form t (a .formed) .size) room digest-whole (a .canonical o);
           }
         where
           last : (q : ℕ) → q < countOf t′ → (q ≡ c) ⊎ (q < c)
@@ -511,7 +511,7 @@ module _ (left right : Bytes) (both : Joinable left right) where
           there q j (inr b) (inl z) y = absurd (not-held q b (gr .below q b .digest ∙ y ∙ ap (digestAt right) z))
           there q j (inr b) (inr e) y = carry-on q j b (a .same q j b e (gr .below q b .digest ∙ y))
 
-    next : Joining (suc k) (joinPlace t w k)
+    next : TableInvariant (suc k) (joinPlace t w k)
     unfolding joinPlace
     next = by-test (anyBelow (hasDigest (viewOf t) d) c)
         (λ y. let p : ℕ = placeOf (viewOf t) c d in
@@ -524,11 +524,11 @@ module _ (left right : Bytes) (both : Joinable left right) where
 
   -- ---- all places of the right
 
-  pub joining : (k : ℕ) → k ≤ m → Joining k (joinBelow left w k)
+  pub joining : (k : ℕ) → k ≤ m → TableInvariant k (joinBelow left w k)
   unfolding joinBelow
   joining zero h = starts
   joining (suc k) h = next k h (joinBelow left w k) (joining k (omega arith))
 
   -- they leave the table's length
   pub below-size : (k : ℕ) → k ≤ m → (t : Bytes) → t ≡ joinBelow left w k → length t ≡ length left
-  below-size k h t e = ap length e ∙ formed-of _ (joining k h .formed) .size ∙ sym (formed-of left f .size)
+  below-size k h t e = ap length e ∙ table-form _ (joining k h .formed) .size ∙ sym (table-form left f .size)

@@ -15,15 +15,15 @@ use Rattle.base.proofs.Tests.{by-test, true-not-false}
 use Rattle.base.proofs.Splice.{splice-nothing, length-splice}
 use Rattle.table.specs.View.{maxPlaces, interpreted, View}
 use Rattle.table.specs.Layout.{countOf, digestAt, markAt, rowAt, viewOf}
-use Rattle.table.proofs.InForm.{formed-of, one-place}
+use Rattle.table.proofs.InForm.{table-form, one-place}
 use Rattle.records.specs.Layout.{partSize, bufferSize, partStart, partOf}
 use Rattle.records.proofs.Parts.{part-written, part-other}
 use Rattle.join.specs.Join.{placeIn, interpretedAt, handedBack, partFor, copiedBelow, joinedTable, joinedRecords}
-use Rattle.join.specs.Steps.{Passed}
+use Rattle.join.specs.Steps.{JoinableSides}
 use Rattle.join.proofs.References.{place-has, interpreted-from, interpreted-here}
-use Rattle.join.proofs.TableInvariant.{Joining, joining}
+use Rattle.join.proofs.TableInvariant.{TableInvariant, joining}
 
-module _ (left right : Bytes) (leftRecords rightRecords third : List ℕ) (p : Passed left right leftRecords rightRecords third) where
+module _ (left right : Bytes) (leftRecords rightRecords third : List ℕ) (p : JoinableSides left right leftRecords rightRecords third) where
   abbrev n : ℕ
   n = countOf left
 
@@ -39,11 +39,11 @@ module _ (left right : Bytes) (leftRecords rightRecords third : List ℕ) (p : P
   abbrev c : ℕ
   c = countOf t
 
-  pub whole : Joining left right (p .joinable) m t
+  pub whole : TableInvariant left right (p .joinable) m t
   whole = joining left right (p .joinable) m (omega arith)
 
   pub few : c ≤ maxPlaces
-  few = formed-of t (whole .formed) .held .fits
+  few = table-form t (whole .formed) .held .fits
 
   pub left-within : n ≤ c
   left-within = omega (arith, whole .count)
@@ -126,7 +126,7 @@ module _ (left right : Bytes) (leftRecords rightRecords third : List ℕ) (p : P
   part-length q h y = elim (source q h) [
     | inl o ↦ ap length (o .is) ∙ length-part leftRecords (p .sides .leftSize) q (omega (arith, few))
     | inr u ↦ elim u [
-      | inl o ↦ ap length (o .is) ∙ length-part rightRecords (p .sides .rightSize) (o .from) (omega (arith, o .below, formed-of right (p .joinable .formed .rightFormed) .held .fits))
+      | inl o ↦ ap length (o .is) ∙ length-part rightRecords (p .sides .rightSize) (o .from) (omega (arith, o .below, table-form right (p .joinable .formed .rightFormed) .held .fits))
       | inr o ↦ absurd (o .unmarked y)
     ]
   ]

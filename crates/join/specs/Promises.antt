@@ -12,7 +12,7 @@ use Rattle.base.specs.Bytes.{Bytes}
 use Rattle.answer.specs.declared.Answer.{Answer}
 use Rattle.setup.specs.Setup.{slotCount}
 use Rattle.table.specs.View.{maxPlaces, interpreted}
-use Rattle.table.specs.Layout.{setupOf, retiredOf, countOf, digestAt, siteAt, sequenceAt, requestAt, rowAt, viewOf}
+use Rattle.table.specs.Layout.{setupOf, retiredOf, countOf, digestAt, siteAt, sequenceAt, countedRequestAt, rowAt, viewOf}
 use Rattle.table.specs.Form.{inForm}
 use Rattle.records.specs.Layout.{bufferSize, partOf}
 use Rattle.join.specs.Join.{refersBy, sameBlock, isExtra, joinedCount, joinAnswer, placeIn, interpretedAt, partFor, joined, copied}
@@ -25,7 +25,7 @@ pub record BothFormed (left right : Bytes) : Type 0 where
   pub rightFormed : inForm right ≡ true
 
 -- and 12
-pub record Whole (left right : Bytes) (leftRecords rightRecords third : List ℕ) : Type 0 where
+pub record BuffersSized (left right : Bytes) (leftRecords rightRecords third : List ℕ) : Type 0 where
   pub leftFormed : inForm left ≡ true
   pub rightFormed : inForm right ≡ true
   pub leftSize : length leftRecords ≡ bufferSize
@@ -34,7 +34,7 @@ pub record Whole (left right : Bytes) (leftRecords rightRecords third : List ℕ
 
 -- and 31
 pub record Unretired (left right : Bytes) (leftRecords rightRecords third : List ℕ) : Type 0 where
-  pub isWhole : Whole left right leftRecords rightRecords third
+  pub buffersSized : BuffersSized left right leftRecords rightRecords third
   pub leftRetired : retiredOf left ≡ 0
   pub rightRetired : retiredOf right ≡ 0
 
@@ -64,7 +64,7 @@ pub record Causes (left right : Bytes) (leftRecords rightRecords third : List �
   pub twelve : (answer .refusal ≡ 12)
       ↔ (BothFormed left right × ((length leftRecords ≢ bufferSize) ⊎ ((length rightRecords ≢ bufferSize) ⊎ (length third ≢ bufferSize))))
   -- 31: either table has retired something
-  pub thirtyOne : (answer .refusal ≡ 31) ↔ (Whole left right leftRecords rightRecords third × ((retiredOf left ≢ 0) ⊎ (retiredOf right ≢ 0)))
+  pub thirtyOne : (answer .refusal ≡ 31) ↔ (BuffersSized left right leftRecords rightRecords third × ((retiredOf left ≢ 0) ⊎ (retiredOf right ≢ 0)))
   pub twentyThree : (answer .refusal ≡ 23) ↔ (Unretired left right leftRecords rightRecords third × (setupOf left ≢ setupOf right))
   pub twentyFour : (answer .refusal ≡ 24) ↔ (OneSetup left right leftRecords rightRecords third × ((i : ℕ) × Clash left right i))
   pub twentyFive : (answer .refusal ≡ 25) ↔ (Apart left right leftRecords rightRecords third × (maxPlaces < joinedCount (viewOf left) (viewOf right)))
@@ -81,7 +81,7 @@ pub record SameFields (t : Bytes) (p : ℕ) (u : Bytes) (q : ℕ) : Type 0 where
   pub digest : digestAt t p ≡ digestAt u q
   pub site : siteAt t p ≡ siteAt u q
   pub sequence : sequenceAt t p ≡ sequenceAt u q
-  pub request : (slot : ℕ) → slot < slotCount → requestAt t p slot ≡ requestAt u q slot
+  pub request : (slot : ℕ) → slot < slotCount → countedRequestAt t p slot ≡ countedRequestAt u q slot
 
 -- where the right's block j stands if it is not in the left
 abbrev pub placeBehind : Bytes → Bytes → ℕ → ℕ

@@ -53,7 +53,7 @@ pub record Joinable (left right : Bytes) : Type 0 where
   pub fits : joinedCount (viewOf left) (viewOf right) ≤ maxPlaces
 
 -- all of them, with the records
-pub record Passed (left right : Bytes) (leftRecords rightRecords third : List ℕ) : Type 0 where
+pub record JoinableSides (left right : Bytes) (leftRecords rightRecords third : List ℕ) : Type 0 where
   pub joinable : Joinable left right
   pub sides : Sides left right leftRecords rightRecords
   pub size : length third ≡ bufferSize
@@ -61,7 +61,7 @@ pub record Passed (left right : Bytes) (leftRecords rightRecords third : List �
 -- ---- where blocks stand, as a list of places
 
 -- for each place of `other` the place of its block in the table, or the table's count
-pub record Held (table other : Bytes) (places : List ℕ) : Type 0 where
+pub record PlacesFound (table other : Bytes) (places : List ℕ) : Type 0 where
   pub size : length places ≡ maxPlaces
   pub at : (k : ℕ) → k < countOf other → getD places k 0 ≡ placeIn (viewOf table) (digestAt other k)
 
@@ -92,8 +92,8 @@ renumberedBy references places = maskBelow (λ p. anyBelow (λ k. inMask referen
 -- a place of each side, and where the blocks of each side stand in the other
 pub record Pair (left : Bytes) (i : ℕ) (right : Bytes) (j : ℕ) (inRight inLeft : List ℕ) : Type 0 where
   pub formed : BothFormed left right
-  pub there : Held right left inRight
-  pub back : Held left right inLeft
+  pub there : PlacesFound right left inRight
+  pub back : PlacesFound left right inLeft
   pub first : i < countOf left
   pub second : j < countOf right
 

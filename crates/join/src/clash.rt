@@ -8,11 +8,11 @@ ghost use Rattle.base.specs.Search.{firstBelow, allBelow};
 ghost use Rattle.base.specs.Mask.{inMask};
 ghost use Rattle.setup.specs.Setup.{slotCount};
 ghost use Rattle.table.specs.View.{maxPlaces};
-ghost use Rattle.table.specs.Layout.{countOf, requestAt, viewOf};
+ghost use Rattle.table.specs.Layout.{countOf, countedRequestAt, viewOf};
 ghost use Rattle.table.specs.Steps.{Place};
 ghost use Rattle.join.specs.Join.{sameBlock, clashAt};
 ghost use Rattle.join.specs.Promises.{BothFormed};
-ghost use Rattle.join.specs.Steps.{Held, Pair, withinBy};
+ghost use Rattle.join.specs.Steps.{PlacesFound, Pair, withinBy};
 
 // Whether a place, which may be none, is in the mask.
 fn is_in(mask: u64, place: usize) -> bool
@@ -43,7 +43,7 @@ fn refers_within(references: u64, places: &[u8], mask: u64) -> bool
 // Whether the counted requests of two places are the same.
 fn same_requests(table: &[u8], i: usize, other: &[u8], j: usize) -> bool
     requires { ⌜ Place (now table) i × Place (now other) j ⌝ }
-    ensures { λ r. ⌜ r ≡ allBelow (λ slot. eqb (requestAt (now (table .entry)) i slot) (requestAt (now (other .entry)) j slot)) slotCount ⌝ }
+    ensures { λ r. ⌜ r ≡ allBelow (λ slot. eqb (countedRequestAt (now (table .entry)) i slot) (countedRequestAt (now (other .entry)) j slot)) slotCount ⌝ }
 {
     let mut slot = 0;
     while slot < setup::SLOTS {
@@ -86,7 +86,7 @@ fn same_block(
 
 // Whether the right has the block of the left's place i with other fields or references.
 fn clash_at(left: &[u8], i: usize, right: &[u8], in_right: &[u8], in_left: &[u8]) -> bool
-    requires { ⌜ BothFormed (now left) (now right) × Held (now right) (now left) (now «in_right») × Held (now left) (now right) (now «in_left») × (i < countOf (now left)) ⌝ }
+    requires { ⌜ BothFormed (now left) (now right) × PlacesFound (now right) (now left) (now «in_right») × PlacesFound (now left) (now right) (now «in_left») × (i < countOf (now left)) ⌝ }
     ensures { λ r. ⌜ r ≡ clashAt (viewOf (now (left .entry))) (viewOf (now (right .entry))) i ⌝ }
 {
     let j = base::wide(in_right[i]);
@@ -98,7 +98,7 @@ fn clash_at(left: &[u8], i: usize, right: &[u8], in_right: &[u8], in_left: &[u8]
 
 // The lowest place of the left that clashes with one of the right, or the left's count.
 pub fn first_clash(left: &[u8], right: &[u8], in_right: &[u8], in_left: &[u8]) -> usize
-    requires { ⌜ BothFormed (now left) (now right) × Held (now right) (now left) (now «in_right») × Held (now left) (now right) (now «in_left») ⌝ }
+    requires { ⌜ BothFormed (now left) (now right) × PlacesFound (now right) (now left) (now «in_right») × PlacesFound (now left) (now right) (now «in_left») ⌝ }
     ensures { λ r. ⌜ r ≡ firstBelow (clashAt (viewOf (now (left .entry))) (viewOf (now (right .entry)))) (countOf (now (left .entry))) ⌝ }
 {
     let count = rows::count_of(left);

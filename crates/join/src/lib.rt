@@ -15,7 +15,7 @@ ghost use Rattle.answer.specs.Checks.{answerTo};
 ghost use Rattle.table.specs.Layout.{tableSize, setupOf};
 ghost use Rattle.join.specs.Join.{neitherRetired, sameSetup, joinAnswer, joinedTable, joinedRecords, joined, copied};
 ghost use Rattle.join.specs.Promises.{BothFormed, OneSetup};
-ghost use Rattle.join.specs.Steps.{sidesChecks, blocksAnswer, blocksTable, blocksRecords, Passed, Held, Numbered};
+ghost use Rattle.join.specs.Steps.{sidesChecks, blocksAnswer, blocksTable, blocksRecords, JoinableSides, PlacesFound, Numbered};
 
 // Whether neither of two tables has retired anything.
 fn neither_retired(left: &[u8], right: &[u8]) -> bool
@@ -75,7 +75,7 @@ fn sides_answer(
 
 // The checks of the blocks, 24 and 25. Where they pass, `places` has for each place of the right the place of its block in the result.
 fn blocks_answer(left: &[u8], right: &[u8], in_right: &[u8], places: &mut [u8]) -> Answer
-    requires { ⌜ BothFormed (now left) (now right) × Held (now right) (now left) (now «in_right») × Held (now left) (now right) (now places) ⌝ }
+    requires { ⌜ BothFormed (now left) (now right) × PlacesFound (now right) (now left) (now «in_right») × PlacesFound (now left) (now right) (now places) ⌝ }
     ensures { λ r. ⌜ r ≡ blocksAnswer (now (left .entry)) (now (right .entry)) ⌝ }
     ensures { λ r. ⌜ (r .refusal ≡ 0 → Numbered (now (left .entry)) (now (right .entry)) (now (places .exit))) ⌝ }
 {
@@ -100,7 +100,7 @@ fn join_sides<'a>(
     places: &[u8],
     third: &mut [u16],
 )
-    requires { ⌜ Passed (now left) (now right) (now «left_records») (now «right_records») (now third) × Held (now right) (now left) (now «in_right») × Numbered (now left) (now right) (now places) ⌝ }
+    requires { ⌜ JoinableSides (now left) (now right) (now «left_records») (now «right_records») (now third) × PlacesFound (now right) (now left) (now «in_right») × Numbered (now left) (now right) (now places) ⌝ }
     ensures { λ _. ⌜ now (left .exit) ≡ joinedTable (now (left .entry)) (now (right .entry)) ⌝ }
     ensures { λ _. ⌜ now (third .exit) ≡ joinedRecords (now (left .entry)) (now (right .entry)) (now («left_records» .entry)) (now («right_records» .entry)) (now (third .entry)) ⌝ }
 {

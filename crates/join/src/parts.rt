@@ -9,7 +9,7 @@ ghost use Rattle.table.specs.Layout.{countOf, viewOf};
 ghost use Rattle.table.specs.Steps.{Places};
 ghost use Rattle.records.specs.Layout.{bufferSize, partStart};
 ghost use Rattle.join.specs.Join.{interpretedAt, handedBack, copiedBelow};
-ghost use Rattle.join.specs.Steps.{Sides, Joinable, Held, Numbered, extrasBelow};
+ghost use Rattle.join.specs.Steps.{Sides, Joinable, PlacesFound, Numbered, extrasBelow};
 
 // Whether a place, which may be none, holds an interpreted block.
 fn interpreted_at(table: &[u8], i: usize) -> bool
@@ -71,7 +71,7 @@ pub fn copy_left<'a>(
     in_right: &[u8],
     third: &mut [u16],
 )
-    requires { ⌜ Joinable (now left) (now right) × Sides (now left) (now right) (now «left_records») (now «right_records») × Held (now right) (now left) (now «in_right») × (length (now third) ≡ bufferSize) ⌝ }
+    requires { ⌜ Joinable (now left) (now right) × Sides (now left) (now right) (now «left_records») (now «right_records») × PlacesFound (now right) (now left) (now «in_right») × (length (now third) ≡ bufferSize) ⌝ }
     ensures { λ _. ⌜ now (third .exit) ≡ copiedBelow (viewOf (now (left .entry))) (viewOf (now (right .entry))) (now («left_records» .entry)) (now («right_records» .entry)) (now (left .entry)) (now (third .entry)) (countOf (now (left .entry))) ⌝ }
 {
     let count = rows::count_of(left);

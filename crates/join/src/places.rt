@@ -7,12 +7,12 @@ ghost use Rattle.table.specs.View.{maxPlaces};
 ghost use Rattle.table.specs.Layout.{viewOf};
 ghost use Rattle.join.specs.Join.{joinedCount};
 ghost use Rattle.join.specs.Promises.{BothFormed};
-ghost use Rattle.join.specs.Steps.{Held, Numbered};
+ghost use Rattle.join.specs.Steps.{PlacesFound, Numbered};
 
 // For each place of `other` the place of its block in the table, or the table's count.
 pub fn place_all(table: &[u8], other: &[u8], places: &mut [u8])
     requires { ⌜ BothFormed (now table) (now other) × (length (now places) ≡ maxPlaces) ⌝ }
-    ensures { λ _. ⌜ Held (now (table .entry)) (now (other .entry)) (now (places .exit)) ⌝ }
+    ensures { λ _. ⌜ PlacesFound (now (table .entry)) (now (other .entry)) (now (places .exit)) ⌝ }
 {
     let index = index::index_of(table);
     let count = rows::count_of(other);
@@ -26,7 +26,7 @@ pub fn place_all(table: &[u8], other: &[u8], places: &mut [u8])
 
 // Gives each block of the right that is not in the left the next place behind the left's; how many blocks the two have together.
 pub fn number_extras(left: &[u8], right: &[u8], places: &mut [u8]) -> usize
-    requires { ⌜ BothFormed (now left) (now right) × Held (now left) (now right) (now places) ⌝ }
+    requires { ⌜ BothFormed (now left) (now right) × PlacesFound (now left) (now right) (now places) ⌝ }
     ensures { λ r. ⌜ r ≡ joinedCount (viewOf (now (left .entry))) (viewOf (now (right .entry))) ⌝ }
     ensures { λ _. ⌜ Numbered (now (left .entry)) (now (right .entry)) (now (places .exit)) ⌝ }
 {

@@ -18,7 +18,7 @@ use Rattle.history.specs.Forks.{forked, NoCollision}
 use Rattle.run.specs.Ledger.{Call, Ledger}
 use Rattle.run.specs.Run.{Site}
 use Rattle.run.specs.Promises.{deliveredEntry, Delivered, SiteKeeps, ledgerOf, siteWith}
-use Rattle.agreement.specs.TwoSites.{Promised}
+use Rattle.agreement.specs.TwoSites.{TwoSites}
 use Rattle.agreement.proofs.TwoSites.{promised}
 use Rattle.joined.specs.Promises.{ShowsDelivered, Reachable}
 
@@ -52,7 +52,7 @@ module _ (digest : Bytes → Bytes) (sized : (b : Bytes) → length (digest b) �
       (omega (arith, count-mono (forked mine) (forked (blocks ++ other)) (s .sites) (λ p l y. forked-more mine (blocks ++ other) more p y)))
       slot v w h (inl (first v d)) (elim e [ inl u ↦ inl (first w u) | inr u ↦ inr (shown-delivered _ _ (all .second) (λ a b m n. safe a b (Memᴰ·append-right blocks m) (Memᴰ·append-right blocks n)) slot w u) ])
     where
-      all : Promised digest s third buffer (r .calls) calls
+      all : TwoSites digest s third buffer (r .calls) calls
       all = promised digest sized s law third buffer (r .calls) calls
 
       other : List Bytes

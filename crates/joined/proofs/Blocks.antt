@@ -15,21 +15,21 @@ use Rattle.block.specs.Promises.{Shaped}
 use Rattle.block.specs.declared.Reading.the-variants.{Block}
 use Rattle.block.proofs.Acceptance.{reading-accepted}
 use Rattle.table.specs.View.{maxPlaces, View}
-use Rattle.table.specs.Layout.{countOf, digestAt, siteAt, sequenceAt, requestAt, rowAt, viewOf}
-use Rattle.table.proofs.InForm.{formed-of, formed-row, one-place}
+use Rattle.table.specs.Layout.{countOf, digestAt, siteAt, sequenceAt, countedRequestAt, rowAt, viewOf}
+use Rattle.table.proofs.InForm.{table-form, formed-row, one-place}
 use Rattle.admission.specs.Admission.{lists}
 use Rattle.admission.proofs.ReferenceList.{lists-member, member-lists}
 use Rattle.join.specs.Join.{refersBy, placeIn, joinedTable}
-use Rattle.join.specs.Steps.{Passed}
+use Rattle.join.specs.Steps.{JoinableSides}
 use Rattle.join.proofs.References.{place-found, place-has, by-from, by-has}
-use Rattle.join.proofs.TableInvariant.{Shows, Carried, Joining}
+use Rattle.join.proofs.TableInvariant.{PlaceShows, Carried, TableInvariant}
 use Rattle.join.proofs.ThirdBuffer.{whole}
 use Rattle.run.proofs.SiteInvariant.{Rows}
 
 shaped : (b : Bytes) → reading b ≡ Block (fieldsOf b) → Shaped b
 shaped b e = reading-accepted b (fieldsOf b) e .accepted .shape
 
-module _ (digest : Bytes → Bytes) (left right : Bytes) (leftRecords rightRecords third : List ℕ) (p : Passed left right leftRecords rightRecords third)
+module _ (digest : Bytes → Bytes) (left right : Bytes) (leftRecords rightRecords third : List ℕ) (p : JoinableSides left right leftRecords rightRecords third)
     (blockL blockR : ℕ → Bytes) (rowsL : Rows digest left blockL) (rowsR : Rows digest right blockR) where
   abbrev t : Bytes
   t = joinedTable left right
@@ -46,11 +46,11 @@ module _ (digest : Bytes → Bytes) (left right : Bytes) (leftRecords rightRecor
   abbrev w : View
   w = viewOf right
 
-  all : Joining left right (p .joinable) m t
+  all : TableInvariant left right (p .joinable) m t
   all = whole left right leftRecords rightRecords third p
 
   few : c ≤ maxPlaces
-  few = formed-of t (all .formed) .held .fits
+  few = table-form t (all .formed) .held .fits
 
   within : n ≤ c
   within = omega (arith, all .count)
@@ -60,7 +60,7 @@ module _ (digest : Bytes → Bytes) (left right : Bytes) (leftRecords rightRecor
     digests : digestAt t q ≡ digest b
     site : siteAt t q ≡ siteOf b
     sequence : sequenceAt t q ≡ sequenceOf b
-    request : (slot : ℕ) → slot < slotCount → requestAt t q slot ≡ requestFor b slot
+    request : (slot : ℕ) → slot < slotCount → countedRequestAt t q slot ≡ requestFor b slot
     refers : (a : ℕ) → a < c → rowAt t q .refersTo a ≡ lists b (digestAt t a)
     linked : (r : Bytes) → List·Memᴰ r (referencesOf b) → (a : ℕ) × (a < c) × (digestAt t a ≡ r)
     accepted : reading b ≡ Block (fieldsOf b)
@@ -78,7 +78,7 @@ module _ (digest : Bytes → Bytes) (left right : Bytes) (leftRecords rightRecor
   -- ---- the left's places
 
   module _ (q : ℕ) (h : q < n) where
-    old : Shows left right (p .joinable) t q left q
+    old : PlaceShows left right (p .joinable) t q left q
     old = all .kept q h
 
     low-left : (r : Bytes) → List·Memᴰ r (referencesOf (blockL q)) → (a : ℕ) × (a < q) × (digestAt t a ≡ r)

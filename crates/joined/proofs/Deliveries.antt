@@ -10,8 +10,8 @@ use Rattle.setup.specs.Setup.{Setup}
 use Rattle.table.specs.Layout.{countOf, markAt}
 use Rattle.records.specs.Layout.{recordSize, partOf}
 use Rattle.join.specs.Join.{joinedTable, joinedRecords}
-use Rattle.join.specs.Steps.{Passed}
-use Rattle.join.proofs.TableInvariant.{Joining}
+use Rattle.join.specs.Steps.{JoinableSides}
+use Rattle.join.proofs.TableInvariant.{TableInvariant}
 use Rattle.join.proofs.ThirdBuffer as handed
 use Rattle.run.specs.Run.{Site}
 use Rattle.run.specs.Promises.{deliveredEntry}
@@ -31,7 +31,7 @@ shown-by x y slot v i d h m e =
       entry = ap (λ (b : List ℕ). getD b (recordSize * slot + deliveredEntry) 0) e ∙ d .entry;
     }
 
-module _ (x y : Site) (third : List ℕ) (p : Passed (x .table) (y .table) (x .records) (y .records) third) (s : Setup)
+module _ (x y : Site) (third : List ℕ) (p : JoinableSides (x .table) (y .table) (x .records) (y .records) third) (s : Setup)
     (fixedLeft : Fixed s (x .table) (x .records)) (fixedRight : Fixed s (y .table) (y .records)) (slot v : ℕ) where
   abbrev t : Bytes
   t = joinedTable (x .table) (y .table)
@@ -39,7 +39,7 @@ module _ (x y : Site) (third : List ℕ) (p : Passed (x .table) (y .table) (x .r
   abbrev result : Site
   result = record { table = t; records = joinedRecords (x .table) (y .table) (x .records) (y .records) third }
 
-  whole : Joining (x .table) (y .table) (p .joinable) (countOf (y .table)) t
+  whole : TableInvariant (x .table) (y .table) (p .joinable) (countOf (y .table)) t
   whole = handed.whole (x .table) (y .table) (x .records) (y .records) third p
 
   abbrev Shown : Site → Type 0

@@ -15,19 +15,19 @@ use Rattle.setup.specs.Setup.{Setup}
 use Rattle.table.specs.View.{maxPlaces, View}
 use Rattle.table.specs.Layout.{countOf, digestAt, siteAt, sequenceAt, markAt, rowAt, viewOf}
 use Rattle.table.specs.Form.{inForm}
-use Rattle.table.proofs.InForm.{formed-of, formed-row, formed-parent, one-place}
+use Rattle.table.proofs.InForm.{table-form, formed-row, formed-parent, one-place}
 use Rattle.records.specs.Layout.{partOf}
 use Rattle.interpret.specs.Interpretation.{written}
 use Rattle.interpret.proofs.Relocation.{Stands, written-same, written-kept}
 use Rattle.join.specs.Join.{refersBy, partFor, copiedBelow, joinedTable, joinedRecords}
-use Rattle.join.specs.Steps.{Passed}
+use Rattle.join.specs.Steps.{JoinableSides}
 use Rattle.join.proofs.References.{by-from, by-has}
-use Rattle.join.proofs.TableInvariant.{Shows, Carried, Joining}
+use Rattle.join.proofs.TableInvariant.{PlaceShows, Carried, TableInvariant}
 use Rattle.join.proofs.ThirdBuffer as handed
 use Rattle.run.proofs.SiteInvariant.{Fixed}
 use Rattle.run.proofs.Reachability.{restored}
 
-module _ (left right : Bytes) (leftRecords rightRecords third : List ℕ) (p : Passed left right leftRecords rightRecords third) where
+module _ (left right : Bytes) (leftRecords rightRecords third : List ℕ) (p : JoinableSides left right leftRecords rightRecords third) where
   abbrev n : ℕ
   n = countOf left
 
@@ -60,7 +60,7 @@ module _ (left right : Bytes) (leftRecords rightRecords third : List ℕ) (p : P
   rightFormed : inForm right ≡ true
   rightFormed = p .joinable .formed .rightFormed
 
-  whole : Joining left right (p .joinable) m t
+  whole : TableInvariant left right (p .joinable) m t
   whole = handed.whole left right leftRecords rightRecords third p
 
   few : c ≤ maxPlaces
@@ -99,7 +99,7 @@ module _ (left right : Bytes) (leftRecords rightRecords third : List ℕ) (p : P
       its = whole .same q j l h e
 
       module _ (o : FromLeft q) where
-        old : Shows left right (p .joinable) t q left q
+        old : PlaceShows left right (p .joinable) t q left q
         old = whole .kept q (o .below)
 
         -- a block that both refer to
@@ -114,10 +114,10 @@ module _ (left right : Bytes) (leftRecords rightRecords third : List ℕ) (p : P
             (sym (kept .site) ∙ x .site, sym (kept .sequence) ∙ x .sequence, sym (left-part a na lm) ∙ ih i li a (omega (arith, within)) d rm)
 
         left-few : n ≤ maxPlaces
-        left-few = formed-of left leftFormed .held .fits
+        left-few = table-form left leftFormed .held .fits
 
         right-few : m ≤ maxPlaces
-        right-few = formed-of right rightFormed .held .fits
+        right-few = table-form right rightFormed .held .fits
 
         refers-left : (a : ℕ) → a < q → rowAt left q .refersTo a ≡ refersBy w j (digestAt t a)
         refers-left a la = sym (old .refersTo a (omega (arith, o .below, left-few))) ∙ its .refers a la
@@ -192,7 +192,7 @@ module _ (left right : Bytes) (leftRecords rightRecords third : List ℕ) (p : P
       carried-here = whole .same q j h (o .below) (o .digest)
 
       few-right : m ≤ maxPlaces
-      few-right = formed-of right rightFormed .held .fits
+      few-right = table-form right rightFormed .held .fits
 
       -- a block that it refers to, in the right and in the result
       pair : (i a : ℕ) → i < j → a < q → rowAt right j .refersTo i ≡ true → digestAt t a ≡ digestAt right i

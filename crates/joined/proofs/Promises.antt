@@ -18,18 +18,18 @@ use Rattle.table.specs.Layout.{setupOf, retiredOf, countOf}
 use Rattle.table.proofs.Canonical.{Canonical}
 use Rattle.records.specs.Layout.{bufferSize}
 use Rattle.join.specs.Join.{joinedTable, joinedRecords}
-use Rattle.join.specs.Steps.{Passed}
+use Rattle.join.specs.Steps.{JoinableSides}
 use Rattle.join.proofs.CheckedJoin.{passes, joined-passed, copied-passed}
-use Rattle.join.proofs.TableInvariant.{Joining}
+use Rattle.join.proofs.TableInvariant.{TableInvariant}
 use Rattle.join.proofs.ThirdBuffer.{whole, records-length}
 use Rattle.run.specs.Ledger.{Call, Ledger}
 use Rattle.run.specs.Run.{Site, started, siteAfter}
 use Rattle.run.specs.Promises.{ledgerOf, siteWith}
-use Rattle.run.proofs.LedgerPlaces.{Standing, standing}
+use Rattle.run.proofs.LedgerPlaces.{LedgerPlaces, standing}
 use Rattle.run.proofs.Runs.{after-append}
 use Rattle.run.proofs.Growth.{none-retired}
 use Rattle.run.proofs.Promises.{run}
-use Rattle.run.proofs.SiteInvariant.{Fixed, Reached, reached, Rows, reached-rows}
+use Rattle.run.proofs.SiteInvariant.{Fixed, SiteInvariant, reached, Rows, reached-rows}
 use Rattle.run.proofs.Reachability.{callsOf, retraced, calls-among}
 use Rattle.agreement.proofs.TwoSites.{promised}
 use Rattle.arrival.proofs.Theorem as arrival
@@ -42,8 +42,8 @@ use Rattle.joined.proofs.Agreement.{agreed}
 module _ (digest : Bytes → Bytes) (sized : (b : Bytes) → length (digest b) ≡ referenceSize) where
   -- two sites that calls reached, joined
   module _ (s z : Setup) (law : lawful s ≡ true) (size₁ size₂ : ℕ) (l₁ l₂ : Ledger) (x y : Site)
-      (r₁ : Reached digest sized s size₁ l₁ x) (r₂ : Reached digest sized z size₂ l₂ y) (third : List ℕ) (e : CanJoin x y third) where
-    p : Passed (x .table) (y .table) (x .records) (y .records) third
+      (r₁ : SiteInvariant digest sized s size₁ l₁ x) (r₂ : SiteInvariant digest sized z size₂ l₂ y) (third : List ℕ) (e : CanJoin x y third) where
+    p : JoinableSides (x .table) (y .table) (x .records) (y .records) third
     p = passes (x .table) (y .table) (x .records) (y .records) third e
 
     abbrev t : Bytes
@@ -58,14 +58,14 @@ module _ (digest : Bytes → Bytes) (sized : (b : Bytes) → length (digest b) �
     abbrev records : List ℕ
     records = joinedRecords (x .table) (y .table) (x .records) (y .records) third
 
-    all : Joining (x .table) (y .table) (p .joinable) (countOf (y .table)) t
+    all : TableInvariant (x .table) (y .table) (p .joinable) (countOf (y .table)) t
     all = whole (x .table) (y .table) (x .records) (y .records) third p
 
     set : setupOf t ≡ s
-    set = all .setup ∙ r₁ .together .tied .setup
+    set = all .setup ∙ r₁ .invariant .simulated .setup
 
     one-setup : z ≡ s
-    one-setup = sym (r₂ .together .tied .setup) ∙ sym (p .joinable .setup) ∙ r₁ .together .tied .setup
+    one-setup = sym (r₂ .invariant .simulated .setup) ∙ sym (p .joinable .setup) ∙ r₁ .invariant .simulated .setup
 
     rows₁ : Rows digest (x .table) (l₁ .block)
     rows₁ = reached-rows digest sized s size₁ l₁ x r₁
@@ -112,11 +112,11 @@ module _ (digest : Bytes → Bytes) (sized : (b : Bytes) → length (digest b) �
 
     -- what is admitted
 
-    stand₁ : Standing digest l₁ (x .table)
-    stand₁ = standing digest sized s size₁ l₁ x (r₁ .together)
+    stand₁ : LedgerPlaces digest l₁ (x .table)
+    stand₁ = standing digest sized s size₁ l₁ x (r₁ .invariant)
 
-    stand₂ : Standing digest l₂ (y .table)
-    stand₂ = standing digest sized z size₂ l₂ y (r₂ .together)
+    stand₂ : LedgerPlaces digest l₂ (y .table)
+    stand₂ = standing digest sized z size₂ l₂ y (r₂ .invariant)
 
     block-among : (i : ℕ) → i < c → List·Memᴰ (block i) (l₁ .blocks ++ l₂ .blocks)
     block-among i h = by-test (ltb i n)
@@ -134,9 +134,9 @@ module _ (digest : Bytes → Bytes) (sized : (b : Bytes) → length (digest b) �
 
   -- a site whose table says so has retired nothing
   unretired-reached : (s : Setup) → lawful s ≡ true → (buffer : List ℕ) (calls : List Call) → retiredOf (siteWith digest s buffer calls .table) ≡ 0
-      → Reached digest sized s (length buffer) (ledgerOf digest s buffer calls) (siteWith digest s buffer calls)
+      → SiteInvariant digest sized s (length buffer) (ledgerOf digest s buffer calls) (siteWith digest s buffer calls)
   unretired-reached s law buffer calls e =
-      reached digest sized s law buffer calls (none-retired (ledgerOf digest s buffer calls .retired) (sym (run digest sized s law buffer calls .tied .retired) ∙ e))
+      reached digest sized s law buffer calls (none-retired (ledgerOf digest s buffer calls .retired) (sym (run digest sized s law buffer calls .simulated .retired) ∙ e))
 
   pub covered : (s z : Setup) → lawful s ≡ true → lawful z ≡ true → (buffer₁ buffer₂ third : List ℕ) (calls₁ calls₂ : List Call)
       → CanJoin (left digest s z buffer₁ buffer₂ third calls₁ calls₂) (right digest s z buffer₁ buffer₂ third calls₁ calls₂) third

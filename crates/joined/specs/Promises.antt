@@ -15,8 +15,8 @@ use Rattle.history.specs.Forks.{forked, NoCollision}
 use Rattle.run.specs.Ledger.{Call}
 use Rattle.run.specs.Run.{Site, siteAfter}
 use Rattle.run.specs.Promises.{deliveredEntry, ledgerOf, siteWith}
-use Rattle.agreement.specs.TwoSites.{Promised}
-use Rattle.arrival.specs.Arrival.{Arrival}
+use Rattle.agreement.specs.TwoSites.{TwoSites}
+use Rattle.arrival.specs.Arrival.{ArrivalPromise}
 
 -- what joining two sites leaves: the left's table, and the third buffer
 abbrev pub joinOf : Site → Site → List ℕ → Site
@@ -65,8 +65,8 @@ module _ (digest : Bytes → Bytes) where
       pub delivered : (slot v : ℕ) → ShowsDelivered result slot v ↔ (ShowsDelivered left slot v ⊎ ShowsDelivered right slot v)
       -- whatever calls it goes on by, it is a site of both theorems, beside any further site
       pub goesOn : (more : List Call) → siteWith digest s third (reachable .calls ++ more) ≡ siteAfter digest result more
-      pub promised : (more : List Call) (buffer₃ : List ℕ) (calls₃ : List Call) → Promised digest s third buffer₃ (reachable .calls ++ more) calls₃
-      pub arrives : (more : List Call) → Arrival digest s third (reachable .calls ++ more)
+      pub promised : (more : List Call) (buffer₃ : List ℕ) (calls₃ : List Call) → TwoSites digest s third buffer₃ (reachable .calls ++ more) calls₃
+      pub arrives : (more : List Call) → ArrivalPromise digest s third (reachable .calls ++ more)
       -- "so agreement covers joined tables too", told without those calls: where at most f sites forked, in the two ledgers and that of a
       -- further site, the result and that site show one number for a slot
       pub agreement : (buffer₃ : List ℕ) (calls₃ : List Call)

@@ -1,6 +1,10 @@
--- The laws of the record buffer. Typed and Flattened are about a record and its numbers, Parts about a place's part and its records, Moving about
--- parts one place lower. Other crates' proofs cite them.
+-- The laws of the record buffer. Other crates' proofs cite them.
+
+-- a record that code holds has an entry for each site
 pub mod EntryCounts
+-- a record and its forty numbers
 pub mod RecordNumbers
+-- a place's part and its eight records
 pub mod Parts
+-- the parts of a buffer one place lower
 pub mod Moving

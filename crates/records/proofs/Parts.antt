@@ -8,11 +8,11 @@ use lib.Dec.{ltb}
 use lib.ListN.{length, getD, take, drop}
 use lib.Seq.{drop-drop, getD-take, getD-drop}
 use borrow.Author.Tests.{ltb-true, ltb-false}
-use Rattle.base.specs.Bytes.{partAt, parts, joined, splice}
+use Rattle.base.specs.Bytes.{partAt, parts, concat, splice}
 use Rattle.base.specs.List.{listBelow}
 use Rattle.base.proofs.Tests.{by-test}
 use Rattle.base.proofs.List.{length-list, list-at}
-use Rattle.base.proofs.Parts.{part-of-front, EachSize, length-joined, joined-list-more, parts-at, parts-joined}
+use Rattle.base.proofs.Parts.{part-of-front, EachSize, length-joined, concat-list-more, parts-at, parts-joined}
 use Rattle.base.proofs.Splice.{splice-part-low, splice-part-in, take-splice, drop-splice}
 use Rattle.setup.specs.Setup.{slotCount}
 use Rattle.broadcast.specs.declared.SlotRecord.{SlotRecord}
@@ -39,9 +39,9 @@ module _ (records : ℕ → SlotRecord) (s : (slot : ℕ) → slot < slotCount �
   pub numbers-part : (slot : ℕ) → slot < slotCount → partAt recordSize (numbersOf records) slot ≡ flat slot
   unfolding numbersOf
   numbers-part slot h =
-      sym (parts-at slotCount recordSize (joined (listBelow flat slotCount)) slot h)
-      ∙ ap (λ (n : ℕ). getD (parts n recordSize (joined (listBelow flat slotCount))) slot []) (sym (length-list flat slotCount))
-      ∙ ap (λ (l : List ℕ). getD (parts (length (listBelow flat slotCount)) recordSize l) slot []) (sym (append-nil (joined (listBelow flat slotCount))))
+      sym (parts-at slotCount recordSize (concat (listBelow flat slotCount)) slot h)
+      ∙ ap (λ (n : ℕ). getD (parts n recordSize (concat (listBelow flat slotCount))) slot []) (sym (length-list flat slotCount))
+      ∙ ap (λ (l : List ℕ). getD (parts (length (listBelow flat slotCount)) recordSize l) slot []) (sym (append-nil (concat (listBelow flat slotCount))))
       ∙ ap (λ (x : List (List ℕ)). getD x slot []) (parts-joined recordSize (listBelow flat slotCount) [] flat-size)
       ∙ list-at flat slotCount slot [] h
 
@@ -64,11 +64,11 @@ module _ (records : ℕ → SlotRecord) (s : (slot : ℕ) → slot < slotCount �
           ∙ sym (part-of-front (recordSize * slot) recordSize partSize (drop (partStart i) buffer) (omega arith))
 
 -- one record more, put behind those of the slots below k
-pub put-more : (f : ℕ → List ℕ) (out out′ x : List ℕ) (k : ℕ) → recordSize * k ≤ length out → take (recordSize * k) out ≡ joined (listBelow f k)
-    → x ≡ f k → length x ≡ recordSize → out′ ≡ splice out (recordSize * k) x → take (recordSize * (k + 1)) out′ ≡ joined (listBelow f (k + 1))
+pub put-more : (f : ℕ → List ℕ) (out out′ x : List ℕ) (k : ℕ) → recordSize * k ≤ length out → take (recordSize * k) out ≡ concat (listBelow f k)
+    → x ≡ f k → length x ≡ recordSize → out′ ≡ splice out (recordSize * k) x → take (recordSize * (k + 1)) out′ ≡ concat (listBelow f (k + 1))
 put-more f out out′ x k h p e l q =
     let n : recordSize * (k + 1) ≡ recordSize * k + length x = omega arith in
-    rw (n, q, take-splice out (recordSize * k) x h, p, e, joined-list-more f k)
+    rw (n, q, take-splice out (recordSize * k) x h, p, e, concat-list-more f k)
 
 -- ---- the buffer after a part was written
 

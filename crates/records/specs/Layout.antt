@@ -4,7 +4,7 @@ use mathlib.Core.List.{List, [], _∷_, _++_}
 use Prim.Native.Nat.{ℕ, _+_, _*_}
 use lib.ListN.{getD, take, drop}
 use Rattle.base.specs.List.{listBelow}
-use Rattle.base.specs.Bytes.{partAt, joined}
+use Rattle.base.specs.Bytes.{partAt, concat}
 use Rattle.setup.specs.Setup.{maxSites, slotCount}
 use Rattle.broadcast.specs.declared.Sent.{Sent}
 use Rattle.broadcast.specs.declared.SlotRecord.{SlotRecord}
@@ -77,4 +77,4 @@ deliveredIn buffer i slot = recordIn buffer i slot .made .delivered
 
 -- eight records in a row, one for each slot
 unfoldable pub numbersOf : (ℕ → SlotRecord) → List ℕ
-numbersOf records = joined (listBelow (λ slot. flatten (records slot)) slotCount)
+numbersOf records = concat (listBelow (λ slot. flatten (records slot)) slotCount)

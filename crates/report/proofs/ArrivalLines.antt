@@ -12,9 +12,9 @@ use Rattle.base.proofs.Tests.{by-test}
 use Rattle.block.specs.Limits.{maxBlockSize}
 use Rattle.run.specs.Run.{Site}
 use Rattle.report.specs.Text.{unreadLine}
-use Rattle.report.specs.Arrivals.{lengthSize, verdictSize, blockLength, arrivalSize, overlong, cut, firstVerdict, firstBlock, behind}
+use Rattle.report.specs.Arrivals.{lengthSize, verdictSize, blockLength, arrivalSize, overlong, cut, firstVerdict, firstBlock, afterFirst}
 use Rattle.report.specs.Listing.{siteArrived}
-use Rattle.report.specs.Framing.{wantedBy, countLimit, following, expecting, outcome, stepBy, siteBy}
+use Rattle.report.specs.Framing.{wantedBy, countLimit, following, expecting, outcomeOf, stepBy, siteBy}
 use Rattle.report.specs.declared.Expected.the-variants.{Length, Block, Skip}
 use Rattle.report.specs.declared.State.{State}
 use Rattle.report.proofs.Ways.{length-cut, length-over, length-fits}
@@ -39,7 +39,7 @@ module _ (digest : Bytes → Bytes) where
 
   -- a whole length, where what is behind the arrival is listed from every site
   module _ (arrival : ℕ) (x : Site) (high low : ℕ) (input : Bytes) (few : suc arrival < countLimit)
-      (then : (y : Site) → Lists (suc arrival) y (behind (high ∷ low ∷ input))) where
+      (then : (y : Site) → Lists (suc arrival) y (afterFirst (high ∷ low ∷ input))) where
     abbrev b : Bytes
     b = high ∷ low ∷ input
 
@@ -52,7 +52,7 @@ module _ (digest : Bytes → Bytes) where
     some : 1 ≤ length b
     some = omega arith
 
-    behind-lists : (y : Site) → Writes digest (expecting Length (following arrival)) y (drop (verdictSize + size) input) (listingIn digest (suc arrival) y (behind b))
+    behind-lists : (y : Site) → Writes digest (expecting Length (following arrival)) y (drop (verdictSize + size) input) (listingIn digest (suc arrival) y (afterFirst b))
     behind-lists y =
         let counted : following arrival ≡ suc arrival = omega arith in
         rw (counted, drop-drop (verdictSize + size) lengthSize b) (then y)
@@ -61,9 +61,9 @@ module _ (digest : Bytes → Bytes) where
     unfolding stepBy siteBy wantedBy
     overlong-lists long =
         rw (overlong-listed digest arrival x b some long)
-        (goes-on digest length-next x b (outcome (Skip (verdictSize + size)) (following arrival) (unreadLine arrival)) x (listingIn digest (suc arrival) x (behind b))
+        (goes-on digest length-next x b (outcomeOf (Skip (verdictSize + size)) (following arrival) (unreadLine arrival)) x (listingIn digest (suc arrival) x (afterFirst b))
         (length-over arrival (high ∷ low ∷ []) (omega arith) long) refl (omega arith) some
-        (skipped digest (following arrival) x (verdictSize + size) input (listingIn digest (suc arrival) x (behind b)) (omega arith) (behind-lists x)))
+        (skipped digest (following arrival) x (verdictSize + size) input (listingIn digest (suc arrival) x (afterFirst b)) (omega arith) (behind-lists x)))
 
     module _ (fits : overlong b ≡ false) where
       small : size ≤ maxBlockSize
@@ -72,7 +72,7 @@ module _ (digest : Bytes → Bytes) where
       block-next : (text : Bytes) → Writes digest (expecting (Block size) arrival) x input text → Writes digest length-next x b text
       unfolding stepBy siteBy wantedBy
       block-next text w =
-          goes-on digest length-next x b (outcome (Block size) arrival []) x text
+          goes-on digest length-next x b (outcomeOf (Block size) arrival []) x text
           (length-fits arrival (high ∷ low ∷ []) (omega arith) fits) refl (omega arith) some w
 
       cut-lists : length b < arrivalSize b → Lists arrival x b
@@ -90,7 +90,7 @@ module _ (digest : Bytes → Bytes) where
         (λ whole. whole-lists fits (ltb-false (length b) (arrivalSize b) whole)))
 
   first-lists : (arrival : ℕ) (x : Site) (b : Bytes) → arrival + length b < countLimit
-      → (1 ≤ length b → (y : Site) → Lists (suc arrival) y (behind b)) → Lists arrival x b
+      → (1 ≤ length b → (y : Site) → Lists (suc arrival) y (afterFirst b)) → Lists arrival x b
   first-lists arrival x [] few then = none-lists arrival x
   first-lists arrival x (high ∷ []) few then = half-lists arrival x high
   first-lists arrival x (high ∷ low ∷ b) few then = length-lists arrival x high low b (omega arith) (then (omega arith))
@@ -99,7 +99,7 @@ module _ (digest : Bytes → Bytes) where
   lists-within : (n arrival : ℕ) (x : Site) (b : Bytes) → length b ≤ n → arrival + length b < countLimit → Lists arrival x b
   lists-within zero arrival x b h few = first-lists arrival x b few (λ some y. absurd (omega arith))
   lists-within (suc n) arrival x b h few = first-lists arrival x b few
-      (λ some y. lists-within n (suc arrival) y (behind b) (omega (arith, behind-shorter b some)) (omega (arith, behind-shorter b some)))
+      (λ some y. lists-within n (suc arrival) y (afterFirst b) (omega (arith, behind-shorter b some)) (omega (arith, behind-shorter b some)))
 
   pub lists : (arrival : ℕ) (x : Site) (b : Bytes) → arrival + length b < countLimit → Lists arrival x b
   lists arrival x b few = lists-within (length b) arrival x b (omega arith) few

@@ -82,9 +82,9 @@ module _ (x : Site) (b : Bytes) (verdict arrival : ℕ) (a : Answer) (t : Bytes)
     module _ (interpreted : i .refusal ≡ 0) where
       pub place-there : (length r ≡ bufferSize) × (a .value < maxPlaces)
       place-there =
-          let h = promises .causes t (x .records) (a .value) .none .0 (number-of (sym interpreting) ∙ interpreted) .0 .isHeld in (
-            ap length writes ∙ promises .sized t (x .records) (a .value) ∙ h .isWhole .size,
-            omega (arith, h .below, formed-places t (h .isWhole .formed) .bound),
+          let h = promises .causes t (x .records) (a .value) .none .0 (number-of (sym interpreting) ∙ interpreted) .0 .placeHeld in (
+            ap length writes ∙ promises .sized t (x .records) (a .value) ∙ h .recordsSized .size,
+            omega (arith, h .below, formed-places t (h .recordsSized .formed) .bound),
           )
 
       pub delivered-lines : deliveryLines r arrival (a .value) (siteOf b) (sequenceOf b) ≡ arrivalLines sha256 x b verdict arrival

@@ -16,7 +16,7 @@ use Rattle.run.specs.Run.{Site, siteAnswer, siteStep, siteAfter}
 use Rattle.run.proofs.Growth.{NoneBack}
 use Rattle.report.specs.Arrivals.{Arrival, arrived, unread}
 use Rattle.report.specs.Listing.{admissionAnswer, interpretationCall, siteArrived, arrivalRefusal}
-use Rattle.report.specs.ListingCalls.{callsOf}
+use Rattle.report.specs.ListingCalls.{arrivalCalls}
 
 module _ (x : Site) (b : Bytes) (verdict : ℕ) where
   -- what the admission answers, and the table that it leaves
@@ -75,8 +75,8 @@ module _ (x : Site) (b : Bytes) (verdict : ℕ) where
   site-after-calls = by-test (eqb number 0) (λ y. rw y) (λ n. rw n (refused-step n))
 
 -- arrivals take nothing back
-pub none-back : (x : Site) (arrivals : List Arrival) → NoneBack (callsOf x arrivals)
-unfolding callsOf
+pub none-back : (x : Site) (arrivals : List Arrival) → NoneBack (arrivalCalls x arrivals)
+unfolding arrivalCalls
 none-back x [] = tt
 none-back x (unread ∷ rest) = none-back x rest
 none-back x (arrived b verdict ∷ rest) =

@@ -21,7 +21,7 @@ use Rattle.history.proofs.Ancestry.{history-agree}
 use Rattle.run.specs.Ledger.{Call, admit, interpret, retire, takeBack, Ledger, taken, ledgerAnswer, ledgerStep, ledgerAfter}
 use Rattle.run.specs.Run.{Site, siteStep}
 use Rattle.run.specs.Promises.{InterpretedBlock, deliveredEntry, Delivered}
-use Rattle.run.proofs.Runs.{Together, step-together}
+use Rattle.run.proofs.Runs.{RunInvariant, step-invariant}
 use Rattle.run.proofs.Growth.{isTakingBack, NoneBack, step-keeps, after-keeps}
 use Rattle.run.proofs.LedgerPlaces.{interpreted-among, one-history-each, safe-clear}
 
@@ -46,7 +46,7 @@ module _ (digest : Bytes → Bytes) (sized : (b : Bytes) → length (digest b) �
   interpreted-stays l retire n b (inr m) = inr (List·Memᴰ·tail m)
   interpreted-stays l takeBack n b w = true-not-false refl n
 
-  module _ (l : Ledger) (x : Site) (t : Together digest sized s size l x) (c : Call) (keeping : isTakingBack c ≡ false) where
+  module _ (l : Ledger) (x : Site) (t : RunInvariant digest sized s size l x) (c : Call) (keeping : isTakingBack c ≡ false) where
     abbrev l′ : Ledger
     l′ = ledgerStep digest s size l c
 
@@ -65,8 +65,8 @@ module _ (digest : Bytes → Bytes) (sized : (b : Bytes) → length (digest b) �
         later : (d : Bytes) → List·Memᴰ d (l .blocks) → List·Memᴰ d (l′ .blocks)
         later = step-keeps digest s size l c keeping
 
-        t′ : Together digest sized s size l′ (siteStep digest x c)
-        t′ = step-together digest sized s size l x t c
+        t′ : RunInvariant digest sized s size l′ (siteStep digest x c)
+        t′ = step-invariant digest sized s size l x t c
 
     step-stays : NoCollision digest (l′ .blocks) → Delivered digest s l slot v → Delivered digest s l′ slot v
     step-stays safe d =
@@ -78,11 +78,11 @@ module _ (digest : Bytes → Bytes) (sized : (b : Bytes) → length (digest b) �
           entry = ap (λ (h : History). getD (meaning s h) (recordSize * slot + deliveredEntry) 0) (sym (history-stays safe (d .block) m)) ∙ d .entry;
         }
 
-  pub delivered-stays : (l : Ledger) (x : Site) → Together digest sized s size l x → (calls : List Call) → NoneBack calls → NoCollision digest (ledgerAfter digest s size l calls .blocks)
+  pub delivered-stays : (l : Ledger) (x : Site) → RunInvariant digest sized s size l x → (calls : List Call) → NoneBack calls → NoCollision digest (ledgerAfter digest s size l calls .blocks)
       → Delivered digest s l slot v → Delivered digest s (ledgerAfter digest s size l calls) slot v
   unfolding ledgerAfter
   delivered-stays l x t [] none safe d = d
   delivered-stays l x t (c ∷ calls) none safe d =
       let keeps = after-keeps digest s size (ledgerStep digest s size l c) calls (none .1) in
-      delivered-stays (ledgerStep digest s size l c) (siteStep digest x c) (step-together digest sized s size l x t c) calls (none .1) safe
+      delivered-stays (ledgerStep digest s size l c) (siteStep digest x c) (step-invariant digest sized s size l x t c) calls (none .1) safe
       (step-stays l x t c (none .0) (λ a b i j. safe a b (keeps a i) (keeps b j)) d)

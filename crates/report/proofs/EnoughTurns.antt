@@ -7,7 +7,7 @@ use native.Mathlib.Omega.{arith}
 use lib.ListN.{length, take, drop, length-drop}
 use Rattle.base.specs.Bytes.{Bytes}
 use Rattle.run.specs.Run.{Site}
-use Rattle.report.specs.Framing.{wantedBy, wanted, expecting, Outcome, outcome, stepBy, stepped, siteBy, siteStepped, run}
+use Rattle.report.specs.Framing.{wantedBy, wanted, expecting, Outcome, outcomeOf, stepBy, stepped, siteBy, siteStepped, run}
 use Rattle.report.specs.declared.Expected.the-variants.{Length, End}
 use Rattle.report.specs.declared.State.{State}
 use Rattle.report.proofs.Ways.{length-none}
@@ -24,7 +24,7 @@ module _ (digest : Bytes → Bytes) where
   ended (suc turns) arrival x input = ended turns arrival x input
 
   module _ (s : State) (x : Site) (input : Bytes) where
-    pub stops : (arrival : ℕ) (lines : Bytes) → stepped digest s x (take (wanted s) input) ≡ outcome End arrival lines → Writes s x input lines
+    pub stops : (arrival : ℕ) (lines : Bytes) → stepped digest s x (take (wanted s) input) ≡ outcomeOf End arrival lines → Writes s x input lines
     unfolding run
     stops arrival lines e zero h = absurd (omega arith)
     stops arrival lines e (suc turns) h =

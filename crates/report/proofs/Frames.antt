@@ -11,10 +11,10 @@ use Rattle.base.specs.Bytes.{Bytes}
 use Rattle.base.proofs.Tests.{by-test}
 use Rattle.run.specs.Run.{Site}
 use Rattle.report.specs.Text.{unreadLine}
-use Rattle.report.specs.Arrivals.{Arrival, arrived, unread, arrivalSize, overlong, firstVerdict, firstBlock, behind, firstArrival, arrivals, arrivalsIn}
+use Rattle.report.specs.Arrivals.{Arrival, arrived, unread, arrivalSize, overlong, firstVerdict, firstBlock, afterFirst, firstArrival, arrivals, arrivalsIn}
 use Rattle.report.specs.Listing.{siteArrived, arrivalLines, listingFrom}
 
-pub behind-shorter : (b : Bytes) → 1 ≤ length b → length (behind b) < length b
+pub behind-shorter : (b : Bytes) → 1 ≤ length b → length (afterFirst b) < length b
 behind-shorter b some = omega (arith, length-drop (arrivalSize b) b)
 
 -- ---- the first arrival and those behind it
@@ -32,15 +32,15 @@ enough zero m (y ∷ b) h l = absurd (omega arith)
 enough (suc k) m [] h l = sym (none-of-nothing m)
 enough (suc k) zero (y ∷ b) h l = absurd (omega arith)
 enough (suc k) (suc m) (y ∷ b) h l =
-    let short : length (behind (y ∷ b)) < length (y ∷ b) = behind-shorter (y ∷ b) (omega arith) in
-    ap (λ (rest : List Arrival). firstArrival (y ∷ b) ∷ rest) (enough k m (behind (y ∷ b)) (omega arith) (omega arith))
+    let short : length (afterFirst (y ∷ b)) < length (y ∷ b) = behind-shorter (y ∷ b) (omega arith) in
+    ap (λ (rest : List Arrival). firstArrival (y ∷ b) ∷ rest) (enough k m (afterFirst (y ∷ b)) (omega arith) (omega arith))
 
-first-and-behind : (b : Bytes) → 1 ≤ length b → arrivalsIn b ≡ firstArrival b ∷ arrivalsIn (behind b)
+first-and-behind : (b : Bytes) → 1 ≤ length b → arrivalsIn b ≡ firstArrival b ∷ arrivalsIn (afterFirst b)
 unfolding arrivalsIn arrivals
 first-and-behind [] some = absurd (omega arith)
 first-and-behind (y ∷ b) some =
-    let short : length (behind (y ∷ b)) < length (y ∷ b) = behind-shorter (y ∷ b) some in
-    ap (λ (rest : List Arrival). firstArrival (y ∷ b) ∷ rest) (enough (length b) (length (behind (y ∷ b))) (behind (y ∷ b)) (omega arith) (omega arith))
+    let short : length (afterFirst (y ∷ b)) < length (y ∷ b) = behind-shorter (y ∷ b) some in
+    ap (λ (rest : List Arrival). firstArrival (y ∷ b) ∷ rest) (enough (length b) (length (afterFirst (y ∷ b))) (afterFirst (y ∷ b)) (omega arith) (omega arith))
 
 -- ---- whether the first is read
 
@@ -68,26 +68,26 @@ module _ (digest : Bytes → Bytes) where
   nothing-listed arrival x = refl
 
   module _ (arrival : ℕ) (x : Site) (b : Bytes) (some : 1 ≤ length b) where
-    first-listed : (a : Arrival) → firstArrival b ≡ a → listingIn arrival x b ≡ listingFrom digest arrival x (a ∷ arrivalsIn (behind b))
-    first-listed a e = ap (listingFrom digest arrival x) (first-and-behind b some ∙ ap (λ (f : Arrival). f ∷ arrivalsIn (behind b)) e)
+    first-listed : (a : Arrival) → firstArrival b ≡ a → listingIn arrival x b ≡ listingFrom digest arrival x (a ∷ arrivalsIn (afterFirst b))
+    first-listed a e = ap (listingFrom digest arrival x) (first-and-behind b some ∙ ap (λ (f : Arrival). f ∷ arrivalsIn (afterFirst b)) e)
 
-    unread-listed : firstArrival b ≡ unread → listingIn arrival x b ≡ unreadLine arrival ++ listingIn (suc arrival) x (behind b)
+    unread-listed : firstArrival b ≡ unread → listingIn arrival x b ≡ unreadLine arrival ++ listingIn (suc arrival) x (afterFirst b)
     unfolding listingFrom
     unread-listed e = first-listed unread e
 
-    pub overlong-listed : overlong b ≡ true → listingIn arrival x b ≡ unreadLine arrival ++ listingIn (suc arrival) x (behind b)
+    pub overlong-listed : overlong b ≡ true → listingIn arrival x b ≡ unreadLine arrival ++ listingIn (suc arrival) x (afterFirst b)
     overlong-listed long = unread-listed (overlong-unread b long)
 
     -- nothing follows one that is cut
     pub cut-listed : length b < arrivalSize b → listingIn arrival x b ≡ unreadLine arrival
     cut-listed short =
-        let none : behind b ≡ [] = drop-of-length-le b {i = arrivalSize b} (omega arith) in
+        let none : afterFirst b ≡ [] = drop-of-length-le b {i = arrivalSize b} (omega arith) in
         unread-listed (cut-unread b short)
         ∙ ap (λ (rest : Bytes). unreadLine arrival ++ rest) (ap (listingIn (suc arrival) x) none ∙ nothing-listed (suc arrival) x)
         ∙ append-nil (unreadLine arrival)
 
     pub whole-listed : overlong b ≡ false → arrivalSize b ≤ length b
         → listingIn arrival x b
-        ≡ arrivalLines digest x (firstBlock b) (firstVerdict b) arrival ++ listingIn (suc arrival) (siteArrived digest x (firstBlock b) (firstVerdict b)) (behind b)
+        ≡ arrivalLines digest x (firstBlock b) (firstVerdict b) arrival ++ listingIn (suc arrival) (siteArrived digest x (firstBlock b) (firstVerdict b)) (afterFirst b)
     unfolding listingFrom
     whole-listed fits whole = first-listed (arrived (firstBlock b) (firstVerdict b)) (whole-arrived b fits whole)

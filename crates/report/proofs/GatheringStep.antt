@@ -13,7 +13,7 @@ use Rattle.base.proofs.Tests.{by-test}
 use Rattle.sha256.specs.Sha256.{sha256}
 use Rattle.run.specs.Run.{Site}
 use Rattle.report.specs.Framing.{wanted, Outcome, stepped, linesSize, linesOf, handed}
-use Rattle.report.specs.Gathering.{siteWith, Gathering, noSteps, isDue, pieceAt, outcomeAt, siteSteppedAt, due, oneMore, gatherOn, gathering}
+use Rattle.report.specs.Gathering.{lentSite, Gathering, noSteps, isDue, pieceAt, outcomeAt, siteSteppedAt, due, oneMore, gatherOn, gathering}
 use Rattle.report.specs.Steps.{advanced}
 use Rattle.report.specs.declared.State.{State}
 use Rattle.report.specs.declared.Gathered.{Gathered}
@@ -60,7 +60,7 @@ module _ (s : State) (x : Site) (used end : ℕ) (unread : Bytes) (q : Stepped) 
 -- what the steps so far came to, with their lines and their number
 abbrev pub soFar : Bytes → List ℕ → Gathered → Bytes → ℕ → Gathering
 soFar table records done lines steps =
-    record { state = done .state; site = siteWith table records; used = done .used; lines = lines; steps = steps }
+    record { state = done .state; site = lentSite table records; used = done .used; lines = lines; steps = steps }
 
 -- ---- the loop: the bytes that came, whether more may come, the output before, and the state and the site before
 module _ (unread : Bytes) (isEnded : Bool) (output : Bytes) (s : State) (x : Site) where
@@ -116,14 +116,14 @@ module _ (unread : Bytes) (isEnded : Bool) (output : Bytes) (s : State) (x : Sit
       has-room = omega (arith, is-due isEnded (done .state) (length unread - done .used) (length out - done .length) d .fits)
 
       module _ (table₁ : Bytes) (records₁ : List ℕ) (out₁ : Bytes) (done₁ : Gathered)
-          (e : done₁ ≡ advanced sha256 done (siteWith table records) unread)
-          (t : table₁ ≡ siteSteppedAt sha256 (done .state) (siteWith table records) (done .used) unread .table)
-          (r : records₁ ≡ siteSteppedAt sha256 (done .state) (siteWith table records) (done .used) unread .records) where
+          (e : done₁ ≡ advanced sha256 done (lentSite table records) unread)
+          (t : table₁ ≡ siteSteppedAt sha256 (done .state) (lentSite table records) (done .used) unread .table)
+          (r : records₁ ≡ siteSteppedAt sha256 (done .state) (lentSite table records) (done .used) unread .records) where
         abbrev next : Gathering
         next = oneMore sha256 unread isEnded size g
 
         abbrev lines₁ : Bytes
-        lines₁ = l .lines ++ outcomeAt sha256 (done .state) (siteWith table records) (done .used) unread .lines
+        lines₁ = l .lines ++ outcomeAt sha256 (done .state) (lentSite table records) (done .used) unread .lines
 
         g₁-next : soFar table₁ records₁ done₁ lines₁ (suc (l .steps)) ≡ next
         g₁-next = rw (e, t, r)
@@ -143,7 +143,7 @@ module _ (unread : Bytes) (isEnded : Bool) (output : Bytes) (s : State) (x : Sit
             ∙ ap (λ (n : ℕ). gatherOn sha256 unread isEnded size n g) k
             ∙ l .leads
 
-        pub leads-next : out₁ ≡ splice out (done .length) (outcomeAt sha256 (done .state) (siteWith table records) (done .used) unread .lines)
+        pub leads-next : out₁ ≡ splice out (done .length) (outcomeAt sha256 (done .state) (lentSite table records) (done .used) unread .lines)
             → done₁ .length ≤ length out → Leads table₁ records₁ out₁ done₁
         leads-next o f =
             record {
@@ -151,7 +151,7 @@ module _ (unread : Bytes) (isEnded : Bool) (output : Bytes) (s : State) (x : Sit
               steps = suc (l .steps);
               within = rw e (next-within sha256 unread isEnded size g (l .within));
               fits = omega (arith, f, same-size);
-              put = put-behind output 0 (l .lines) (outcomeAt sha256 (done .state) (siteWith table records) (done .used) unread .lines) out out₁ (done .length) (done₁ .length) (omega arith) (l .put)
+              put = put-behind output 0 (l .lines) (outcomeAt sha256 (done .state) (lentSite table records) (done .used) unread .lines) out out₁ (done .length) (done₁ .length) (omega arith) (l .put)
                   (record { ends = ap (λ (d : Gathered). d .length) e; holds = o });
               leads = ap (λ (q : Gathering). gatherOn sha256 unread isEnded size (work (length unread) (q .state) (q .used)) q) g₁-next ∙ on-next;
             }

@@ -9,7 +9,7 @@ use native.Mathlib.Omega.{arith}
 use lib.Dec.{eqb}
 use lib.ListN.{length, drop, length-append, length-drop}
 use borrow.Author.Tests.{eqb-true, eqb-false, le-leb}
-use Rattle.base.specs.Bytes.{Bytes, joined}
+use Rattle.base.specs.Bytes.{Bytes, concat}
 use Rattle.base.proofs.Tests.{by-test, true-not-false}
 use Rattle.run.specs.Run.{Site}
 use Rattle.report.specs.Framing.{wantedBy, wanted, expecting, start, run, linesSize}
@@ -55,10 +55,10 @@ module _ (digest : Bytes → Bytes) (size : ℕ) where
               (λ h d e. step-proper digest (h .state) (h .site) _) (p .state) (p .site) (g .proper);
         }
 
-    turns-go : (parts : List Bytes) (p : Progress) → Goes p (joined parts) → Goes (turns digest size p parts) []
-    unfolding turns joined
+    turns-go : (parts : List Bytes) (p : Progress) → Goes p (concat parts) → Goes (turns digest size p parts) []
+    unfolding turns concat
     turns-go [] p g = g
-    turns-go (part ∷ parts) p g = turns-go parts (turned false p part) (turn-goes false p part (joined parts) (λ e. true-not-false e refl) g)
+    turns-go (part ∷ parts) p g = turns-go parts (turned false p part) (turn-goes false p part (concat parts) (λ e. true-not-false e refl) g)
 
     last-go : (k : ℕ) (p : Progress) → Goes p [] → Goes (lastTurns digest size k p) []
     unfolding lastTurns
@@ -79,22 +79,22 @@ module _ (digest : Bytes → Bytes) (size : ℕ) where
         ∙ sym (g .writes n) ∙ law (g .steps + n) (omega arith)
 
   pub listed-in-parts : (parts : List Bytes) (x : Site) (last : ℕ) (text : Bytes)
-      → ((n : ℕ) → length (joined parts) < n → run digest n start x (joined parts) ≡ text)
+      → ((n : ℕ) → length (concat parts) < n → run digest n start x (concat parts) ≡ text)
       → wanted (lastTurns digest size last (turns digest size (nothingRead x) parts) .state) ≡ 0
       → lastTurns digest size last (turns digest size (nothingRead x) parts) .lines ≡ text
   listed-in-parts parts x last text law e =
-      all-written x (joined parts) (lastTurns digest size last (turns digest size (nothingRead x) parts))
-      (last-go x (joined parts) last (turns digest size (nothingRead x) parts) (turns-go x (joined parts) parts (nothingRead x) (start-goes x (joined parts)))) e text law
+      all-written x (concat parts) (lastTurns digest size last (turns digest size (nothingRead x) parts))
+      (last-go x (concat parts) last (turns digest size (nothingRead x) parts) (turns-go x (concat parts) parts (nothingRead x) (start-goes x (concat parts)))) e text law
 
   -- ---- the end is reached
 
   -- no more is unread than came
-  unread-short : (parts : List Bytes) (p : Progress) → length (turns digest size p parts .unread) ≤ length (p .unread) + length (joined parts)
-  unfolding turns joined
+  unread-short : (parts : List Bytes) (p : Progress) → length (turns digest size p parts .unread) ≤ length (p .unread) + length (concat parts)
+  unfolding turns concat
   unread-short [] p = omega arith
   unread-short (part ∷ parts) p =
       let a : Gathering = after false p in
-      omega (arith, unread-short parts (turned false p part), length-append (drop (a .used) (p .unread)) part, length-drop (a .used) (p .unread), length-append part (joined parts))
+      omega (arith, unread-short parts (turned false p part), length-append (drop (a .used) (p .unread)) part, length-drop (a .used) (p .unread), length-append part (concat parts))
 
   -- a listing that wants nothing stays as it is
   at-end : (k : ℕ) (p : Progress) → wanted (p .state) ≡ 0 → wanted (lastTurns digest size k p .state) ≡ 0
@@ -123,6 +123,6 @@ module _ (digest : Bytes → Bytes) (size : ℕ) where
         (λ e. at-end (suc k) p (eqb-true (wanted (p .state)) 0 e))
         (λ n. let some : 0 < wanted (p .state) = omega (arith, eqb-false (wanted (p .state)) 0 n) in ends-within k (turned true p []) (omega (arith, less-left p some)))
 
-    pub reached : (parts : List Bytes) (x : Site) (last : ℕ) → length (joined parts) < last
+    pub reached : (parts : List Bytes) (x : Site) (last : ℕ) → length (concat parts) < last
         → wanted (lastTurns digest size last (turns digest size (nothingRead x) parts) .state) ≡ 0
     reached parts x last h = ends-within last (turns digest size (nothingRead x) parts) (omega (arith, unread-short parts (nothingRead x)))

@@ -21,16 +21,16 @@ use Rattle.interpret.proofs.Promises.{promises}
 use Rattle.run.specs.Run.{Site, siteAnswer}
 use Rattle.report.specs.Arrivals.{Arrival, arrived, unread}
 use Rattle.report.specs.Listing.{admissionAnswer, siteArrived, arrivalRefusal}
-use Rattle.report.specs.ListingCalls.{Settled}
+use Rattle.report.specs.ListingCalls.{NoneRefused}
 use Rattle.report.proofs.Calls.{number, place, entered, second, both, passed-site, passed-refusal, refused-site, refused-refusal}
 
 -- a table in form with every place interpreted, and a whole record buffer
-pub record Steady (x : Site) : Type 0 where
+pub record InterpretationInvariant (x : Site) : Type 0 where
   pub formed : inForm (x .table) ≡ true
   pub interpreted : (i : ℕ) → i < countOf (x .table) → markAt (x .table) i ≡ 1
   pub whole : length (x .records) ≡ bufferSize
 
-module _ (x : Site) (k : Steady x) (b : Bytes) (verdict : ℕ) where
+module _ (x : Site) (k : InterpretationInvariant x) (b : Bytes) (verdict : ℕ) where
   -- the table after the admission, and the place that the admission gave
   abbrev t : Bytes
   t = entered x b verdict
@@ -58,7 +58,7 @@ module _ (x : Site) (k : Steady x) (b : Bytes) (verdict : ℕ) where
     interpretation-passes =
         promises .causes t (x .records) p .none .1 (
           record {
-            isHeld = record { isWhole = record { formed = t-formed; size = k .whole }; below = omega (arith, next, grown .count) };
+            placeHeld = record { recordsSized = record { formed = t-formed; size = k .whole }; below = omega (arith, next, grown .count) };
             unmarked = λ y. let z : markAt t p ≡ 0 = ap (markAt t) next ∙ grown .here .mark in omega arith;
           },
           λ u. u .1 .unmarked (lower-interpreted (u .0) (u .1 .lower)),
@@ -73,8 +73,8 @@ module _ (x : Site) (k : Steady x) (b : Bytes) (verdict : ℕ) where
         (λ n. ap (λ (z : Bool). cond z 1 (markAt t i)) n
         ∙ lower-interpreted i (omega (arith, eqb-false i p n, shown .count, grown .count, next)))
 
-    both-steady : Steady (both x b verdict)
-    both-steady =
+    both-invariant : InterpretationInvariant (both x b verdict)
+    both-invariant =
         record {
           formed = promises .kept t (x .records) p t-formed;
           interpreted = every-interpreted;
@@ -83,20 +83,20 @@ module _ (x : Site) (k : Steady x) (b : Bytes) (verdict : ℕ) where
 
   -- ---- every arrival
 
-  arrival-settled : arrivalRefusal sha256 x b verdict ≡ admissionAnswer sha256 x b verdict .refusal
+  arrival-none-refused : arrivalRefusal sha256 x b verdict ≡ admissionAnswer sha256 x b verdict .refusal
   unfolding siteAnswer
-  arrival-settled = by-test (eqb (number x b verdict) 0)
+  arrival-none-refused = by-test (eqb (number x b verdict) 0)
       (λ y. let e = eqb-true (number x b verdict) 0 y in passed-refusal x b verdict e ∙ interpretation-passes e ∙ sym e)
       (refused-refusal x b verdict)
 
-  arrival-steady : Steady (siteArrived sha256 x b verdict)
-  arrival-steady = by-test (eqb (number x b verdict) 0)
-      (λ y. let e = eqb-true (number x b verdict) 0 y in subst Steady (sym (passed-site x b verdict e)) (both-steady e))
-      (λ n. subst Steady (sym (refused-site x b verdict n)) k)
+  arrival-invariant : InterpretationInvariant (siteArrived sha256 x b verdict)
+  arrival-invariant = by-test (eqb (number x b verdict) 0)
+      (λ y. let e = eqb-true (number x b verdict) 0 y in subst InterpretationInvariant (sym (passed-site x b verdict e)) (both-invariant e))
+      (λ n. subst InterpretationInvariant (sym (refused-site x b verdict n)) k)
 
-pub steady-settled : (x : Site) → Steady x → (arrivals : List Arrival) → Settled x arrivals
-unfolding Settled
-steady-settled x k [] = tt
-steady-settled x k (unread ∷ rest) = steady-settled x k rest
-steady-settled x k (arrived b verdict ∷ rest) =
-    (arrival-settled x k b verdict, steady-settled (siteArrived sha256 x b verdict) (arrival-steady x k b verdict) rest)
+pub none-refused : (x : Site) → InterpretationInvariant x → (arrivals : List Arrival) → NoneRefused x arrivals
+unfolding NoneRefused
+none-refused x k [] = tt
+none-refused x k (unread ∷ rest) = none-refused x k rest
+none-refused x k (arrived b verdict ∷ rest) =
+    (arrival-none-refused x k b verdict, none-refused (siteArrived sha256 x b verdict) (arrival-invariant x k b verdict) rest)

@@ -8,7 +8,7 @@ use native.Mathlib.Omega.{arith}
 use borrow.Author.Tests.{eqb-true, eqb-false}
 use lib.Dec.{eqb}
 use lib.ListN.{getD, drop}
-use Rattle.base.specs.Bytes.{Bytes, joined}
+use Rattle.base.specs.Bytes.{Bytes, concat}
 use Rattle.base.specs.List.{listBelow}
 use Rattle.base.proofs.Tests.{by-test}
 use Rattle.report.specs.declared.Delivery.{Delivery}
@@ -109,10 +109,10 @@ parted (c ∷ cs) (d ∷ ds) p q s h r t e =
 
 -- the texts of the first k fields, each with what stands after it
 abbrev texts : (ℕ → ℕ) → (ℕ → Field) → ℕ → Bytes
-texts end f k = joined (listBelow (λ i. fieldText (f i) ++ (end i ∷ [])) k)
+texts end f k = concat (listBelow (λ i. fieldText (f i) ++ (end i ∷ [])) k)
 
 fields-same : (end : ℕ → ℕ) → ((i : ℕ) → end i ≤ space) → (f g : ℕ → Field) (k : ℕ) → texts end f k ≡ texts end g k → (i : ℕ) → i < k → f i ≡ g i
-unfolding joined listBelow
+unfolding concat listBelow
 fields-same end low f g zero e i h = absurd (omega arith)
 fields-same end low f g (suc k) e i h = go i h (λ j l. fields-same (λ i. end (suc i)) (λ i. low (suc i)) (λ i. f (suc i)) (λ i. g (suc i)) k (both .1) j l)
   where
@@ -167,7 +167,7 @@ module _ (d : Delivery) where
   not-refusal what refusal q = let z : suc (d .place) ≡ 0 = ap numberIn (line-says _ _ q 1 (omega arith)) in omega arith
 
   not-names : deliveryLine d ≢ names
-  unfolding deliveryLine line joined listBelow ending fieldText names ascii
+  unfolding deliveryLine line concat listBelow ending fieldText names ascii
   not-names q =
       let w = parted (decimal (d .arrival)) (ascii "arrival") (field-plain (Number (d .arrival))) (omega arith, (omega arith, (omega arith, (omega arith, (omega arith, (omega arith, (omega arith, tt)))))))
       space (omega arith) _ _ (sym (append-assoc (decimal (d .arrival)) (space ∷ []) _) ∙ q) in

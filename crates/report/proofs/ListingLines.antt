@@ -9,7 +9,7 @@ use native.Mathlib.Nat.{le-of-suc-le-suc}
 use native.Mathlib.Omega.{arith}
 use borrow.Author.Tests.{eqb-true, eqb-false, eq-eqb, ne-eqb}
 use lib.Dec.{eqb}
-use Rattle.base.specs.Bytes.{Bytes, joined}
+use Rattle.base.specs.Bytes.{Bytes, concat}
 use Rattle.base.specs.List.{listBelow}
 use Rattle.base.proofs.Tests.{by-test}
 use Rattle.sha256.specs.Sha256.{sha256}
@@ -22,16 +22,16 @@ use Rattle.report.specs.declared.Field.the-variants.{Number}
 use Rattle.report.specs.Text.{refusalLine, refusedLine, unreadLine, deliveryLine, deliveryText}
 use Rattle.report.specs.Arrivals.{Arrival, arrived, unread}
 use Rattle.report.specs.Listing.{delivery, deliveryLines, admissionAnswer, siteArrived, arrivalRefusal, arrivalLines, listingFrom}
-use Rattle.report.specs.ListingCalls.{Shows, here, later, past}
+use Rattle.report.specs.ListingCalls.{ListingShows, here, later, past}
 use Rattle.report.proofs.LineFields.{legible}
 use Rattle.report.proofs.Splitting.{isLine, AllLines, line-is-line}
 
 -- ---- lists of lines
 
-joined-append : (xs ys : List Bytes) → joined (xs ++ ys) ≡ joined xs ++ joined ys
-unfolding joined
-joined-append [] ys = refl
-joined-append (x ∷ xs) ys = ap (λ (b : Bytes). x ++ b) (joined-append xs ys) ∙ sym (append-assoc x (joined xs) (joined ys))
+concat-append : (xs ys : List Bytes) → concat (xs ++ ys) ≡ concat xs ++ concat ys
+unfolding concat
+concat-append [] ys = refl
+concat-append (x ∷ xs) ys = ap (λ (b : Bytes). x ++ b) (concat-append xs ys) ∙ sym (append-assoc x (concat xs) (concat ys))
 
 lines-append : (xs ys : List Bytes) → AllLines xs → AllLines ys → AllLines (xs ++ ys)
 lines-append [] ys p q = q
@@ -59,12 +59,12 @@ unfoldable pub deliveries : (ℕ → Delivery) → ℕ → List Bytes
 deliveries f zero = []
 deliveries f (suc k) = before (f 0) (deliveries (λ i. f (suc i)) k)
 
-before-joined : (d : Delivery) (rest : List Bytes) → joined (before d rest) ≡ deliveryText d ++ joined rest
-unfolding before deliveryText joined
+before-joined : (d : Delivery) (rest : List Bytes) → concat (before d rest) ≡ deliveryText d ++ concat rest
+unfolding before deliveryText concat
 before-joined d rest = by-test (eqb (d .number) 0) (λ e. rw e) (λ e. rw e)
 
-deliveries-joined : (f : ℕ → Delivery) (k : ℕ) → joined (deliveries f k) ≡ joined (listBelow (λ i. deliveryText (f i)) k)
-unfolding deliveries joined listBelow
+deliveries-joined : (f : ℕ → Delivery) (k : ℕ) → concat (deliveries f k) ≡ concat (listBelow (λ i. deliveryText (f i)) k)
+unfolding deliveries concat listBelow
 deliveries-joined f zero = refl
 deliveries-joined f (suc k) = before-joined (f 0) (deliveries (λ i. f (suc i)) k) ∙ ap (λ (b : Bytes). deliveryText (f 0) ++ b) (deliveries-joined (λ i. f (suc i)) k)
 
@@ -131,8 +131,8 @@ module _ (x : Site) (b : Bytes) (verdict arrival : ℕ) where
   unfolding arrivalTexts
   refused-texts n = rw (ne-eqb refusal 0 n)
 
-  arrival-joined : joined arrivalTexts ≡ arrivalLines sha256 x b verdict arrival
-  unfolding arrivalTexts arrivalLines deliveryLines joined
+  arrival-joined : concat arrivalTexts ≡ arrivalLines sha256 x b verdict arrival
+  unfolding arrivalTexts arrivalLines deliveryLines concat
   arrival-joined = by-test (eqb refusal 0) (λ e. rw e (deliveries-joined inSlot slotCount)) (λ e. rw e (append-nil (refusedLine arrival refusal)))
 
 pub refusal-is-line : (what : Field) (refusal : ℕ) → isLine (refusalLine what refusal) ≡ true
@@ -146,12 +146,12 @@ textsFrom arrival x [] = []
 textsFrom arrival x (unread ∷ rest) = unreadLine arrival ∷ textsFrom (suc arrival) x rest
 textsFrom arrival x (arrived b verdict ∷ rest) = arrivalTexts x b verdict arrival ++ textsFrom (suc arrival) (siteArrived sha256 x b verdict) rest
 
-pub texts-joined : (arrival : ℕ) (x : Site) (arrivals : List Arrival) → joined (textsFrom arrival x arrivals) ≡ listingFrom sha256 arrival x arrivals
-unfolding textsFrom listingFrom joined
+pub texts-joined : (arrival : ℕ) (x : Site) (arrivals : List Arrival) → concat (textsFrom arrival x arrivals) ≡ listingFrom sha256 arrival x arrivals
+unfolding textsFrom listingFrom concat
 texts-joined arrival x [] = refl
 texts-joined arrival x (unread ∷ rest) = ap (λ (b : Bytes). unreadLine arrival ++ b) (texts-joined (suc arrival) x rest)
 texts-joined arrival x (arrived b verdict ∷ rest) =
-    joined-append (arrivalTexts x b verdict arrival) (textsFrom (suc arrival) (siteArrived sha256 x b verdict) rest)
+    concat-append (arrivalTexts x b verdict arrival) (textsFrom (suc arrival) (siteArrived sha256 x b verdict) rest)
     ∙ ap₂ (λ (y z : Bytes). y ++ z) (arrival-joined x b verdict arrival) (texts-joined (suc arrival) (siteArrived sha256 x b verdict) rest)
 
 pub texts-lines : (arrival : ℕ) (x : Site) (arrivals : List Arrival) → AllLines (textsFrom arrival x arrivals)
@@ -186,7 +186,7 @@ texts-kinds arrival x (arrived b verdict ∷ rest) line m = elim (List·Memᴰ·
 
 -- ---- what is shown has a line
 
-pub shown-line : (arrival : ℕ) (x : Site) (arrivals : List Arrival) (slot v : ℕ) → slot < slotCount → Shows x arrivals slot v
+pub shown-line : (arrival : ℕ) (x : Site) (arrivals : List Arrival) (slot v : ℕ) → slot < slotCount → ListingShows x arrivals slot v
     → (d : Delivery) × ((d .slot ≡ slot) × ((d .number ≡ v) × List·Memᴰ (deliveryLine d) (textsFrom arrival x arrivals)))
 unfolding textsFrom
 shown-line arrival x (unread ∷ rest) slot v low (past m) =
@@ -203,7 +203,7 @@ shown-line arrival x (arrived b verdict ∷ rest) slot v low (later m) =
 -- ---- a delivery's line is shown
 
 pub line-shown : (arrival : ℕ) (x : Site) (arrivals : List Arrival) (d : Delivery) → List·Memᴰ (deliveryLine d) (textsFrom arrival x arrivals)
-    → Shows x arrivals (d .slot) (d .number)
+    → ListingShows x arrivals (d .slot) (d .number)
 unfolding textsFrom
 line-shown arrival x [] d m = absurd (List·Memᴰ·not-nil m)
 line-shown arrival x (unread ∷ rest) d m = elim (List·Memᴰ·cases-cons m) [
@@ -216,7 +216,7 @@ line-shown arrival x (arrived b verdict ∷ rest) d m = elim (List·Memᴰ·appe
       let z = eqb-true _ 0 e in
       let w = deliveries-from (inSlot x b verdict arrival) slotCount (deliveryLine d) (subst (List·Memᴰ (deliveryLine d)) (passed-texts x b verdict arrival z) n) in
       let same : d ≡ inSlot x b verdict arrival (w .index) = legible d .delivery (inSlot x b verdict arrival (w .index)) (w .text) in
-      subst (λ (y : Delivery). Shows x (arrived b verdict ∷ rest) (y .slot) (y .number)) (sym same) (here z refl (w .some)))
+      subst (λ (y : Delivery). ListingShows x (arrived b verdict ∷ rest) (y .slot) (y .number)) (sym same) (here z refl (w .some)))
       (λ e. elim (List·Memᴰ·cases-cons (subst (List·Memᴰ (deliveryLine d)) (refused-texts x b verdict arrival (eqb-false _ 0 e)) n)) [
         | inl q ↦ absurd (legible d .notRefusal (Number arrival) (refusal x b verdict arrival) q)
         | inr z ↦ absurd (List·Memᴰ·not-nil z)

@@ -1,11 +1,11 @@
--- The text of a listing is its lines, and those of deliveries are what `Shows` says. Assumes nothing.
+-- The text of a listing is its lines, and those of deliveries are what `ListingShows` says. Assumes nothing.
 use mathlib.Core.Path.{_≡_, sym, ap, _∙_, subst}
 use mathlib.Core.Bool.{true, cond}
 use mathlib.Core.Logic.{_⊎_, inl, inr}
 use mathlib.Core.List.{List, [], _∷_, _++_, append-nil, List·Memᴰ, List·Memᴰ·tail, List·Memᴰ·not-nil, List·Memᴰ·cases-cons}
 use Prim.Native.Nat.{ℕ, _<_}
 use lib.ListN.{drop}
-use Rattle.base.specs.Bytes.{Bytes, joined}
+use Rattle.base.specs.Bytes.{Bytes, concat}
 use Rattle.base.proofs.Tests.{by-test}
 use Rattle.setup.specs.Setup.{Setup, lawful, slotCount}
 use Rattle.run.specs.Run.{Site, started}
@@ -15,7 +15,7 @@ use Rattle.report.specs.declared.Field.the-variants.{Empty}
 use Rattle.report.specs.Text.{names, refusalLine, setupLine, deliveryLine}
 use Rattle.report.specs.Arrivals.{Arrival, setupSize, setupIn, arrivalsIn}
 use Rattle.report.specs.Listing.{listing}
-use Rattle.report.specs.ListingCalls.{Shows}
+use Rattle.report.specs.ListingCalls.{ListingShows}
 use Rattle.report.specs.Lines.{linesIn, text, LineShows, TextKeeps}
 use Rattle.report.proofs.LineFields.{legible}
 use Rattle.report.proofs.Splitting.{AllLines, split-all, names-line}
@@ -35,8 +35,8 @@ module _ (buffer : List ℕ) (input : Bytes) where
   unfoldable further : List Bytes
   further = cond (lawful setup) (textsFrom 0 site all) (setupLine 1 ∷ [])
 
-  text-joined : text buffer input ≡ joined (names ∷ further)
-  unfolding listing joined further
+  text-joined : text buffer input ≡ concat (names ∷ further)
+  unfolding listing concat further
   text-joined =
       by-test (lawful setup)
       (λ y. rw y (ap (λ (b : Bytes). names ++ b) (sym (texts-joined 0 site all))))
@@ -78,10 +78,10 @@ module _ (buffer : List ℕ) (input : Bytes) where
     unfolding further
     further-lawful = rw law
 
-    line-shows : (d : Delivery) → List·Memᴰ (deliveryLine d) (linesIn (text buffer input)) → Shows site all (d .slot) (d .number)
+    line-shows : (d : Delivery) → List·Memᴰ (deliveryLine d) (linesIn (text buffer input)) → ListingShows site all (d .slot) (d .number)
     line-shows d m = line-shown 0 site all d (subst (List·Memᴰ (deliveryLine d)) further-lawful (behind-names d m))
 
-    shows-line : (slot v : ℕ) → slot < slotCount → Shows site all slot v → LineShows buffer input slot v
+    shows-line : (slot v : ℕ) → slot < slotCount → ListingShows site all slot v → LineShows buffer input slot v
     shows-line slot v low s =
         let w = shown-line 0 site all slot v low s in
         record {
@@ -94,12 +94,12 @@ module _ (buffer : List ℕ) (input : Bytes) where
   pub text-keeps : TextKeeps buffer input
   text-keeps =
       record {
-        whole = ap joined lines-are ∙ sym text-joined;
+        whole = ap concat lines-are ∙ sym text-joined;
         kinds = kinds;
         legible = legible;
         shown = λ law slot v low. (
           shows-line law slot v low,
-          λ l. subst (λ (k : ℕ). Shows site all k v) (l .inSlot) (subst (λ (n : ℕ). Shows site all (l .delivery .slot) n) (l .isNumber) (line-shows law (l .delivery) (l .stands))),
+          λ l. subst (λ (k : ℕ). ListingShows site all k v) (l .inSlot) (subst (λ (n : ℕ). ListingShows site all (l .delivery .slot) n) (l .isNumber) (line-shows law (l .delivery) (l .stands))),
         );
         slots = low-slot;
       }

@@ -6,7 +6,7 @@ use Prim.Native.Nat.{ℕ, _≤_, _<_}
 use native.Mathlib.Omega.{arith}
 use lib.ListN.{length, take, drop, length-take, length-drop}
 use lib.Seq.{getD-take}
-use Rattle.base.specs.Bytes.{Bytes, joined}
+use Rattle.base.specs.Bytes.{Bytes, concat}
 use Rattle.base.proofs.Tests.{by-test}
 use Rattle.base.proofs.Parts.{part-of-front}
 use Rattle.setup.specs.Setup.{Setup, lawful, slotCount}
@@ -16,7 +16,7 @@ use Rattle.run.specs.Run.{Site, started}
 use Rattle.report.specs.Text.{names, setupLine}
 use Rattle.report.specs.Arrivals.{setupSize, setupIn}
 use Rattle.report.specs.Listing.{listing}
-use Rattle.report.specs.Framing.{pieceSize, wantedBy, countLimit, outcome, start, setupStep, stepBy, siteBy}
+use Rattle.report.specs.Framing.{pieceSize, wantedBy, countLimit, outcomeOf, start, setupStep, stepBy, siteBy}
 use Rattle.report.specs.Promises.{Promises}
 use Rattle.report.specs.declared.Expected.{Expected}
 use Rattle.report.specs.declared.Expected.the-variants.{Length, Block, Skip, End}
@@ -55,7 +55,7 @@ module _ (digest : Bytes → Bytes) (input : Bytes) (x : Site) where
       let site : Site = started setup (x .records) in
       let owners : length (take slotCount (drop 1 input)) ≡ slotCount = eight-owners setup law in
       rw law
-      (goes-on digest start x input (outcome Length 0 names) site (listingIn digest 0 site (drop setupSize input))
+      (goes-on digest start x input (outcomeOf Length 0 names) site (listingIn digest 0 site (drop setupSize input))
       (rw (same-setup, lawful-made setup (x .table) law sized)) (rw (same-setup, table-made setup (x .table) law sized))
       (omega arith) (omega (arith, length-take slotCount (drop 1 input), length-drop 1 input))
       (lists digest 0 site (drop setupSize input) (omega (arith, length-drop setupSize input))))
@@ -71,7 +71,7 @@ promises digest =
       usedThere = λ unread isEnded size s x. within digest unread isEnded size s x;
       allDue = λ unread isEnded size s x. stopped digest unread isEnded size s x;
       listedInParts = λ parts x size last few sized end.
-          listed-in-parts digest size parts x last (listing digest (x .records) (joined parts)) (input-listed digest (joined parts) x sized few) end;
+          listed-in-parts digest size parts x last (listing digest (x .records) (concat parts)) (input-listed digest (concat parts) x sized few) end;
       reached = λ parts x size last room enough. reached digest size room parts x last enough;
       small = λ s. wanted-small (s .expected);
     }

@@ -11,7 +11,7 @@ use borrow.Author.Tests.{ltb-true, ltb-false, leb-true, leb-false}
 use Rattle.base.specs.Bytes.{Bytes}
 use Rattle.base.proofs.Tests.{by-test}
 use Rattle.run.specs.Run.{Site}
-use Rattle.report.specs.Framing.{pieceSize, wantedBy, expecting, outcome, stepBy, siteBy, run}
+use Rattle.report.specs.Framing.{pieceSize, wantedBy, expecting, outcomeOf, stepBy, siteBy, run}
 use Rattle.report.specs.declared.Expected.the-variants.{Length, Skip}
 use Rattle.report.specs.declared.State.{State}
 use Rattle.report.proofs.Ways.{skip-cut, skip-last, skip-more}
@@ -51,14 +51,14 @@ module _ (digest : Bytes → Bytes) (arrival : ℕ) (x : Site) where
       unfolding stepBy siteBy wantedBy
       last-skipped some last w =
           let e : size ≡ left = omega arith in
-          goes-on digest (skipping left) x input (outcome Length arrival []) x text
+          goes-on digest (skipping left) x input (outcomeOf Length arrival []) x text
           (skip-last arrival piece left last (omega (arith, whole))) refl (omega arith) (omega arith) (rw e w)
 
       more-skipped : pieceSize < left → Writes digest (skipping (left - pieceSize)) x (drop pieceSize input) text → Writes digest (skipping left) x input text
       unfolding stepBy siteBy wantedBy
       more-skipped more w =
           let e : size ≡ pieceSize = omega arith in
-          goes-on digest (skipping left) x input (outcome (Skip (left - pieceSize)) arrival []) x text
+          goes-on digest (skipping left) x input (outcomeOf (Skip (left - pieceSize)) arrival []) x text
           (skip-more arrival piece left more (omega (arith, whole))) refl (omega arith) (omega arith) (rw e w)
 
   -- for at most n bytes

@@ -7,7 +7,7 @@ use native.Mathlib.Omega.{arith}
 use borrow.Author.Tests.{eqb-true, ne-eqb}
 use lib.Dec.{eqb}
 use lib.ListN.{length, getD}
-use Rattle.base.specs.Bytes.{Bytes, joined}
+use Rattle.base.specs.Bytes.{Bytes, concat}
 use Rattle.base.specs.List.{listBelow}
 use Rattle.base.proofs.Tests.{true-not-false}
 use Rattle.report.specs.declared.Field.{Field}
@@ -41,10 +41,10 @@ abbrev pub AllLines : List Bytes → Type 0
 AllLines [] = Unit {0}
 AllLines (x ∷ xs) = (isLine x ≡ true) × AllLines xs
 
-pub split-all : (xs : List Bytes) → AllLines xs → linesIn (joined xs) ≡ xs
-unfolding joined linesAfter
+pub split-all : (xs : List Bytes) → AllLines xs → linesIn (concat xs) ≡ xs
+unfolding concat linesAfter
 split-all [] l = refl
-split-all (x ∷ xs) l = split-line x (l .0) [] (joined xs) ∙ ap (λ (ys : List Bytes). x ∷ ys) (split-all xs (l .1))
+split-all (x ∷ xs) l = split-line x (l .0) [] (concat xs) ∙ ap (λ (ys : List Bytes). x ∷ ys) (split-all xs (l .1))
 
 -- ---- the lines of a listing are such
 
@@ -62,7 +62,7 @@ unfolding isLine
 more f rest = field-skipped f space rest
 
 pub line-is-line : (fields : List Field) → isLine (line fields) ≡ true
-unfolding line joined listBelow ending isLine
+unfolding line concat listBelow ending isLine
 line-is-line fields =
     let field : ℕ → Field = λ i. getD fields i (Number 0) in
     more (field 0) _ ∙ more (field 1) _ ∙ more (field 2) _ ∙ more (field 3) _ ∙ more (field 4) _ ∙ more (field 5) _ ∙ field-skipped (field 6) lineFeed []

@@ -12,7 +12,7 @@ use Rattle.run.specs.Run.{Site}
 use Rattle.report.specs.Text.{unreadLine}
 use Rattle.report.specs.Arrivals.{verdictSize}
 use Rattle.report.specs.Listing.{siteArrived, arrivalLines}
-use Rattle.report.specs.Framing.{wantedBy, following, expecting, outcome, stepBy}
+use Rattle.report.specs.Framing.{wantedBy, following, expecting, outcomeOf, stepBy}
 use Rattle.report.specs.declared.Expected.the-variants.{Length, Block}
 use Rattle.report.specs.declared.State.{State}
 use Rattle.report.proofs.Ways.{block-cut, block-whole, site-whole}
@@ -58,8 +58,8 @@ module _ (digest : Bytes → Bytes) (arrival : ℕ) (x : Site) (size : ℕ) (inp
         → Writes digest (expecting (Block size) arrival) x input (arrivalLines digest x (take size (drop verdictSize input)) (getD input 0 0) arrival ++ text)
     unfolding stepBy
     whole-taken text w =
-        goes-on digest state x input (outcome Length (following arrival) (arrivalLines digest x block verdict arrival)) (siteArrived digest x block verdict) text
+        goes-on digest state x input (outcomeOf Length (following arrival) (arrivalLines digest x block verdict arrival)) (siteArrived digest x block verdict) text
         (block-whole digest size arrival x piece there
-        ∙ ap₂ (λ (b : Bytes) (v : ℕ). outcome Length (following arrival) (arrivalLines digest x b v arrival)) same-block same-verdict)
+        ∙ ap₂ (λ (b : Bytes) (v : ℕ). outcomeOf Length (following arrival) (arrivalLines digest x b v arrival)) same-block same-verdict)
         (site-whole digest size arrival x piece there ∙ ap₂ (siteArrived digest x) same-block same-verdict)
         (omega (arith, all-wanted)) (omega arith) (rw all-wanted w)

@@ -51,8 +51,8 @@ firstVerdict input = getD input lengthSize 0
 abbrev pub firstBlock : Bytes → Bytes
 firstBlock input = take (blockLength input) (drop (lengthSize + verdictSize) input)
 
-abbrev pub behind : Bytes → Bytes
-behind input = drop (arrivalSize input) input
+abbrev pub afterFirst : Bytes → Bytes
+afterFirst input = drop (arrivalSize input) input
 
 -- the arrival at the front
 unfoldable pub firstArrival : Bytes → Arrival
@@ -62,7 +62,7 @@ firstArrival input = cond (overlong input || cut input) unread (arrived (firstBl
 unfoldable pub arrivals : ℕ → Bytes → List Arrival
 arrivals zero input = []
 arrivals (suc most) [] = []
-arrivals (suc most) (x ∷ input) = firstArrival (x ∷ input) ∷ arrivals most (behind (x ∷ input))
+arrivals (suc most) (x ∷ input) = firstArrival (x ∷ input) ∷ arrivals most (afterFirst (x ∷ input))
 
 -- all of them: each takes a byte at least
 unfoldable pub arrivalsIn : Bytes → List Arrival

@@ -55,44 +55,44 @@ pub record Outcome : Type 0 where
   pub state : State
   pub lines : Bytes
 
-abbrev pub outcome : Expected → ℕ → Bytes → Outcome
-outcome expected arrival lines = record { state = expecting expected arrival; lines = lines }
+abbrev pub outcomeOf : Expected → ℕ → Bytes → Outcome
+outcomeOf expected arrival lines = record { state = expecting expected arrival; lines = lines }
 
 -- the names, and the refusal of a setup; the answer is that of making an empty table in the lent one
 unfoldable pub setupStep : Bytes → Bytes → Outcome
 setupStep table piece =
     cond (eqb (freshAnswer (setupIn piece) table .refusal) 0)
-    (outcome Length 0 names)
-    (outcome End 0 (names ++ setupLine (freshAnswer (setupIn piece) table .refusal)))
+    (outcomeOf Length 0 names)
+    (outcomeOf End 0 (names ++ setupLine (freshAnswer (setupIn piece) table .refusal)))
 
 -- nothing more to read, a cut arrival, one that is too long, or how long the block is
 unfoldable pub lengthStep : ℕ → Bytes → Outcome
 lengthStep arrival piece =
-    cond (eqb (length piece) 0) (outcome End arrival [])
-    (cond (ltb (length piece) lengthSize) (outcome End arrival (unreadLine arrival))
+    cond (eqb (length piece) 0) (outcomeOf End arrival [])
+    (cond (ltb (length piece) lengthSize) (outcomeOf End arrival (unreadLine arrival))
     (cond (overlong piece)
-    (outcome (Skip (verdictSize + blockLength piece)) (following arrival) (unreadLine arrival))
-    (outcome (Block (blockLength piece)) arrival [])))
+    (outcomeOf (Skip (verdictSize + blockLength piece)) (following arrival) (unreadLine arrival))
+    (outcomeOf (Block (blockLength piece)) arrival [])))
 
 -- bytes of an arrival that is too long
 unfoldable pub skipStep : ℕ → ℕ → Bytes → Outcome
 skipStep left arrival piece =
-    cond (ltb (length piece) (wantedBy (Skip left))) (outcome End arrival [])
-    (cond (leb left pieceSize) (outcome Length arrival []) (outcome (Skip (left - pieceSize)) arrival []))
+    cond (ltb (length piece) (wantedBy (Skip left))) (outcomeOf End arrival [])
+    (cond (leb left pieceSize) (outcomeOf Length arrival []) (outcomeOf (Skip (left - pieceSize)) arrival []))
 
 module _ (digest : Bytes → Bytes) where
   -- the verdict and the block, or a cut arrival
   unfoldable pub blockStep : ℕ → ℕ → Site → Bytes → Outcome
   blockStep size arrival x piece =
-      cond (ltb (length piece) (verdictSize + size)) (outcome End arrival (unreadLine arrival))
-      (outcome Length (following arrival) (arrivalLines digest x (take size (drop verdictSize piece)) (getD piece 0 0) arrival))
+      cond (ltb (length piece) (verdictSize + size)) (outcomeOf End arrival (unreadLine arrival))
+      (outcomeOf Length (following arrival) (arrivalLines digest x (take size (drop verdictSize piece)) (getD piece 0 0) arrival))
 
   unfoldable pub stepBy : Expected → ℕ → Site → Bytes → Outcome
   stepBy Setup arrival x piece = setupStep (x .table) piece
   stepBy Length arrival x piece = lengthStep arrival piece
   stepBy (Block size) arrival x piece = blockStep size arrival x piece
   stepBy (Skip left) arrival x piece = skipStep left arrival piece
-  stepBy End arrival x piece = outcome End arrival []
+  stepBy End arrival x piece = outcomeOf End arrival []
 
   abbrev pub stepped : State → Site → Bytes → Outcome
   stepped s x piece = stepBy (s .expected) (s .arrivals) x piece

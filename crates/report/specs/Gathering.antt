@@ -12,8 +12,8 @@ use Rattle.report.specs.declared.State.{State}
 use Rattle.report.specs.declared.Gathered.{Gathered}
 
 -- a site by what is lent
-abbrev pub siteWith : Bytes → List ℕ → Site
-siteWith table records = record { table = table; records = records }
+abbrev pub lentSite : Bytes → List ℕ → Site
+lentSite table records = record { table = table; records = records }
 
 -- what the steps so far came to: the next state, the site, how many of the unread bytes they used, their lines, and how many they were
 pub record Gathering : Type 0 where
@@ -45,7 +45,7 @@ pub record Progress : Type 0 where
 
 -- the same of a site's table and records
 abbrev pub progress : State → Bytes → List ℕ → Bytes → Bytes → Progress
-progress s table records unread lines = record { state = s; site = siteWith table records; unread = unread; lines = lines }
+progress s table records unread lines = record { state = s; site = lentSite table records; unread = unread; lines = lines }
 
 -- before the first byte
 abbrev pub nothingRead : Site → Progress

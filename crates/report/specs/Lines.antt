@@ -1,4 +1,4 @@
--- What stands in the text of a listing: what `Shows` of specs/ListingCalls.antt says is shown is a line of it, and no other line shows a delivery.
+-- What stands in the text of a listing: what `ListingShows` of specs/ListingCalls.antt says is shown is a line of it, and no other line shows a delivery.
 -- proofs/ListingText.antt shows it.
 use mathlib.Core.Path.{_≡_}
 use mathlib.Core.Bool.{true, cond}
@@ -7,7 +7,7 @@ use mathlib.Core.List.{List, [], _∷_, _++_, List·Memᴰ}
 use Prim.Native.Nat.{ℕ, _<_}
 use lib.Dec.{eqb}
 use lib.ListN.{drop}
-use Rattle.base.specs.Bytes.{Bytes, joined}
+use Rattle.base.specs.Bytes.{Bytes, concat}
 use Rattle.sha256.specs.Sha256.{sha256}
 use Rattle.setup.specs.Setup.{lawful, slotCount}
 use Rattle.run.specs.Run.{started}
@@ -16,7 +16,7 @@ use Rattle.report.specs.declared.Field.{Field}
 use Rattle.report.specs.Text.{lineFeed, names, refusalLine, deliveryLine}
 use Rattle.report.specs.Arrivals.{setupSize, setupIn, arrivalsIn}
 use Rattle.report.specs.Listing.{listing}
-use Rattle.report.specs.ListingCalls.{Shows}
+use Rattle.report.specs.ListingCalls.{ListingShows}
 
 -- the lines of a text, each with its line feed, where `before` was met of the first; what stands behind the last line feed is in none
 unfoldable pub linesAfter : Bytes → Bytes → List Bytes
@@ -47,7 +47,7 @@ module _ (buffer : List ℕ) (input : Bytes) where
 
   pub record TextKeeps : Type 0 where
     -- the text is its lines, with nothing behind the last
-    pub whole : joined (linesIn text) ≡ text
+    pub whole : concat (linesIn text) ≡ text
     -- each is the line of names, a delivery's or a refusal's
     pub kinds : (line : Bytes) → List·Memᴰ line (linesIn text)
         → (line ≡ names) ⊎ (((d : Delivery) × (line ≡ deliveryLine d)) ⊎ ((what : Field) × (refusal : ℕ) × (line ≡ refusalLine what refusal)))
@@ -55,5 +55,5 @@ module _ (buffer : List ℕ) (input : Bytes) where
     pub legible : (d : Delivery) → Legible d
     -- of a lawful setup a delivery's line stands there for each number that is shown, and no other delivery's does
     pub shown : lawful (setupIn input) ≡ true → (slot v : ℕ) → slot < slotCount
-        → Shows (started (setupIn input) buffer) (arrivalsIn (drop setupSize input)) slot v ↔ LineShows slot v
+        → ListingShows (started (setupIn input) buffer) (arrivalsIn (drop setupSize input)) slot v ↔ LineShows slot v
     pub slots : (d : Delivery) → List·Memᴰ (deliveryLine d) (linesIn text) → d .slot < slotCount

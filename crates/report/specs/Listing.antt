@@ -4,7 +4,7 @@ use mathlib.Core.List.{List, [], _∷_, _++_}
 use Prim.Native.Nat.{ℕ, suc}
 use lib.Dec.{eqb}
 use lib.ListN.{drop}
-use Rattle.base.specs.Bytes.{Bytes, joined}
+use Rattle.base.specs.Bytes.{Bytes, concat}
 use Rattle.base.specs.List.{listBelow}
 use Rattle.answer.specs.declared.Answer.{Answer}
 use Rattle.setup.specs.Setup.{lawful, slotCount}
@@ -30,7 +30,7 @@ delivery records arrival place site sequence slot =
 -- "A line stands for each delivery (lower slot first)"
 unfoldable pub deliveryLines : List ℕ → ℕ → ℕ → ℕ → ℕ → Bytes
 deliveryLines records arrival place site sequence =
-    joined (listBelow (λ slot. deliveryText (delivery records arrival place site sequence slot)) slotCount)
+    concat (listBelow (λ slot. deliveryText (delivery records arrival place site sequence slot)) slotCount)
 
 module _ (digest : Bytes → Bytes) where
   module _ (x : Site) (b : Bytes) (verdict : ℕ) where

@@ -15,26 +15,26 @@ use Rattle.report.specs.Arrivals.{Arrival, arrived, unread}
 use Rattle.report.specs.Listing.{admissionAnswer, interpretationCall, siteArrived, arrivalRefusal}
 
 -- the calls that arrivals make at a site
-unfoldable pub callsOf : Site → List Arrival → List Call
-callsOf x [] = []
-callsOf x (unread ∷ rest) = callsOf x rest
-callsOf x (arrived b verdict ∷ rest) =
+unfoldable pub arrivalCalls : Site → List Arrival → List Call
+arrivalCalls x [] = []
+arrivalCalls x (unread ∷ rest) = arrivalCalls x rest
+arrivalCalls x (arrived b verdict ∷ rest) =
     admit b verdict
     ∷ (cond (eqb (admissionAnswer sha256 x b verdict .refusal) 0) (interpretationCall sha256 x b verdict ∷ []) []
-    ++ callsOf (siteArrived sha256 x b verdict) rest)
+    ++ arrivalCalls (siteArrived sha256 x b verdict) rest)
 
 -- no interpretation is refused: what a line's refusal shows is the admission's
-unfoldable pub Settled : Site → List Arrival → Type 0
-Settled x [] = Unit {0}
-Settled x (unread ∷ rest) = Settled x rest
-Settled x (arrived b verdict ∷ rest) =
-    (arrivalRefusal sha256 x b verdict ≡ admissionAnswer sha256 x b verdict .refusal) × Settled (siteArrived sha256 x b verdict) rest
+unfoldable pub NoneRefused : Site → List Arrival → Type 0
+NoneRefused x [] = Unit {0}
+NoneRefused x (unread ∷ rest) = NoneRefused x rest
+NoneRefused x (arrived b verdict ∷ rest) =
+    (arrivalRefusal sha256 x b verdict ≡ admissionAnswer sha256 x b verdict .refusal) × NoneRefused (siteArrived sha256 x b verdict) rest
 
 -- a line of the listing shows this number delivered in the slot
-pub data Shows : Site → List Arrival → ℕ → ℕ → Type 0 where
+pub data ListingShows : Site → List Arrival → ℕ → ℕ → Type 0 where
   here : {x : Site} {b : Bytes} {verdict slot v : ℕ} {rest : List Arrival} → arrivalRefusal sha256 x b verdict ≡ 0
       → deliveredIn (siteArrived sha256 x b verdict .records) (admissionAnswer sha256 x b verdict .value) slot ≡ v → v ≢ 0
-      → Shows x (arrived b verdict ∷ rest) slot v
-  later : {x : Site} {b : Bytes} {verdict slot v : ℕ} {rest : List Arrival} → Shows (siteArrived sha256 x b verdict) rest slot v
-      → Shows x (arrived b verdict ∷ rest) slot v
-  past : {x : Site} {slot v : ℕ} {rest : List Arrival} → Shows x rest slot v → Shows x (unread ∷ rest) slot v
+      → ListingShows x (arrived b verdict ∷ rest) slot v
+  later : {x : Site} {b : Bytes} {verdict slot v : ℕ} {rest : List Arrival} → ListingShows (siteArrived sha256 x b verdict) rest slot v
+      → ListingShows x (arrived b verdict ∷ rest) slot v
+  past : {x : Site} {slot v : ℕ} {rest : List Arrival} → ListingShows x rest slot v → ListingShows x (unread ∷ rest) slot v

@@ -5,7 +5,7 @@ use mathlib.Core.Logic.{_⊎_}
 use mathlib.Core.List.{List, [], _++_}
 use Prim.Native.Nat.{ℕ, _+_, _-_, _≤_, _<_}
 use lib.ListN.{length, drop}
-use Rattle.base.specs.Bytes.{Bytes, joined}
+use Rattle.base.specs.Bytes.{Bytes, concat}
 use Rattle.table.specs.Layout.{tableSize}
 use Rattle.run.specs.Run.{Site}
 use Rattle.report.specs.Listing.{listing}
@@ -42,11 +42,11 @@ module _ (digest : Bytes → Bytes) where
     pub allDue : (unread : Bytes) (isEnded : Bool) (size : ℕ) (s : State) (x : Site) → Stopped unread isEnded size (gathering digest unread isEnded size s x)
     -- an input that comes in parts, however it is cut, and whatever the output's size: once the state that is reached wants nothing, the lines
     -- of all turns, joined, are the listing of the parts, joined. The premises are those of `listed`
-    pub listedInParts : (parts : List Bytes) (x : Site) (size last : ℕ) → length (joined parts) < countLimit → length (x .table) ≡ tableSize
+    pub listedInParts : (parts : List Bytes) (x : Site) (size last : ℕ) → length (concat parts) < countLimit → length (x .table) ≡ tableSize
         → wanted (lastTurns digest size last (turns digest size (nothingRead x) parts) .state) ≡ 0
-        → lastTurns digest size last (turns digest size (nothingRead x) parts) .lines ≡ listing digest (x .records) (joined parts)
+        → lastTurns digest size last (turns digest size (nothingRead x) parts) .lines ≡ listing digest (x .records) (concat parts)
     -- and it is reached: where the output has room for a step's lines, one turn more than there are bytes, after the last part, is enough
-    pub reached : (parts : List Bytes) (x : Site) (size last : ℕ) → linesSize ≤ size → length (joined parts) < last
+    pub reached : (parts : List Bytes) (x : Site) (size last : ℕ) → linesSize ≤ size → length (concat parts) < last
         → wanted (lastTurns digest size last (turns digest size (nothingRead x) parts) .state) ≡ 0
     -- no step asks for more than a verdict and the longest block
     pub small : (s : State) → wanted s ≤ pieceSize

@@ -6,7 +6,7 @@ use Prim.Native.Char.{code}
 use Prim.Native.String.{String, len, charAt}
 use lib.Dec.{eqb, ltb}
 use lib.ListN.{getD}
-use Rattle.base.specs.Bytes.{Bytes, joined}
+use Rattle.base.specs.Bytes.{Bytes, concat}
 use Rattle.base.specs.List.{listBelow}
 use Rattle.report.specs.declared.Delivery.{Delivery}
 use Rattle.report.specs.declared.Field.{Field}
@@ -50,7 +50,7 @@ ending i = cond (eqb i (fieldCount - 1)) lineFeed space
 
 -- the seven values in the order of the names
 unfoldable pub line : List Field → Bytes
-line fields = joined (listBelow (λ i. fieldText (getD fields i (Number 0)) ++ (ending i ∷ [])) fieldCount)
+line fields = concat (listBelow (λ i. fieldText (getD fields i (Number 0)) ++ (ending i ∷ [])) fieldCount)
 
 -- "First a line of names"
 unfoldable pub names : Bytes

@@ -8,7 +8,7 @@ ghost use lib.ListN.{length};
 ghost use Rattle.base.specs.Bytes.{splice};
 ghost use Rattle.sha256.specs.Sha256.{sha256};
 ghost use Rattle.report.specs.Framing.{linesSize};
-ghost use Rattle.report.specs.Gathering.{siteWith, isDue, outcomeAt, siteSteppedAt, gathering as Gathering·gathering, gatheredOf};
+ghost use Rattle.report.specs.Gathering.{lentSite, isDue, outcomeAt, siteSteppedAt, gathering as Gathering·gathering, gatheredOf};
 ghost use Rattle.report.specs.Steps.{advanced};
 
 // Whether the next step is due, with so many bytes that came, and an output of this size.
@@ -48,10 +48,10 @@ fn advance(
     output: &mut [u8],
 ) -> Gathered
     requires { ⌜ (done .used ≤ length (now unread)) × (done .length + linesSize ≤ length (now output)) ⌝ }
-    ensures { λ r. ⌜ r ≡ advanced sha256 done (siteWith (now (table .entry)) (now (records .entry))) (now (unread .entry)) ⌝ }
-    ensures { λ _. ⌜ now (table .exit) ≡ siteSteppedAt sha256 (done .state) (siteWith (now (table .entry)) (now (records .entry))) (done .used) (now (unread .entry)) .table ⌝ }
-    ensures { λ _. ⌜ now (records .exit) ≡ siteSteppedAt sha256 (done .state) (siteWith (now (table .entry)) (now (records .entry))) (done .used) (now (unread .entry)) .records ⌝ }
-    ensures { λ _. ⌜ now (output .exit) ≡ splice (now (output .entry)) (done .length) (outcomeAt sha256 (done .state) (siteWith (now (table .entry)) (now (records .entry))) (done .used) (now (unread .entry)) .lines) ⌝ }
+    ensures { λ r. ⌜ r ≡ advanced sha256 done (lentSite (now (table .entry)) (now (records .entry))) (now (unread .entry)) ⌝ }
+    ensures { λ _. ⌜ now (table .exit) ≡ siteSteppedAt sha256 (done .state) (lentSite (now (table .entry)) (now (records .entry))) (done .used) (now (unread .entry)) .table ⌝ }
+    ensures { λ _. ⌜ now (records .exit) ≡ siteSteppedAt sha256 (done .state) (lentSite (now (table .entry)) (now (records .entry))) (done .used) (now (unread .entry)) .records ⌝ }
+    ensures { λ _. ⌜ now (output .exit) ≡ splice (now (output .entry)) (done .length) (outcomeAt sha256 (done .state) (lentSite (now (table .entry)) (now (records .entry))) (done .used) (now (unread .entry)) .lines) ⌝ }
     ensures { λ r. ⌜ r .length ≤ length (now (output .entry)) ⌝ }
 {
     let state = done.state;
@@ -82,10 +82,10 @@ pub fn gather(
     is_ended: bool,
     output: &mut [u8],
 ) -> Gathered
-    ensures { λ r. ⌜ r ≡ gatheredOf (Gathering·gathering sha256 (now (unread .entry)) «is_ended» (length (now (output .entry))) state (siteWith (now (table .entry)) (now (records .entry)))) ⌝ }
-    ensures { λ _. ⌜ now (table .exit) ≡ Gathering·gathering sha256 (now (unread .entry)) «is_ended» (length (now (output .entry))) state (siteWith (now (table .entry)) (now (records .entry))) .site .table ⌝ }
-    ensures { λ _. ⌜ now (records .exit) ≡ Gathering·gathering sha256 (now (unread .entry)) «is_ended» (length (now (output .entry))) state (siteWith (now (table .entry)) (now (records .entry))) .site .records ⌝ }
-    ensures { λ _. ⌜ now (output .exit) ≡ splice (now (output .entry)) 0 (Gathering·gathering sha256 (now (unread .entry)) «is_ended» (length (now (output .entry))) state (siteWith (now (table .entry)) (now (records .entry))) .lines) ⌝ }
+    ensures { λ r. ⌜ r ≡ gatheredOf (Gathering·gathering sha256 (now (unread .entry)) «is_ended» (length (now (output .entry))) state (lentSite (now (table .entry)) (now (records .entry)))) ⌝ }
+    ensures { λ _. ⌜ now (table .exit) ≡ Gathering·gathering sha256 (now (unread .entry)) «is_ended» (length (now (output .entry))) state (lentSite (now (table .entry)) (now (records .entry))) .site .table ⌝ }
+    ensures { λ _. ⌜ now (records .exit) ≡ Gathering·gathering sha256 (now (unread .entry)) «is_ended» (length (now (output .entry))) state (lentSite (now (table .entry)) (now (records .entry))) .site .records ⌝ }
+    ensures { λ _. ⌜ now (output .exit) ≡ splice (now (output .entry)) 0 (Gathering·gathering sha256 (now (unread .entry)) «is_ended» (length (now (output .entry))) state (lentSite (now (table .entry)) (now (records .entry))) .lines) ⌝ }
 {
     let mut done = Gathered {
         state,

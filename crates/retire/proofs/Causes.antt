@@ -19,7 +19,7 @@ use Rattle.answer.proofs.Checks.{valuedOnly, no-value, missed}
 use Rattle.answer.proofs.Promises.{decided}
 use Rattle.table.specs.Layout.{countOf, siteAt, sequenceAt, markAt, rowAt, viewOf}
 use Rattle.table.specs.Form.{inForm}
-use Rattle.interpret.specs.Promises.{Whole}
+use Rattle.interpret.specs.Promises.{RecordsSized}
 use Rattle.interpret.proofs.FirstChecks.{held, two, twelve, thirteen}
 use Rattle.retire.specs.Retiring.{waitsForFirst, followsFirst, firstInterpreted, referrersInterpreted, siteGoesOn, retirable, retiringChecks, retiring}
 use Rattle.retire.specs.Promises.{Follows, Retirable, Causes}
@@ -78,11 +78,11 @@ module _ (t : Bytes) (buffer : List ℕ) where
         noValue = no-value [] checks 0 refl refl;
       }
 
-  pub goes-on : Whole t buffer → ((i : ℕ) → i < countOf t → markAt t i ≡ 1) → (i : ℕ) → i < countOf t → siteAt t i ≡ siteAt t 0
+  pub goes-on : RecordsSized t buffer → ((i : ℕ) → i < countOf t → markAt t i ≡ 1) → (i : ℕ) → i < countOf t → siteAt t i ≡ siteAt t 0
       → sequenceAt t 0 < sequenceAt t i → retiring t buffer .refusal ≡ 0
   goes-on whole all i h s l =
       causes .none .1 (
-        record { isWhole = whole; below = omega arith },
+        record { recordsSized = whole; below = omega arith },
         record {
           marked = all 0 (omega arith);
           referrers = λ j k y. all j k;

@@ -24,8 +24,8 @@ use Rattle.table.specs.Writing.{movedRow, withoutFirst, moveDown}
 use Rattle.table.specs.Rules.{parentRow, parents, parentRule, parentInForm}
 use Rattle.table.specs.Form.{inForm}
 use Rattle.table.specs.Promises.{Shows}
-use Rattle.table.proofs.Views.{RowForm, row-form, form-row, Held, rule-formed}
-use Rattle.table.proofs.InForm.{Formed, formed-of, shows-formed}
+use Rattle.table.proofs.Views.{RowForm, row-form, form-row, ViewInForm, rule-formed}
+use Rattle.table.proofs.InForm.{TableForm, table-form, shows-formed}
 use Rattle.table.proofs.Canonical.{Canonical}
 use Rattle.table.proofs.LoweredRows.{down-shows, down-canonical}
 use Rattle.records.specs.Layout.{bufferSize}
@@ -49,7 +49,7 @@ first-marked v r = eqb-true (v .row 0 .mark) 1 (and-left (firstInterpreted v) _ 
 
 -- ---- the rows that are left are in form
 
-module _ (s : Setup) (v : View) (form : Held s v) (r : retirable v ≡ true) (some : 0 < v .held) where
+module _ (s : Setup) (v : View) (form : ViewInForm s v) (r : retirable v ≡ true) (some : 0 < v .held) where
   abbrev w : View
   w = withoutFirst v
 
@@ -109,7 +109,7 @@ module _ (s : Setup) (v : View) (form : Held s v) (r : retirable v ≡ true) (so
           parent = parent-left;
         }
 
-  pub held-left : Held s w
+  pub held-left : ViewInForm s w
   held-left =
       record {
         lawful = form .lawful;
@@ -125,8 +125,8 @@ module _ (t : Bytes) (buffer : List ℕ) (e : retiring t buffer .refusal ≡ 0) 
   unfolding retiring different elsewhere
   passes = all-passed (retiringChecks (inForm t) (viewOf t) (length buffer)) 0 refl e
 
-  pub formed : Formed t
-  formed = formed-of t (passes .0 .0 .0 .1)
+  pub formed : TableForm t
+  formed = table-form t (passes .0 .0 .0 .1)
 
   pub some : 0 < countOf t
   some = ltb-true 0 (countOf t) (passes .0 .1)
@@ -169,9 +169,6 @@ module _ (t : Bytes) (buffer : List ℕ) where
 
   pub kept : inForm t ≡ true → inForm (retiredTable t buffer) ≡ true
   kept f = either (λ (x : Bytes). inForm x ≡ true) f (form-left t buffer)
-
-  pub retired-canonical : Canonical t → Canonical (retiredTable t buffer)
-  retired-canonical c = either Canonical c (λ e. canonical-left t buffer e c)
 
   pub sized : length (retiredRecords t buffer) ≡ length buffer
   sized = by-test (eqb (retiring t buffer .refusal) 0)

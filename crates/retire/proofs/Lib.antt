@@ -1,7 +1,12 @@
--- The laws of retiring. Moving is about what stands one place lower, Retired about a call that passes its checks, Causes about one that does not;
--- Promises gathers them. Turns is about the code. Other crates' proofs cite them.
+-- The laws of retiring. Other crates' proofs cite those that are public.
+
+-- counts of what stands one place lower
 pub mod LowerCounts
+-- what a retiring leaves: the other places one place lower, a table in form; a refusal changes nothing
 pub mod Effect
+-- each refusal comes under its cause and under no other
 pub mod Causes
+-- retiring keeps its promises
 pub mod Promises
+-- the ways out of the call
 mod Ways

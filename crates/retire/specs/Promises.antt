@@ -12,7 +12,7 @@ use Rattle.table.specs.Form.{inForm}
 use Rattle.table.specs.Promises.{Shows}
 use Rattle.records.specs.Layout.{bufferSize}
 use Rattle.records.specs.Moving.{Moved}
-use Rattle.interpret.specs.Promises.{Whole, Held}
+use Rattle.interpret.specs.Promises.{RecordsSized, PlaceHeld}
 use Rattle.retire.specs.Retiring.{retiring, retiredTable, retiredRecords}
 
 -- ---- refusals
@@ -35,9 +35,9 @@ pub record Retirable (t : Bytes) : Type 0 where
 pub record Causes (t : Bytes) (buffer : List ℕ) : Type 0 where
   pub two : (retiring t buffer .refusal ≡ 2) ↔ (inForm t ≡ false)
   pub twelve : (retiring t buffer .refusal ≡ 12) ↔ ((inForm t ≡ true) × (length buffer ≢ bufferSize))
-  pub thirteen : (retiring t buffer .refusal ≡ 13) ↔ (Whole t buffer × (countOf t ≡ 0))
-  pub twentyNine : (retiring t buffer .refusal ≡ 29) ↔ (Held t buffer 0 × (Retirable t → ⊥))
-  pub none : (retiring t buffer .refusal ≡ 0) ↔ (Held t buffer 0 × Retirable t)
+  pub thirteen : (retiring t buffer .refusal ≡ 13) ↔ (RecordsSized t buffer × (countOf t ≡ 0))
+  pub twentyNine : (retiring t buffer .refusal ≡ 29) ↔ (PlaceHeld t buffer 0 × (Retirable t → ⊥))
+  pub none : (retiring t buffer .refusal ≡ 0) ↔ (PlaceHeld t buffer 0 × Retirable t)
   pub noValue : retiring t buffer .value ≡ 0
 
 -- ---- what is left
@@ -53,5 +53,5 @@ pub record Promises : Type 0 where
   pub kept : (t : Bytes) (buffer : List ℕ) → inForm t ≡ true → inForm (retiredTable t buffer) ≡ true
   pub sized : (t : Bytes) (buffer : List ℕ) → length (retiredRecords t buffer) ≡ length buffer
   -- a campaign can go on: where every place is interpreted, and the site of place 0 has a later block, it is retired
-  pub goesOn : (t : Bytes) (buffer : List ℕ) → Whole t buffer → ((i : ℕ) → i < countOf t → markAt t i ≡ 1)
+  pub goesOn : (t : Bytes) (buffer : List ℕ) → RecordsSized t buffer → ((i : ℕ) → i < countOf t → markAt t i ≡ 1)
       → (i : ℕ) → i < countOf t → siteAt t i ≡ siteAt t 0 → sequenceAt t 0 < sequenceAt t i → retiring t buffer .refusal ≡ 0

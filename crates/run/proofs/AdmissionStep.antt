@@ -21,10 +21,10 @@ use Rattle.history.proofs.Admissions.{Admitted, InTurn}
 use Rattle.run.specs.Ledger.{admit, Ledger, taken, viewIn}
 use Rattle.run.specs.Run.{Site}
 use Rattle.run.proofs.NewHistory.{newHistory, new-block, child-place, place-child, new-admitted}
-use Rattle.run.proofs.Simulation.{Tied, block-old, block-new, mark-old, mark-new, refers-old}
+use Rattle.run.proofs.Simulation.{Simulates, block-old, block-new, mark-old, mark-new, refers-old}
 use Rattle.run.proofs.PlaceHistories.{PlaceHistories}
 
-module _ (digest : Bytes → Bytes) (s : Setup) (size : ℕ) (l : Ledger) (x : Site) (t : Tied digest s size l x) (g : PlaceHistories digest s l x)
+module _ (digest : Bytes → Bytes) (s : Setup) (size : ℕ) (l : Ledger) (x : Site) (t : Simulates digest s size l x) (g : PlaceHistories digest s l x)
     (b : Bytes) (verdict : ℕ) (p : Parented digest (x .table) b verdict) where
   abbrev after : Ledger
   after = taken l (admit b verdict)

@@ -10,11 +10,11 @@ use lib.Dec.{eqb}
 use lib.ListN.{length, getD, drop, length-drop}
 use borrow.Author.Tests.{eq-eqb, ne-eqb, eqb-true, eqb-false, le-leb, lt-leb, leb-true}
 use Rattle.base.specs.Bytes.{Bytes}
-use Rattle.base.specs.LowFirst.{wordAt}
+use Rattle.base.specs.LowFirst.{lowFirstAt}
 use Rattle.base.proofs.Tests.{by-test, and-left, and-right, and-false, or-cases}
 use Rattle.run.specs.Ledger.{Call}
 use Rattle.run.specs.Encoding.{admissionByte, interpretationByte, retiringByte, takingBackByte, admissionHeader, interpretationSize, bareSize, admissionFirst, interpretationFirst, bareFirst, firstSize, firstCall, firstCalls, callsIn}
-use Rattle.run.specs.Steps.{Whole}
+use Rattle.run.specs.Steps.{WholeCall}
 
 module _ (b : Bytes) where
   -- ---- the ways out of the code that reads it
@@ -65,22 +65,22 @@ module _ (b : Bytes) where
     unfolding firstSize
     way-cut h = rw (e, lt-leb admissionHeader (length b) h)
 
-    pub way-cut-block : admissionHeader ≤ length b → length b - admissionHeader < wordAt b 2 → 0 ≡ firstSize b
+    pub way-cut-block : admissionHeader ≤ length b → length b - admissionHeader < lowFirstAt b 2 → 0 ≡ firstSize b
     unfolding firstSize
-    way-cut-block h l = let n : length b < admissionHeader + wordAt b 2 = omega arith in
-        rw (e, le-leb admissionHeader (length b) h, lt-leb (admissionHeader + wordAt b 2) (length b) n)
+    way-cut-block h l = let n : length b < admissionHeader + lowFirstAt b 2 = omega arith in
+        rw (e, le-leb admissionHeader (length b) h, lt-leb (admissionHeader + lowFirstAt b 2) (length b) n)
 
-    pub way-admission : admissionHeader ≤ length b → wordAt b 2 ≤ length b - admissionHeader → admissionHeader + wordAt b 2 ≡ firstSize b
+    pub way-admission : admissionHeader ≤ length b → lowFirstAt b 2 ≤ length b - admissionHeader → admissionHeader + lowFirstAt b 2 ≡ firstSize b
     unfolding firstSize
-    way-admission h l = let n : admissionHeader + wordAt b 2 ≤ length b = omega arith in
-        rw (e, le-leb admissionHeader (length b) h, le-leb (admissionHeader + wordAt b 2) (length b) n)
+    way-admission h l = let n : admissionHeader + lowFirstAt b 2 ≤ length b = omega arith in
+        rw (e, le-leb admissionHeader (length b) h, le-leb (admissionHeader + lowFirstAt b 2) (length b) n)
 
   -- ---- what it takes
 
   pub size-within : firstSize b ≤ length b
   unfolding firstSize
   size-within = by-test (admissionFirst b)
-      (λ y. rw y (leb-true (admissionHeader + wordAt b 2) (length b) (search (and-right, y))))
+      (λ y. rw y (leb-true (admissionHeader + lowFirstAt b 2) (length b) (search (and-right, y))))
       (λ n. by-test (interpretationFirst b) (λ y. rw (n, y) (leb-true interpretationSize (length b) (search (and-right, y))))
       (λ m. by-test (bareFirst b) (λ y. rw (n, m, y) (leb-true bareSize (length b) (search (and-right, y)))) (λ o. rw (n, m, o) (omega arith))))
 
@@ -94,11 +94,11 @@ module _ (b : Bytes) where
     | inr z ↦ let e = eqb-true (getD b 0 0) takingBackByte z in (λ q. omega arith, λ q. omega arith)
   ]
 
-  pub first-whole : firstSize b ≢ 0 → Whole b
+  pub first-whole : firstSize b ≢ 0 → WholeCall b
   first-whole some = by-test (admissionFirst b)
       (λ y.
       let header : admissionHeader ≤ length b = leb-true admissionHeader (length b) (search (and-left, and-right, y)) in
-      record { some = omega arith; word = λ _. omega arith; block = λ _. leb-true (admissionHeader + wordAt b 2) (length b) (search (and-right, y)) })
+      record { some = omega arith; word = λ _. omega arith; block = λ _. leb-true (admissionHeader + lowFirstAt b 2) (length b) (search (and-right, y)) })
       (λ n. by-test (interpretationFirst b)
       (λ y.
       let first : getD b 0 0 ≡ interpretationByte = eqb-true (getD b 0 0) interpretationByte (search (and-left, y)) in

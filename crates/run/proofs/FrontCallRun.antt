@@ -7,7 +7,7 @@ use Prim.Native.Nat.{ℕ, _+_, _-_}
 use lib.ListN.{getD, take, drop}
 use borrow.Author.Tests.{eq-eqb, ne-eqb}
 use Rattle.base.specs.Bytes.{Bytes}
-use Rattle.base.specs.LowFirst.{wordAt}
+use Rattle.base.specs.LowFirst.{lowFirstAt}
 use Rattle.base.proofs.Parts.{part-size}
 use Rattle.sha256.specs.Sha256.{sha256}
 use Rattle.answer.specs.declared.Answer.{Answer}
@@ -33,22 +33,22 @@ module _ (t : Bytes) (records : List ℕ) (b : Bytes) where
       → records′ ≡ siteStep sha256 site c .records → Ran r t′ records′
   ran c e r t′ records′ p q s = rw e (p, (q, s))
 
-  pub ran-admission : getD b 0 0 ≡ admissionByte → (n : ℕ) → n ≡ wordAt b 2 → (r : Answer) (t′ : Bytes)
+  pub ran-admission : getD b 0 0 ≡ admissionByte → (n : ℕ) → n ≡ lowFirstAt b 2 → (r : Answer) (t′ : Bytes)
       → r ≡ admission sha256 t (take ((admissionHeader + n) - admissionHeader) (drop admissionHeader b)) (getD b 1 0)
       → t′ ≡ admitted sha256 t (take ((admissionHeader + n) - admissionHeader) (drop admissionHeader b)) (getD b 1 0)
       → Ran r t′ records
   unfolding siteAnswer siteStep firstCall
   ran-admission e n w r t′ p q =
-      let size : (admissionHeader + n) - admissionHeader ≡ wordAt b 2 = part-size admissionHeader n ∙ w in
-      let its : take ((admissionHeader + n) - admissionHeader) (drop admissionHeader b) ≡ take (wordAt b 2) (drop admissionHeader b) = ap (λ (k : ℕ). take k (drop admissionHeader b)) size in
-      ran (admit (take (wordAt b 2) (drop admissionHeader b)) (getD b 1 0)) (rw (eq-eqb (getD b 0 0) admissionByte e)) r t′ records
+      let size : (admissionHeader + n) - admissionHeader ≡ lowFirstAt b 2 = part-size admissionHeader n ∙ w in
+      let its : take ((admissionHeader + n) - admissionHeader) (drop admissionHeader b) ≡ take (lowFirstAt b 2) (drop admissionHeader b) = ap (λ (k : ℕ). take k (drop admissionHeader b)) size in
+      ran (admit (take (lowFirstAt b 2) (drop admissionHeader b)) (getD b 1 0)) (rw (eq-eqb (getD b 0 0) admissionByte e)) r t′ records
       (p ∙ ap (λ (x : Bytes). admission sha256 t x (getD b 1 0)) its) (q ∙ ap (λ (x : Bytes). admitted sha256 t x (getD b 1 0)) its) refl
 
-  pub ran-interpretation : getD b 0 0 ≡ interpretationByte → (n : ℕ) → n ≡ wordAt b 1 → (r : Answer) (t′ : Bytes) (records′ : List ℕ)
+  pub ran-interpretation : getD b 0 0 ≡ interpretationByte → (n : ℕ) → n ≡ lowFirstAt b 1 → (r : Answer) (t′ : Bytes) (records′ : List ℕ)
       → r ≡ interpretation t records n → t′ ≡ marked t records n → records′ ≡ recorded t records n → Ran r t′ records′
   unfolding siteAnswer siteStep firstCall
   ran-interpretation e n w r t′ records′ p q s =
-      ran (interpret (wordAt b 1)) (rw e) r t′ records′
+      ran (interpret (lowFirstAt b 1)) (rw e) r t′ records′
       (p ∙ ap (interpretation t records) w) (q ∙ ap (marked t records) w) (s ∙ ap (recorded t records) w)
 
   pub ran-retiring : getD b 0 0 ≡ retiringByte → (r : Answer) (t′ : Bytes) (records′ : List ℕ)

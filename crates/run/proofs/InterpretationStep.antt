@@ -20,14 +20,14 @@ use Rattle.history.specs.History.{History, slotRecord, meaning}
 use Rattle.history.proofs.Meanings.{record-sized}
 use Rattle.run.specs.Ledger.{interpret, Ledger, taken}
 use Rattle.run.specs.Run.{Site}
-use Rattle.run.proofs.Simulation.{Tied}
+use Rattle.run.proofs.Simulation.{Simulates}
 use Rattle.run.proofs.PlaceHistories.{PlaceHistories, written-is}
 
 meaning-length : (s : Setup) (h : History) → length (meaning s h) ≡ partSize
 unfolding meaning
 meaning-length s h = numbers-length (λ slot. slotRecord s slot h) (λ slot l. record-sized s slot h)
 
-module _ (digest : Bytes → Bytes) (s : Setup) (size : ℕ) (l : Ledger) (x : Site) (t : Tied digest s size l x) (g : PlaceHistories digest s l x)
+module _ (digest : Bytes → Bytes) (s : Setup) (size : ℕ) (l : Ledger) (x : Site) (t : Simulates digest s size l x) (g : PlaceHistories digest s l x)
     (i : ℕ) (e : interpretation (x .table) (x .records) i .refusal ≡ 0) where
   abbrev new : List ℕ
   new = written (setupOf (x .table)) (viewOf (x .table)) (x .records) i

@@ -20,7 +20,7 @@ use Rattle.block.specs.Promises.{Shaped}
 use Rattle.table.specs.View.{maxPlaces}
 use Rattle.table.specs.Layout.{setupOf, countOf, rowAt, viewOf}
 use Rattle.table.proofs.Views.{RowForm}
-use Rattle.table.proofs.InForm.{formed-of, formed-row, one-place}
+use Rattle.table.proofs.InForm.{table-form, formed-row, one-place}
 use Rattle.admission.specs.Admission.{lists}
 use Rattle.admission.proofs.ReferenceList.{lists-member, member-lists}
 use Rattle.history.specs.History.{History, blockOf, children}
@@ -32,7 +32,7 @@ use Rattle.run.specs.Ledger.{Ledger}
 use Rattle.run.specs.Run.{Site}
 use Rattle.run.specs.Promises.{Placed, InterpretedBlock, RetiredClear, historyAt}
 use Rattle.run.proofs.PlaceHistories.{histories, history-in}
-use Rattle.run.proofs.Runs.{Together}
+use Rattle.run.proofs.Runs.{RunInvariant}
 
 -- what was checked of the history at a place, among those of the lower places
 turn-at : (digest : Bytes → Bytes) (f : ℕ → History) (k : ℕ) (rest : List History) → InTurn digest (newest f k ++ rest) → (i : ℕ) → i < k
@@ -44,7 +44,7 @@ turn-at digest f (suc k) rest g i h = elim (eq-or-lt-of-le (le-of-suc-le-suc h))
   | inr l ↦ turn-at digest f k rest (g .1) i l
 ]
 
-pub record Standing (digest : Bytes → Bytes) (l : Ledger) (t : Bytes) : Type 0 where
+pub record LedgerPlaces (digest : Bytes → Bytes) (l : Ledger) (t : Bytes) : Type 0 where
   -- the places of the table are the ledger's
   pub counted : (i : ℕ) → i < l .held → i < countOf t
   pub held : (i : ℕ) → i < countOf t → i < l .held
@@ -60,15 +60,15 @@ pub record Standing (digest : Bytes → Bytes) (l : Ledger) (t : Bytes) : Type 0
   pub refers : l .retired ≡ [] → (i j : ℕ) → i < l .held → j < l .held → List·Memᴰ (digest (l .block j)) (referencesOf (l .block i)) → rowAt t i .refersTo j ≡ true
 
 module _ (digest : Bytes → Bytes) (sized : (b : Bytes) → length (digest b) ≡ referenceSize) (s : Setup) (size : ℕ) (l : Ledger) (x : Site)
-    (t : Together digest sized s size l x) where
+    (t : RunInvariant digest sized s size l x) where
   abbrev table : Bytes
   table = x .table
 
   counted : (i : ℕ) → i < l .held → i < countOf table
-  counted i h = omega (arith, t .tied .count)
+  counted i h = omega (arith, t .simulated .count)
 
   fits : (i : ℕ) → i < l .held → i < maxPlaces
-  fits i h = omega (arith, counted i h, formed-of table (t .tied .formed) .held .fits)
+  fits i h = omega (arith, counted i h, table-form table (t .simulated .formed) .held .fits)
 
   -- ---- blocks and places
 
@@ -76,14 +76,14 @@ module _ (digest : Bytes → Bytes) (sized : (b : Bytes) → length (digest b) �
   placed b = (there, back)
     where
       there : List·Memᴰ b (l .blocks) → Placed l b ⊎ List·Memᴰ b (l .retired)
-      there m = elim (List·Memᴰ·append-cases (newest (l .block) (l .held)) (subst (List·Memᴰ b) (t .tied .stand) m)) [
+      there m = elim (List·Memᴰ·append-cases (newest (l .block) (l .held)) (subst (List·Memᴰ b) (t .simulated .stand) m)) [
         | inl k ↦ inl (newest-from (l .block) (l .held) b k)
         | inr k ↦ inr k
       ]
 
       back : Placed l b ⊎ List·Memᴰ b (l .retired) → List·Memᴰ b (l .blocks)
-      back (inl w) = subst (List·Memᴰ b) (sym (t .tied .stand)) (Memᴰ·append-left (l .retired) (Memᴰ·cast (w .2) (newest-has (l .block) (l .held) (w .0) (w .1))))
-      back (inr k) = subst (List·Memᴰ b) (sym (t .tied .stand)) (Memᴰ·append-right (newest (l .block) (l .held)) k)
+      back (inl w) = subst (List·Memᴰ b) (sym (t .simulated .stand)) (Memᴰ·append-left (l .retired) (Memᴰ·cast (w .2) (newest-has (l .block) (l .held) (w .0) (w .1))))
+      back (inr k) = subst (List·Memᴰ b) (sym (t .simulated .stand)) (Memᴰ·append-right (newest (l .block) (l .held)) k)
 
   among : (i : ℕ) → i < l .held → List·Memᴰ (l .block i) (l .blocks)
   among i h = placed (l .block i) .1 (inl (i, h, refl))
@@ -100,8 +100,8 @@ module _ (digest : Bytes → Bytes) (sized : (b : Bytes) → length (digest b) �
 
   -- two places do not share a digest
   distinct : (i j : ℕ) → i < l .held → j < l .held → digest (l .block i) ≡ digest (l .block j) → i ≡ j
-  distinct i j h k e = one-place table (t .tied .formed) i j (counted i h) (counted j k)
-      (t .tied .rows i (counted i h) .digest ∙ e ∙ sym (t .tied .rows j (counted j k) .digest))
+  distinct i j h k e = one-place table (t .simulated .formed) i j (counted i h) (counted j k)
+      (t .simulated .rows i (counted i h) .digest ∙ e ∙ sym (t .simulated .rows j (counted j k) .digest))
 
   -- ---- references
 
@@ -110,7 +110,7 @@ module _ (digest : Bytes → Bytes) (sized : (b : Bytes) → length (digest b) �
       (admitted-in digest (histories digest s l x (t .known)) (t .known .inTurn) (t .known .history i) (history-in digest s l x (t .known) i h) .shape)
 
   refers-is : (i j : ℕ) → i < l .held → j < l .held → rowAt table i .refersTo j ≡ (ltb j i && lists (l .block i) (digest (l .block j)))
-  refers-is i j h k = t .tied .rows i (counted i h) .refersTo j (fits j k)
+  refers-is i j h k = t .simulated .rows i (counted i h) .refersTo j (fits j k)
 
   lists-it : (i j : ℕ) → i < l .held → j < l .held → rowAt table i .refersTo j ≡ true → List·Memᴰ (digest (l .block j)) (referencesOf (l .block i))
   lists-it i j h k e = lists-member (l .block i) (shaped i h) (digest (l .block j)) (and-right (ltb j i) _ (sym (refers-is i j h k) ∙ e))
@@ -136,13 +136,13 @@ module _ (digest : Bytes → Bytes) (sized : (b : Bytes) → length (digest b) �
   refers-it : l .retired ≡ [] → (i j : ℕ) → i < l .held → j < l .held → List·Memᴰ (digest (l .block j)) (referencesOf (l .block i)) → rowAt table i .refersTo j ≡ true
   refers-it e i j h k m = refers-is i j h k ∙ rw (lt-ltb j i (lower e i j h k m), member-lists (l .block i) (shaped i h) (digest (l .block j)) m)
 
-  pub standing : Standing digest l table
+  pub standing : LedgerPlaces digest l table
   standing =
       record {
         counted = counted;
-        held = λ i h. omega (arith, t .tied .count);
+        held = λ i h. omega (arith, t .simulated .count);
         fits = fits;
-        row = λ i h. formed-row table (t .tied .formed) i (counted i h);
+        row = λ i h. formed-row table (t .simulated .formed) i (counted i h);
         among = among;
         placed = placed;
         lists = lists-it;
@@ -156,7 +156,7 @@ module _ (digest : Bytes → Bytes) (sized : (b : Bytes) → length (digest b) �
   blocks-are : map blockOf (histories digest s l x (t .known)) ≡ l .blocks
   blocks-are =
       map-newest blockOf (t .known .history) (l .held) (t .known .retired)
-      ∙ ap₂ _++_ (newest-same (λ i. blockOf (t .known .history i)) (l .block) (l .held) (t .known .blocks)) (t .known .retiredBlocks) ∙ sym (t .tied .stand)
+      ∙ ap₂ _++_ (newest-same (λ i. blockOf (t .known .history i)) (l .block) (l .held) (t .known .blocks)) (t .known .retiredBlocks) ∙ sym (t .simulated .stand)
 
   pub block-in : (h : History) → List·Memᴰ h (histories digest s l x (t .known)) → List·Memᴰ (blockOf h) (l .blocks)
   block-in h m = subst (List·Memᴰ (blockOf h)) blocks-are (Memᴰ·map blockOf m)

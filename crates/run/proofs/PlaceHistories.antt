@@ -6,7 +6,7 @@ use mathlib.Core.Logic.{_≢_}
 use mathlib.Core.List.{List, _++_, map, List·Memᴰ, Memᴰ·cast, Memᴰ·append-left}
 use Prim.Native.Nat.{ℕ, _<_}
 use native.Mathlib.Omega.{arith}
-use Rattle.base.specs.Bytes.{Bytes, joined}
+use Rattle.base.specs.Bytes.{Bytes, concat}
 use Rattle.base.proofs.List.{list-same}
 use Rattle.base.proofs.Members.{newest, newest-has}
 use Rattle.setup.specs.Setup.{Setup, slotCount}
@@ -27,7 +27,7 @@ use Rattle.history.proofs.Meanings.{record-sized}
 use Rattle.history.proofs.Admissions.{InTurn, admitted-in}
 use Rattle.run.specs.Ledger.{Ledger, viewIn}
 use Rattle.run.specs.Run.{Site}
-use Rattle.run.proofs.Simulation.{Tied, few}
+use Rattle.run.proofs.Simulation.{Simulates, few}
 
 -- a record worked out from the blocks that a history refers to, of which one at most is a parent, is the history's
 record-same : (s : Setup) (slot : ℕ) (h : History) (site sequence request : ℕ) (read : List Direct)
@@ -80,7 +80,7 @@ module _ (digest : Bytes → Bytes) where
     pub history-in : (i : ℕ) → i < l .held → List·Memᴰ (g .history i) histories
     history-in i h = Memᴰ·append-left (g .retired) (newest-has (g .history) (l .held) i h)
 
-  module _ (s : Setup) (size : ℕ) (l : Ledger) (x : Site) (t : Tied digest s size l x) (g : PlaceHistories s l x) (i : ℕ)
+  module _ (s : Setup) (size : ℕ) (l : Ledger) (x : Site) (t : Simulates digest s size l x) (g : PlaceHistories s l x) (i : ℕ)
       (e : interpretation (x .table) (x .records) i .refusal ≡ 0) where
     abbrev table : Bytes
     table = x .table
@@ -143,5 +143,5 @@ module _ (digest : Bytes → Bytes) where
     -- what is written is the meaning of the place's history
     pub written-is : written s v (x .records) i ≡ meaning s (g .history i)
     unfolding meaning numbersOf
-    written-is = ap joined (list-same (λ slot. flatten (recordFor s v (x .records) i slot)) (λ slot. flatten (slotRecord s slot (g .history i))) slotCount
+    written-is = ap concat (list-same (λ slot. flatten (recordFor s v (x .records) i slot)) (λ slot. flatten (slotRecord s slot (g .history i))) slotCount
         (λ slot h. ap flatten (record-is slot h)))

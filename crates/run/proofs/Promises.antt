@@ -14,7 +14,7 @@ use Rattle.block.specs.Limits.{referenceSize}
 use Rattle.table.specs.Layout.{rowStart}
 use Rattle.table.specs.Fresh.{emptyTable, freshTable}
 use Rattle.table.specs.Promises.{Empty}
-use Rattle.table.proofs.InForm.{formed-of}
+use Rattle.table.proofs.InForm.{table-form}
 use Rattle.table.proofs.Promises.{promises as table-promises}
 use Rattle.records.specs.Layout.{recordSize, flatten, partOf}
 use Rattle.records.proofs.Parts.{entry-in}
@@ -29,8 +29,8 @@ use Rattle.run.specs.Ledger.{Call, Ledger, empty}
 use Rattle.run.specs.Run.{Site, started}
 use Rattle.run.specs.Promises.{Interpreted, deliveredEntry, RetiredClear, historyAt, Delivered, OwnerRequested, LedgerHistory, ledgerOf, siteWith, SiteKeeps, AnswersKeep}
 use Rattle.run.proofs.PlaceHistories.{histories, history-in}
-use Rattle.run.proofs.Runs.{Together, run-together, answers-together, answers-formed}
-use Rattle.run.proofs.LedgerPlaces.{Standing, standing, block-in, interpreted-among, one-history-each, place-history, unretired-clear}
+use Rattle.run.proofs.Runs.{RunInvariant, run-invariant, answers-invariant, answers-formed}
+use Rattle.run.proofs.LedgerPlaces.{LedgerPlaces, standing, block-in, interpreted-among, one-history-each, place-history, unretired-clear}
 
 -- entry 3 of a slot in a block's meaning
 pub delivered-is : (s : Setup) (h : History) (slot : ℕ) → slot < slotCount
@@ -43,12 +43,12 @@ module _ (digest : Bytes → Bytes) (sized : (b : Bytes) → length (digest b) �
   unfolding freshTable
   fresh-is = rw law
 
-  pub start : (buffer : List ℕ) → Together digest sized s (length buffer) empty (started s buffer)
+  pub start : (buffer : List ℕ) → RunInvariant digest sized s (length buffer) empty (started s buffer)
   unfolding newest
   start buffer =
       let e : Empty s (freshTable s .table) = subst (Empty s) (sym fresh-is) (table-promises .empty s law) in
       record {
-        tied = record {
+        simulated = record {
           formed = e .formed;
           setup = e .setup;
           retired = e .retired;
@@ -69,11 +69,11 @@ module _ (digest : Bytes → Bytes) (sized : (b : Bytes) → length (digest b) �
         };
       }
 
-  pub run : (buffer : List ℕ) (calls : List Call) → Together digest sized s (length buffer) (ledgerOf digest s buffer calls) (siteWith digest s buffer calls)
-  run buffer calls = run-together digest sized s (length buffer) empty (started s buffer) (start buffer) calls
+  pub run : (buffer : List ℕ) (calls : List Call) → RunInvariant digest sized s (length buffer) (ledgerOf digest s buffer calls) (siteWith digest s buffer calls)
+  run buffer calls = run-invariant digest sized s (length buffer) empty (started s buffer) (start buffer) calls
 
-  module _ (size : ℕ) (l : Ledger) (x : Site) (t : Together digest sized s size l x) where
-    abbrev keeps : Standing digest l (x .table)
+  module _ (size : ℕ) (l : Ledger) (x : Site) (t : RunInvariant digest sized s size l x) where
+    abbrev keeps : LedgerPlaces digest l (x .table)
     keeps = standing digest sized s size l x t
 
     -- the history that a place's block was admitted with is one of the ledger's blocks
@@ -111,11 +111,11 @@ module _ (digest : Bytes → Bytes) (sized : (b : Bytes) → length (digest b) �
     pub site-keeps : SiteKeeps digest s l x
     site-keeps =
         record {
-          setup = t .tied .setup;
-          retired = t .tied .retired;
-          count = t .tied .count;
-          rows = λ i h. t .tied .rows i (omega (arith, t .tied .count));
-          rest = ap (λ (k : ℕ). allZero (drop (rowStart k) (x .table))) (sym (t .tied .count)) ∙ formed-of (x .table) (t .tied .formed) .zeros;
+          setup = t .simulated .setup;
+          retired = t .simulated .retired;
+          count = t .simulated .count;
+          rows = λ i h. t .simulated .rows i (omega (arith, t .simulated .count));
+          rest = ap (λ (k : ℕ). allZero (drop (rowStart k) (x .table))) (sym (t .simulated .count)) ∙ table-form (x .table) (t .simulated .formed) .zeros;
           placed = keeps .placed;
           shown = shown;
           admittedWith = λ i m. (t .known .history i, ledger-history i (m .below), t .known .blocks i (m .below), t .known .shown i (m .below) (m .mark));
@@ -128,6 +128,6 @@ module _ (digest : Bytes → Bytes) (sized : (b : Bytes) → length (digest b) �
   pub answers-keep : (buffer : List ℕ) (calls : List Call) → AnswersKeep digest s buffer calls
   answers-keep buffer calls =
       record {
-        same = answers-together digest sized s (length buffer) empty (started s buffer) (start buffer) calls;
+        same = answers-invariant digest sized s (length buffer) empty (started s buffer) (start buffer) calls;
         formed = answers-formed digest sized s (length buffer) empty (started s buffer) (start buffer) calls;
       }

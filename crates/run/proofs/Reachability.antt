@@ -27,7 +27,7 @@ use Rattle.table.specs.Rules.{parents, parentRule}
 use Rattle.table.specs.Form.{inForm}
 use Rattle.table.specs.Promises.{Grown, Marked}
 use Rattle.table.proofs.Views.{row-sym, row-trans, rule-reads, RowForm}
-use Rattle.table.proofs.InForm.{formed-of, formed-row, formed-parent}
+use Rattle.table.proofs.InForm.{table-form, formed-row, formed-parent}
 use Rattle.table.proofs.Canonical.{Canonical, tables-equal}
 use Rattle.records.specs.Layout.{partSize, bufferSize, partStart, partOf}
 use Rattle.records.proofs.Parts.{part-written, part-other}
@@ -43,7 +43,7 @@ use Rattle.interpret.proofs.Effect.{is-marked, marked-passed, recorded-passed}
 use Rattle.run.specs.Ledger.{Call, admit, interpret, retire, takeBack, Ledger, empty, taken, retiredMark, ledgerAnswer, ledgerStep, ledgerAfter}
 use Rattle.run.specs.Run.{Site, started, siteStep, siteAfter}
 use Rattle.run.specs.Promises.{ledgerOf, siteWith}
-use Rattle.run.proofs.Simulation.{Tied}
+use Rattle.run.proofs.Simulation.{Simulates}
 use Rattle.run.proofs.Runs.{after-append}
 use Rattle.run.proofs.Growth.{isRetiring, after-plain}
 use Rattle.run.proofs.Promises.{run}
@@ -165,7 +165,7 @@ module _ (digest : Bytes → Bytes) (sized : (b : Bytes) → length (digest b) �
   n = countOf t
 
   few : n ≤ maxPlaces
-  few = formed-of t f .held .fits
+  few = table-form t f .held .fits
 
   -- ---- admissions
 
@@ -267,8 +267,8 @@ module _ (digest : Bytes → Bytes) (sized : (b : Bytes) → length (digest b) �
           records = a .records;
         }
 
-  ties : (calls : List Call) → Tied digest s (length buffer) (ledgerOf digest s buffer calls) (siteWith digest s buffer calls)
-  ties calls = run digest sized s law buffer calls .tied
+  ties : (calls : List Call) → Simulates digest s (length buffer) (ledgerOf digest s buffer calls) (siteWith digest s buffer calls)
+  ties calls = run digest sized s law buffer calls .simulated
 
   admitting-all : (k : ℕ) → k ≤ n → Admitting k (admittedTo k)
   unfolding admitting siteAfter ledgerAfter
@@ -279,9 +279,9 @@ module _ (digest : Bytes → Bytes) (sized : (b : Bytes) → length (digest b) �
         records = refl;
       }
   admitting-all (suc k) h =
-      let tied = ties (admitting block k) in
+      let simulated = ties (admitting block k) in
       subst (Admitting (suc k)) (sym (after-append digest (started s buffer) (admitting block k) (admit (block k) 1 ∷ [])))
-      (admitted-next k h (admittedTo k) (tied .formed) (tied .setup) (admitting-all k (omega arith)))
+      (admitted-next k h (admittedTo k) (simulated .formed) (simulated .setup) (admitting-all k (omega arith)))
 
   -- ---- interpretations
 
@@ -349,8 +349,8 @@ module _ (digest : Bytes → Bytes) (sized : (b : Bytes) → length (digest b) �
         goes : interpretation w (x .records) k .refusal ≡ 0
         goes = causes w (x .records) k .none .1 (
           record {
-            isHeld = record {
-              isWhole = record { formed = formed; size = ap length (a .is) ∙ restored-length k (omega arith) };
+            placeHeld = record {
+              recordsSized = record { formed = formed; size = ap length (a .is) ∙ restored-length k (omega arith) };
               below = omega (arith, a .count);
             };
             unmarked = λ e. omega (arith, mark-here);
@@ -445,17 +445,17 @@ module _ (digest : Bytes → Bytes) (sized : (b : Bytes) → length (digest b) �
           is = a .records;
         })
     interpreting-all (suc k) h =
-        let tied = ties (callsTo k) in
+        let simulated = ties (callsTo k) in
         let a = interpreting-all k (omega arith) in
         by-test (interpreted (rowAt t k))
         (λ y. subst (Interpreting (suc k))
         (sym (ap (siteWith digest s buffer) (ap (λ (cs : List Call). admitting block n ++ (interpreting t k ++ cs)) (ap (λ (z : Bool). cond z (interpret k ∷ []) []) y)
         ∙ sym (append-assoc (admitting block n) (interpreting t k) (interpret k ∷ []))) ∙ after-append digest (started s buffer) (callsTo k) (interpret k ∷ [])))
-        (interpreted-next k h (interpretedTo k) (tied .formed) (tied .setup) a (eqb-true (markAt t k) 1 y)))
+        (interpreted-next k h (interpretedTo k) (simulated .formed) (simulated .setup) a (eqb-true (markAt t k) 1 y)))
         (λ z. subst (Interpreting (suc k))
         (sym (ap (siteWith digest s buffer) (ap (λ (cs : List Call). admitting block n ++ (interpreting t k ++ cs)) (ap (λ (z : Bool). cond z (interpret k ∷ []) []) z)
         ∙ ap (λ (cs : List Call). admitting block n ++ cs) (append-nil (interpreting t k)))))
-        (passed-over k h (interpretedTo k) (tied .formed) (tied .setup) a z))
+        (passed-over k h (interpretedTo k) (simulated .formed) (simulated .setup) a z))
 
     -- the calls
     abbrev pub callsOf : List Call
@@ -464,10 +464,10 @@ module _ (digest : Bytes → Bytes) (sized : (b : Bytes) → length (digest b) �
     table-is : interpretedTo n .table ≡ t
     table-is =
         let r = reached digest sized s law buffer (callsTo n) (after-plain digest s (length buffer) empty (callsTo n) (calls-plain n)) in
-        let tied = r .together .tied in
+        let simulated = r .invariant .simulated in
         let a = interpreting-all n (omega arith) in
-        tables-equal (interpretedTo n .table) t (tied .formed) f (r .canonical) all (tied .setup ∙ sym set)
-        (tied .retired ∙ ap retiredMark (r .unretired) ∙ sym unretired) (a .count)
+        tables-equal (interpretedTo n .table) t (simulated .formed) f (r .canonical) all (simulated .setup ∙ sym set)
+        (simulated .retired ∙ ap retiredMark (r .unretired) ∙ sym unretired) (a .count)
         (λ p h. let l : p < n = omega (arith, a .count) in
         subst (λ (m : ℕ). SameRow (rowAt (interpretedTo n .table) p) (withMarkOf m (rowAt t p))) (ap (λ (z : Bool). cond z (markAt t p) 0) (lt-ltb p n l)) (a .same p l))
 

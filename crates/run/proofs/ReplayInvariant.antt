@@ -16,7 +16,7 @@ use Rattle.run.specs.Run.{Site, siteAnswer, siteStep, siteAfter, siteAns
 use Rattle.run.specs.Encoding.{firstSize, firstCall, callsIn}
 use Rattle.run.proofs.FrontCall.{size-within, calls-none, calls-more}
 
-pub record Running (calls : Bytes) (x₀ : Site) (answers₀ : List ℕ) (x : Site) (answers : List ℕ) (count at size : ℕ) : Type 0 where
+pub record ReplayInvariant (calls : Bytes) (x₀ : Site) (answers₀ : List ℕ) (x : Site) (answers : List ℕ) (count at size : ℕ) : Type 0 where
   pub within : at ≤ length calls
   -- each call took a byte at least
   pub counted : count ≤ at
@@ -29,11 +29,11 @@ pub record Running (calls : Bytes) (x₀ : Site) (answers₀ : List ℕ) (x : Si
   pub records : length (x .records) ≡ length (x₀ .records)
   pub answered : length answers ≡ length answers₀
 
-pub starts : (calls : Bytes) (x : Site) (answers : List ℕ) (size : ℕ) → size ≡ firstSize calls → Running calls x answers x answers 0 0 size
+pub starts : (calls : Bytes) (x : Site) (answers : List ℕ) (size : ℕ) → size ≡ firstSize calls → ReplayInvariant calls x answers x answers 0 0 size
 starts calls x answers size e =
     record { within = omega arith; counted = omega arith; first = e; site = refl; put = refl; number = omega arith; table = refl; records = refl; answered = refl }
 
-module _ (calls : Bytes) (x₀ : Site) (answers₀ : List ℕ) (x : Site) (answers : List ℕ) (count at size : ℕ) (r : Running calls x₀ answers₀ x answers count at size) where
+module _ (calls : Bytes) (x₀ : Site) (answers₀ : List ℕ) (x : Site) (answers : List ℕ) (count at size : ℕ) (r : ReplayInvariant calls x₀ answers₀ x answers count at size) where
   abbrev left : Bytes
   left = drop at calls
 
@@ -62,7 +62,7 @@ module _ (calls : Bytes) (x₀ : Site) (answers₀ : List ℕ) (x : Site) (answe
         → answer ≡ siteAnswer sha256 x (firstCall b) → t′ ≡ siteStep sha256 x (firstCall b) .table → records′ ≡ siteStep sha256 x (firstCall b) .records
         → answers′ ≡ putAnswer answers count answer → size′ ≡ firstSize b′
         → length t′ ≡ length (x .table) → length records′ ≡ length (x .records) → length answers′ ≡ length answers
-        → Running calls x₀ answers₀ (record { table = t′; records = records′ }) answers′ (count + 1) (at + size) size′
+        → ReplayInvariant calls x₀ answers₀ (record { table = t′; records = records′ }) answers′ (count + 1) (at + size) size′
     unfolding siteAfter siteAnswers putAnswers
     goes-on b b′ here there t′ records′ answers′ answer size′ a t s p f lt lr la =
         let n : length (callsIn left) ≡ suc (length (callsIn (drop (at + size) calls))) = ap length more in

@@ -22,10 +22,10 @@ use Rattle.history.specs.History.{History, children}
 use Rattle.history.proofs.Admissions.{InTurn}
 use Rattle.run.specs.Ledger.{retire, Ledger, taken, viewIn}
 use Rattle.run.specs.Run.{Site}
-use Rattle.run.proofs.Simulation.{Tied, few, some-held, refers-moved}
+use Rattle.run.proofs.Simulation.{Simulates, few, some-held, refers-moved}
 use Rattle.run.proofs.PlaceHistories.{PlaceHistories}
 
-module _ (digest : Bytes → Bytes) (s : Setup) (size : ℕ) (l : Ledger) (x : Site) (t : Tied digest s size l x) (g : PlaceHistories digest s l x)
+module _ (digest : Bytes → Bytes) (s : Setup) (size : ℕ) (l : Ledger) (x : Site) (t : Simulates digest s size l x) (g : PlaceHistories digest s l x)
     (e : retiring (x .table) (x .records) .refusal ≡ 0) where
   some : 0 < l .held
   some = some-held digest s size l x t e

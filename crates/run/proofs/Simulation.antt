@@ -23,7 +23,7 @@ use Rattle.table.specs.Rules.{heldInForm}
 use Rattle.table.specs.Form.{inForm}
 use Rattle.table.specs.Promises.{Grown, Marked, Shows}
 use Rattle.table.proofs.Views.{row-trans, row-sym, held-same, held-in}
-use Rattle.table.proofs.InForm.{formed-of}
+use Rattle.table.proofs.InForm.{table-form}
 use Rattle.admission.specs.Admission.{lists, rowFor, admissionChecks, admission}
 use Rattle.take_back.specs.TakingBack.{takingBack, takenBack}
 use Rattle.take_back.proofs.Promises.{promises as taking-back-promises}
@@ -37,7 +37,7 @@ use Rattle.run.proofs.SameAnswers.{admission-same, interpretation-same,
 
 module _ (digest : Bytes → Bytes) where
   -- the table shows what the ledger does; and the blocks that count are those at the places and the retired ones
-  pub record Tied (s : Setup) (size : ℕ) (l : Ledger) (x : Site) : Type 0 where
+  pub record Simulates (s : Setup) (size : ℕ) (l : Ledger) (x : Site) : Type 0 where
     pub formed : inForm (x .table) ≡ true
     pub setup : setupOf (x .table) ≡ s
     pub retired : retiredOf (x .table) ≡ retiredMark (l .retired)
@@ -46,18 +46,18 @@ module _ (digest : Bytes → Bytes) where
     pub sized : length (x .records) ≡ size
     pub stand : l .blocks ≡ newest (l .block) (l .held) ++ l .retired
 
-  module _ (s : Setup) (size : ℕ) (l : Ledger) (x : Site) (t : Tied s size l x) where
+  module _ (s : Setup) (size : ℕ) (l : Ledger) (x : Site) (t : Simulates s size l x) where
     abbrev table : Bytes
     table = x .table
 
     pub few : countOf table ≤ maxPlaces
-    few = formed-of table (t .formed) .held .fits
+    few = table-form table (t .formed) .held .fits
 
     -- the ledger's places are in form too
     pub ledger-formed : heldInForm s (viewIn digest l) ≡ true
     ledger-formed =
         sym (held-same s (viewOf table) (viewIn digest l) (t .retired) (t .count) (t .rows) few)
-        ∙ rw (← (t .setup)) (held-in (setupOf table) (viewOf table) (formed-of table (t .formed) .held))
+        ∙ rw (← (t .setup)) (held-in (setupOf table) (viewOf table) (table-form table (t .formed) .held))
 
     abbrev both : inForm table ≡ heldInForm s (viewIn digest l)
     both = t .formed ∙ sym ledger-formed
@@ -153,9 +153,9 @@ module _ (digest : Bytes → Bytes) where
             ap₂ (λ (c : Bytes) (bs : List Bytes). c ∷ bs) (sym block-new)
             (t .stand ∙ ap (λ (bs : List Bytes). bs ++ l .retired) (sym (newest-same (after .block) (l .block) (l .held) block-old)))
 
-        pub admitted-tied : Tied s size after (record { table = t′; records = x .records })
+        pub admitted-simulated : Simulates s size after (record { table = t′; records = x .records })
         unfolding taken
-        admitted-tied =
+        admitted-simulated =
             record {
               formed = f;
               setup = g .setup ∙ t .setup;
@@ -189,9 +189,9 @@ module _ (digest : Bytes → Bytes) where
           row-trans (rowAt (withMark table i) j) (markedIf (eqb j i) (rowAt table j)) (viewIn digest (taken l (interpret i)) .row j) (set .rows j)
           (marked-same (eqb j i) (rowAt table j) (viewIn digest l .row j) (t .rows j (omega (arith, set .count))))
 
-      pub interpreted-tied : (records : List ℕ) → length records ≡ size → Tied s size (taken l (interpret i)) (record { table = withMark table i; records = records })
+      pub interpreted-simulated : (records : List ℕ) → length records ≡ size → Simulates s size (taken l (interpret i)) (record { table = withMark table i; records = records })
       unfolding taken
-      interpreted-tied records n =
+      interpreted-simulated records n =
           record {
             formed = still-formed table (x .records) i e;
             setup = set .setup ∙ t .setup;
@@ -246,9 +246,9 @@ module _ (digest : Bytes → Bytes) where
       unfolding taken
       blocks-left = t .stand ∙ newest-all (l .block) (l .held) (l .retired) some-held
 
-      pub retired-tied : Tied s size (taken l retire) (record { table = left; records = retiredRecords table (x .records) })
+      pub retired-simulated : Simulates s size (taken l retire) (record { table = left; records = retiredRecords table (x .records) })
       unfolding taken
-      retired-tied =
+      retired-simulated =
           record {
             formed = retiring-promises .kept table (x .records) (t .formed);
             setup = shows .setup ∙ t .setup;
@@ -278,9 +278,9 @@ module _ (digest : Bytes → Bytes) where
       unfolding taken
       blocks-before = ap (drop 1) (t .stand ∙ ap (λ (bs : List Bytes). bs ++ l .retired) (newest-last (l .block) (l .held) one-held))
 
-      pub taken-back-tied : Tied s size (taken l takeBack) (record { table = takenBack table; records = x .records })
+      pub taken-back-simulated : Simulates s size (taken l takeBack) (record { table = takenBack table; records = x .records })
       unfolding taken
-      taken-back-tied =
+      taken-back-simulated =
           record {
             formed = taking-back-promises .kept table (t .formed);
             setup = shows-before .setup ∙ t .setup;

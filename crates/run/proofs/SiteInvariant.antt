@@ -20,12 +20,12 @@ use Rattle.block.specs.declared.Reading.the-variants.{Block}
 use Rattle.block.specs.Promises.{Shaped}
 use Rattle.block.proofs.Acceptance.{reading-accepted}
 use Rattle.table.specs.View.{maxPlaces, SameRow}
-use Rattle.table.specs.Layout.{setupOf, retiredOf, countOf, digestAt, siteAt, sequenceAt, requestAt, markAt, rowAt, viewOf, withMark}
+use Rattle.table.specs.Layout.{setupOf, retiredOf, countOf, digestAt, siteAt, sequenceAt, countedRequestAt, markAt, rowAt, viewOf, withMark}
 use Rattle.table.specs.Writing.{withoutLast}
 use Rattle.table.specs.Form.{inForm}
 use Rattle.table.specs.Promises.{Grown, Marked, Shows}
 use Rattle.table.proofs.Views.{RowForm}
-use Rattle.table.proofs.InForm.{formed-of, formed-row, formed-parent}
+use Rattle.table.proofs.InForm.{table-form, formed-row, formed-parent}
 use Rattle.table.proofs.Canonical.{Canonical, row-canonical, mark-canonical}
 use Rattle.records.specs.Layout.{partSize, partStart, partOf}
 use Rattle.records.proofs.Parts.{part-written, part-other}
@@ -43,9 +43,9 @@ use Rattle.history.proofs.Ancestry.{refers-back, referred-held}
 use Rattle.run.specs.Ledger.{Call, admit, interpret, retire, takeBack, Ledger, empty, taken, retiredMark, ledgerStep, ledgerAfter}
 use Rattle.run.specs.Run.{Site, started, siteAnswer, siteStep, siteAfter}
 use Rattle.run.specs.Promises.{ledgerOf, siteWith}
-use Rattle.run.proofs.Simulation.{Tied}
-use Rattle.run.proofs.LedgerPlaces.{Standing, standing, one-history-each, unretired-clear}
-use Rattle.run.proofs.Runs.{Together, passed, refused, site-stays, step-together}
+use Rattle.run.proofs.Simulation.{Simulates}
+use Rattle.run.proofs.LedgerPlaces.{LedgerPlaces, standing, one-history-each, unretired-clear}
+use Rattle.run.proofs.Runs.{RunInvariant, passed, refused, site-stays, step-invariant}
 use Rattle.run.proofs.Growth.{some-retired, after-unretired}
 use Rattle.run.proofs.Promises.{run}
 
@@ -61,13 +61,13 @@ module _ (digest : Bytes → Bytes) (sized : (b : Bytes) → length (digest b) �
     t = x .table
 
     few : countOf t ≤ maxPlaces
-    few = formed-of t f .held .fits
+    few = table-form t f .held .fits
 
     admits-canonical : (b : Bytes) (verdict : ℕ) → admission digest t b verdict .refusal ≡ 0 → Canonical (admitted digest t b verdict)
     unfolding admitted
     admits-canonical b verdict e =
         let room = promises digest sized .causes t b verdict .none .0 e .1 in
-        rw e (row-canonical t (rowFor digest (viewOf t) b) (formed-of t f .size) room (sized b) c)
+        rw e (row-canonical t (rowFor digest (viewOf t) b) (table-form t f .size) room (sized b) c)
 
     admits-fixed : (b : Bytes) (verdict : ℕ) → admission digest t b verdict .refusal ≡ 0 → Fixed s (admitted digest t b verdict) (x .records)
     admits-fixed b verdict e i h m = elim (eq-or-lt-of-le le) [
@@ -88,7 +88,7 @@ module _ (digest : Bytes → Bytes) (sized : (b : Bytes) → length (digest b) �
         le = omega (arith, g .count)
 
     interprets-canonical : (i : ℕ) → interpretation t (x .records) i .refusal ≡ 0 → Canonical (withMark t i)
-    interprets-canonical i e = mark-canonical t i (formed-of t f .size) (here t (x .records) i e) few c
+    interprets-canonical i e = mark-canonical t i (table-form t f .size) (here t (x .records) i e) few c
 
     interprets-fixed : (i : ℕ) → interpretation t (x .records) i .refusal ≡ 0
         → Fixed s (withMark t i) (splice (x .records) (partStart i) (written (setupOf t) (viewOf t) (x .records) i))
@@ -157,37 +157,37 @@ module _ (digest : Bytes → Bytes) (sized : (b : Bytes) → length (digest b) �
 
   -- ---- what calls reach
 
-  pub record Reached (size : ℕ) (l : Ledger) (x : Site) : Type 0 where
-    pub together : Together digest sized s size l x
+  pub record SiteInvariant (size : ℕ) (l : Ledger) (x : Site) : Type 0 where
+    pub invariant : RunInvariant digest sized s size l x
     pub unretired : l .retired ≡ []
     pub canonical : Canonical (x .table)
     pub fixed : Fixed s (x .table) (x .records)
     pub accepted : (p : ℕ) → p < l .held → reading (l .block p) ≡ Block (fieldsOf (l .block p))
 
-  module _ (size : ℕ) (l : Ledger) (x : Site) (r : Reached size l x) where
-    abbrev tied : Tied digest s size l x
-    tied = r .together .tied
+  module _ (size : ℕ) (l : Ledger) (x : Site) (r : SiteInvariant size l x) where
+    abbrev simulated : Simulates digest s size l x
+    simulated = r .invariant .simulated
 
     none : retiredOf (x .table) ≡ 0
-    none = tied .retired ∙ ap retiredMark (r .unretired)
+    none = simulated .retired ∙ ap retiredMark (r .unretired)
 
     -- a call that passes and retires nothing
 
     pass-canonical : (c : Call) → siteAnswer digest x c .refusal ≡ 0 → taken l c .retired ≡ [] → Canonical (siteStep digest x c .table)
     unfolding siteAnswer siteStep taken
-    pass-canonical (admit b verdict) e o = admits-canonical x (tied .formed) none (tied .setup) (r .canonical) (r .fixed) b verdict e
-    pass-canonical (interpret i) e o = rw (marked-passed (x .table) (x .records) i e) (interprets-canonical x (tied .formed) none (tied .setup) (r .canonical) (r .fixed) i e)
+    pass-canonical (admit b verdict) e o = admits-canonical x (simulated .formed) none (simulated .setup) (r .canonical) (r .fixed) b verdict e
+    pass-canonical (interpret i) e o = rw (marked-passed (x .table) (x .records) i e) (interprets-canonical x (simulated .formed) none (simulated .setup) (r .canonical) (r .fixed) i e)
     pass-canonical retire e o = absurd (some-retired (l .block 0) (l .retired) o)
     pass-canonical takeBack e o = taken-canonical (x .table) (r .canonical)
 
     pass-fixed : (c : Call) → siteAnswer digest x c .refusal ≡ 0 → taken l c .retired ≡ [] → Fixed s (siteStep digest x c .table) (siteStep digest x c .records)
     unfolding siteAnswer siteStep taken
-    pass-fixed (admit b verdict) e o = admits-fixed x (tied .formed) none (tied .setup) (r .canonical) (r .fixed) b verdict e
+    pass-fixed (admit b verdict) e o = admits-fixed x (simulated .formed) none (simulated .setup) (r .canonical) (r .fixed) b verdict e
     pass-fixed (interpret i) e o =
         rw (marked-passed (x .table) (x .records) i e, recorded-passed (x .table) (x .records) i e)
-        (interprets-fixed x (tied .formed) none (tied .setup) (r .canonical) (r .fixed) i e)
+        (interprets-fixed x (simulated .formed) none (simulated .setup) (r .canonical) (r .fixed) i e)
     pass-fixed retire e o = absurd (some-retired (l .block 0) (l .retired) o)
-    pass-fixed takeBack e o = takes-back-fixed x (tied .formed) none (tied .setup) (r .canonical) (r .fixed) e
+    pass-fixed takeBack e o = takes-back-fixed x (simulated .formed) none (simulated .setup) (r .canonical) (r .fixed) e
 
     pass-accepted : (c : Call) → siteAnswer digest x c .refusal ≡ 0 → taken l c .retired ≡ []
         → (p : ℕ) → p < taken l c .held → reading (taken l c .block p) ≡ Block (fieldsOf (taken l c .block p))
@@ -199,46 +199,46 @@ module _ (digest : Bytes → Bytes) (sized : (b : Bytes) → length (digest b) �
     pass-accepted retire e o p h = absurd (some-retired (l .block 0) (l .retired) o)
     pass-accepted takeBack e o p h = r .accepted p (omega arith)
 
-    call-reached : (c : Call) → ledgerStep digest s size l c .retired ≡ [] → Reached size (ledgerStep digest s size l c) (siteStep digest x c)
+    call-reached : (c : Call) → ledgerStep digest s size l c .retired ≡ [] → SiteInvariant size (ledgerStep digest s size l c) (siteStep digest x c)
     call-reached c o = by-test (eqb (siteAnswer digest x c .refusal) 0) (λ y. pass (eqb-true _ 0 y)) (λ n. stay (eqb-false _ 0 n))
       where
-        pass : siteAnswer digest x c .refusal ≡ 0 → Reached size (ledgerStep digest s size l c) (siteStep digest x c)
+        pass : siteAnswer digest x c .refusal ≡ 0 → SiteInvariant size (ledgerStep digest s size l c) (siteStep digest x c)
         pass e =
-            let q : ledgerStep digest s size l c ≡ taken l c = passed digest sized s size l x (r .together) c e in
+            let q : ledgerStep digest s size l c ≡ taken l c = passed digest sized s size l x (r .invariant) c e in
             let z : taken l c .retired ≡ [] = ap (λ (m : Ledger). m .retired) (sym q) ∙ o in
-            subst (λ (m : Ledger). Reached size m (siteStep digest x c)) (sym q) (record {
-              together = subst (λ (m : Ledger). Together digest sized s size m (siteStep digest x c)) q (step-together digest sized s size l x (r .together) c);
+            subst (λ (m : Ledger). SiteInvariant size m (siteStep digest x c)) (sym q) (record {
+              invariant = subst (λ (m : Ledger). RunInvariant digest sized s size m (siteStep digest x c)) q (step-invariant digest sized s size l x (r .invariant) c);
               unretired = z;
               canonical = pass-canonical c e z;
               fixed = pass-fixed c e z;
               accepted = pass-accepted c e z;
             })
 
-        stay : siteAnswer digest x c .refusal ≢ 0 → Reached size (ledgerStep digest s size l c) (siteStep digest x c)
-        stay n = rw (refused digest sized s size l x (r .together) c n, site-stays digest sized s size l x (r .together) c n) r
+        stay : siteAnswer digest x c .refusal ≢ 0 → SiteInvariant size (ledgerStep digest s size l c) (siteStep digest x c)
+        stay n = rw (refused digest sized s size l x (r .invariant) c n, site-stays digest sized s size l x (r .invariant) c n) r
 
-  calls-reached : (size : ℕ) (l : Ledger) (x : Site) → Reached size l x → (cs : List Call) → ledgerAfter digest s size l cs .retired ≡ []
-      → Reached size (ledgerAfter digest s size l cs) (siteAfter digest x cs)
+  calls-reached : (size : ℕ) (l : Ledger) (x : Site) → SiteInvariant size l x → (cs : List Call) → ledgerAfter digest s size l cs .retired ≡ []
+      → SiteInvariant size (ledgerAfter digest s size l cs) (siteAfter digest x cs)
   unfolding ledgerAfter siteAfter
   calls-reached size l x r [] o = r
   calls-reached size l x r (c ∷ cs) o =
       calls-reached size (ledgerStep digest s size l c) (siteStep digest x c)
       (call-reached size l x r c (after-unretired digest s size (ledgerStep digest s size l c) cs o)) cs o
 
-  started-reached : lawful s ≡ true → (buffer : List ℕ) → Reached (length buffer) empty (started s buffer)
+  started-reached : lawful s ≡ true → (buffer : List ℕ) → SiteInvariant (length buffer) empty (started s buffer)
   unfolding ledgerAfter siteAfter
   started-reached law buffer =
-      let t : Together digest sized s (length buffer) empty (started s buffer) = run digest sized s law buffer [] in
+      let t : RunInvariant digest sized s (length buffer) empty (started s buffer) = run digest sized s law buffer [] in
       record {
-        together = t;
+        invariant = t;
         unretired = refl;
-        canonical = λ i h. absurd (omega (arith, t .tied .count));
-        fixed = λ i h. absurd (omega (arith, t .tied .count));
+        canonical = λ i h. absurd (omega (arith, t .simulated .count));
+        fixed = λ i h. absurd (omega (arith, t .simulated .count));
         accepted = λ p h. absurd (omega arith);
       }
 
   pub reached : lawful s ≡ true → (buffer : List ℕ) (calls : List Call) → ledgerOf digest s buffer calls .retired ≡ []
-      → Reached (length buffer) (ledgerOf digest s buffer calls) (siteWith digest s buffer calls)
+      → SiteInvariant (length buffer) (ledgerOf digest s buffer calls) (siteWith digest s buffer calls)
   reached law buffer calls o = calls-reached (length buffer) empty (started s buffer) (started-reached law buffer) calls o
 
 -- ---- the blocks of a table
@@ -248,22 +248,22 @@ pub record Rows (digest : Bytes → Bytes) (t : Bytes) (block : ℕ → Bytes) :
   pub digests : (p : ℕ) → p < countOf t → digestAt t p ≡ digest (block p)
   pub sites : (p : ℕ) → p < countOf t → siteAt t p ≡ siteOf (block p)
   pub sequences : (p : ℕ) → p < countOf t → sequenceAt t p ≡ sequenceOf (block p)
-  pub requests : (p : ℕ) → p < countOf t → (slot : ℕ) → slot < slotCount → requestAt t p slot ≡ requestFor (block p) slot
+  pub requests : (p : ℕ) → p < countOf t → (slot : ℕ) → slot < slotCount → countedRequestAt t p slot ≡ requestFor (block p) slot
   pub refers : (p q : ℕ) → p < countOf t → q < countOf t → rowAt t p .refersTo q ≡ lists (block p) (digestAt t q)
   pub linked : (p : ℕ) → p < countOf t → (r : Bytes) → List·Memᴰ r (referencesOf (block p)) → (q : ℕ) × (q < countOf t) × (digestAt t q ≡ r)
   pub accepted : (p : ℕ) → p < countOf t → reading (block p) ≡ Block (fieldsOf (block p))
 
 module _ (digest : Bytes → Bytes) (sized : (b : Bytes) → length (digest b) ≡ referenceSize) (s : Setup) (size : ℕ) (l : Ledger) (x : Site)
-    (r : Reached digest sized s size l x) where
-  abbrev ties : Tied digest s size l x
-  ties = r .together .tied
+    (r : SiteInvariant digest sized s size l x) where
+  abbrev ties : Simulates digest s size l x
+  ties = r .invariant .simulated
 
-  stand : Standing digest l (x .table)
-  stand = standing digest sized s size l x (r .together)
+  stand : LedgerPlaces digest l (x .table)
+  stand = standing digest sized s size l x (r .invariant)
 
   linked-at : (p : ℕ) → p < countOf (x .table) → (d : Bytes) → List·Memᴰ d (referencesOf (l .block p)) → (q : ℕ) × (q < countOf (x .table)) × (digestAt (x .table) q ≡ d)
   linked-at p h d m =
-      let one = one-history-each digest sized s size l x (r .together) (unretired-clear digest sized s size l x (r .together) (r .unretired)) in
+      let one = one-history-each digest sized s size l x (r .invariant) (unretired-clear digest sized s size l x (r .invariant) (r .unretired)) in
       let c = referred-held digest (l .blocks) (refers-back digest (l .blocks) one) (l .block p) (stand .among p (stand .held p h)) d m in
       let q = stand .allPlaced (r .unretired) (c .0) (c .1) in
       (q .0, stand .counted (q .0) (q .1), ties .rows (q .0) (stand .counted (q .0) (q .1)) .digest ∙ ap digest (sym (q .2)) ∙ c .2)

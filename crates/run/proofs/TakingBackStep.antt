@@ -11,10 +11,10 @@ use Rattle.history.specs.History.{History}
 use Rattle.history.proofs.Admissions.{InTurn}
 use Rattle.run.specs.Ledger.{takeBack, Ledger, taken}
 use Rattle.run.specs.Run.{Site}
-use Rattle.run.proofs.Simulation.{Tied, one-held}
+use Rattle.run.proofs.Simulation.{Simulates, one-held}
 use Rattle.run.proofs.PlaceHistories.{PlaceHistories}
 
-module _ (digest : Bytes → Bytes) (s : Setup) (size : ℕ) (l : Ledger) (x : Site) (t : Tied digest s size l x) (g : PlaceHistories digest s l x)
+module _ (digest : Bytes → Bytes) (s : Setup) (size : ℕ) (l : Ledger) (x : Site) (t : Simulates digest s size l x) (g : PlaceHistories digest s l x)
     (e : takingBack (x .table) .refusal ≡ 0) where
   -- the last one was admitted after all others
   in-turn : InTurn digest (newest (g .history) (l .held - 1) ++ g .retired)

@@ -12,7 +12,7 @@ use Prim.Native.Nat.{ℕ, zero, suc, _+_}
 use lib.Dec.{eqb, leb}
 use lib.ListN.{length, getD, take, drop}
 use Rattle.base.specs.Bytes.{Bytes}
-use Rattle.base.specs.LowFirst.{wordSize, wordAt}
+use Rattle.base.specs.LowFirst.{wordSize, lowFirstAt}
 use Rattle.run.specs.Ledger.{Call, admit, interpret, retire, takeBack}
 
 -- the first byte of an admission, of an interpretation, of a retiring, and of a taking back
@@ -41,7 +41,7 @@ bareSize = 1
 
 -- a whole admission stands at the front, a whole interpretation, or a call that is its first byte alone
 abbrev pub admissionFirst : Bytes → Bool
-admissionFirst b = eqb (getD b 0 0) admissionByte && (leb admissionHeader (length b) && leb (admissionHeader + wordAt b 2) (length b))
+admissionFirst b = eqb (getD b 0 0) admissionByte && (leb admissionHeader (length b) && leb (admissionHeader + lowFirstAt b 2) (length b))
 
 abbrev pub interpretationFirst : Bytes → Bool
 interpretationFirst b = eqb (getD b 0 0) interpretationByte && leb interpretationSize (length b)
@@ -51,13 +51,13 @@ bareFirst b = (eqb (getD b 0 0) retiringByte || eqb (getD b 0 0) takingBackByte)
 
 -- how many bytes the call at the front takes, 0 if there is none
 unfoldable pub firstSize : Bytes → ℕ
-firstSize b = cond (admissionFirst b) (admissionHeader + wordAt b 2) (cond (interpretationFirst b) interpretationSize (cond (bareFirst b) bareSize 0))
+firstSize b = cond (admissionFirst b) (admissionHeader + lowFirstAt b 2) (cond (interpretationFirst b) interpretationSize (cond (bareFirst b) bareSize 0))
 
 unfoldable pub firstCall : Bytes → Call
 firstCall b =
     cond (eqb (getD b 0 0) admissionByte)
-    (admit (take (wordAt b 2) (drop admissionHeader b)) (getD b 1 0))
-    (cond (eqb (getD b 0 0) interpretationByte) (interpret (wordAt b 1))
+    (admit (take (lowFirstAt b 2) (drop admissionHeader b)) (getD b 1 0))
+    (cond (eqb (getD b 0 0) interpretationByte) (interpret (lowFirstAt b 1))
     (cond (eqb (getD b 0 0) retiringByte) retire takeBack))
 
 -- the first k calls

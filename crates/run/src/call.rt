@@ -3,11 +3,11 @@ use answer::Answer;
 ghost use mathlib.Core.Path.{_≡_};
 ghost use Prim.Native.Nat.{_+_, _≤_};
 ghost use lib.ListN.{length};
-ghost use Rattle.base.specs.LowFirst.{wordSize, wordAt};
+ghost use Rattle.base.specs.LowFirst.{wordSize, lowFirstAt};
 ghost use Rattle.sha256.specs.Sha256.{sha256};
 ghost use Rattle.run.specs.Run.{siteAnswer, siteStep};
 ghost use Rattle.run.specs.Encoding.{firstSize, firstCall};
-ghost use Rattle.run.specs.Steps.{Whole};
+ghost use Rattle.run.specs.Steps.{WholeCall};
 
 const ADMISSION: u8 = 0;
 
@@ -25,11 +25,11 @@ const INTERPRETATION_SIZE: usize = 1 + base::WORD_SIZE;
 const BARE_SIZE: usize = 1;
 
 // The number of the eight bytes from an index on.
-fn word_at(calls: &[u8], at: usize) -> usize
+fn low_first_at(calls: &[u8], at: usize) -> usize
     requires { ⌜ (at ≤ 2) × (at + wordSize ≤ length (now calls)) ⌝ }
-    ensures { λ r. ⌜ r ≡ wordAt (now (calls .entry)) at ⌝ }
+    ensures { λ r. ⌜ r ≡ lowFirstAt (now (calls .entry)) at ⌝ }
 {
-    base::word_of(&calls[at..at + base::WORD_SIZE]) as usize
+    base::low_first(&calls[at..at + base::WORD_SIZE]) as usize
 }
 
 // How many bytes the call at the front takes, 0 if no whole call stands there.
@@ -57,7 +57,7 @@ pub fn first_size(calls: &[u8]) -> usize
     if calls.len() < ADMISSION_HEADER {
         return 0;
     }
-    let length = word_at(calls, 2);
+    let length = low_first_at(calls, 2);
     if calls.len() - ADMISSION_HEADER < length {
         return 0;
     }
@@ -66,13 +66,13 @@ pub fn first_size(calls: &[u8]) -> usize
 
 // Runs the call at the front.
 pub fn run_first(table: &mut [u8], records: &mut [u16], calls: &[u8]) -> Answer
-    requires { ⌜ Whole (now calls) ⌝ }
+    requires { ⌜ WholeCall (now calls) ⌝ }
     ensures { λ r. ⌜ r ≡ siteAnswer sha256 (record { table = now (table .entry); records = now (records .entry) }) (firstCall (now (calls .entry))) ⌝ }
     ensures { λ _. ⌜ now (table .exit) ≡ siteStep sha256 (record { table = now (table .entry); records = now (records .entry) }) (firstCall (now (calls .entry))) .table ⌝ }
     ensures { λ _. ⌜ now (records .exit) ≡ siteStep sha256 (record { table = now (table .entry); records = now (records .entry) }) (firstCall (now (calls .entry))) .records ⌝ }
 {
     if calls[0] == ADMISSION {
-        let length = word_at(calls, 2);
+        let length = low_first_at(calls, 2);
         return admission::admit(
             table,
             &calls[ADMISSION_HEADER..ADMISSION_HEADER + length],
@@ -80,7 +80,7 @@ pub fn run_first(table: &mut [u8], records: &mut [u16], calls: &[u8]) -> Answer
         );
     }
     if calls[0] == INTERPRETATION {
-        return interpret::interpret(table, word_at(calls, 1), records);
+        return interpret::interpret(table, low_first_at(calls, 1), records);
     }
     if calls[0] == RETIRING {
         return retire::retire(table, records);

@@ -11,17 +11,17 @@ use Rattle.base.proofs.Tests.{and-left, and-right}
 use Rattle.base.proofs.Bytes.{same-equal, same-refl}
 use Rattle.shelf.specs.Layout.{maxWaiting, Waiting, waitingIn, shelfBytes}
 use Rattle.shelf.specs.Rules.{eachSound, shared, rulesHold}
-use Rattle.shelf.specs.Form.{inForm}
+use Rattle.shelf.specs.Form.{shelfInForm}
 use Rattle.shelf.specs.Steps.{AllFit, Laid}
-use Rattle.shelf.proofs.Layout.{waiting-laid}
+use Rattle.shelf.proofs.ShelfLayout.{waiting-laid}
 use Rattle.shelf.proofs.Turns.{shown-fit}
 
-pub record Ruled (ws : List Waiting) : Type 0 where
+pub record RulesHold (ws : List Waiting) : Type 0 where
   pub few : length ws ≤ maxWaiting
   pub sound : eachSound ws ≡ true
   pub fair : shared ws ≡ true
 
-pub ruled-of : (ws : List Waiting) → rulesHold ws ≡ true → Ruled ws
+pub ruled-of : (ws : List Waiting) → rulesHold ws ≡ true → RulesHold ws
 unfolding rulesHold
 ruled-of ws e =
     let r = and-right (leb (length ws) maxWaiting) (eachSound ws && shared ws) e in
@@ -31,18 +31,18 @@ ruled-of ws e =
       fair = and-right (eachSound ws) (shared ws) r;
     }
 
-pub of-ruled : (ws : List Waiting) → Ruled ws → rulesHold ws ≡ true
+pub of-ruled : (ws : List Waiting) → RulesHold ws → rulesHold ws ≡ true
 unfolding rulesHold
 of-ruled ws r = rw (le-leb (length ws) maxWaiting (r .few), r .sound, r .fair)
 
 -- a shelf in form is the layout of what it shows, and the rules hold for that
-pub record Formed (s : Bytes) : Type 0 where
-  pub rules : Ruled (waitingIn s)
+pub record ShelfForm (s : Bytes) : Type 0 where
+  pub rules : RulesHold (waitingIn s)
   pub laid : Laid s (waitingIn s)
 
-pub formed-of : (s : Bytes) → inForm s ≡ true → Formed s
-unfolding inForm
-formed-of s e =
+pub shelf-form : (s : Bytes) → shelfInForm s ≡ true → ShelfForm s
+unfolding shelfInForm
+shelf-form s e =
     let same = sameBytes s (shelfBytes (waitingIn s)) in
     let r = ruled-of (waitingIn s) (and-left (rulesHold (waitingIn s)) same e) in
     record {
@@ -51,6 +51,6 @@ formed-of s e =
     }
 
 -- and the layout of what the rules hold for is in form
-pub formed-bytes : (ws : List Waiting) → AllFit ws → rulesHold ws ≡ true → inForm (shelfBytes ws) ≡ true
-unfolding inForm
+pub formed-bytes : (ws : List Waiting) → AllFit ws → rulesHold ws ≡ true → shelfInForm (shelfBytes ws) ≡ true
+unfolding shelfInForm
 formed-bytes ws f e = rw (waiting-laid ws (ruled-of ws e .few) f, e, same-refl (shelfBytes ws))

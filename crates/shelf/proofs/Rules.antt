@@ -19,7 +19,7 @@ use Rattle.base.proofs.Selection.{count-in-mid}
 use Rattle.base.proofs.Bytes.{same-equal, equal-same}
 use Rattle.shelf.specs.Layout.{Waiting}
 use Rattle.shelf.specs.Rules.{campaignCount, maxCampaign, reserved, maxShare, isFor, holds, free, lack, allLack, othersLack, hasPlace, isSame, waits, accepts, eachSound, shared}
-use Rattle.shelf.proofs.InForm.{Ruled}
+use Rattle.shelf.proofs.InForm.{RulesHold}
 
 -- ---- the shares, as facts
 
@@ -138,7 +138,7 @@ module _ (us : List Waiting) (w : Waiting) (vs : List Waiting) where
   mid-at-least d = omega (arith, holds-mid d us w vs)
 
   -- it is taken out
-  pub ruled-without : Ruled (us ++ (w ∷ vs)) → Ruled (us ++ vs)
+  pub ruled-without : RulesHold (us ++ (w ∷ vs)) → RulesHold (us ++ vs)
   ruled-without r =
       let f = fair-of (us ++ (w ∷ vs)) (r .fair) in
       let h = sound-here us w vs (r .sound) in
@@ -172,8 +172,8 @@ module _ (ws : List Waiting) (w : Waiting) where
       (λ y. let e = end-holds d in let q = eqb-true (w .campaign) d y in let k′ : holds d ws < maxShare = rw q at k in rw (end-holds d, y) (omega arith))
       (λ n. rw (end-holds d, n) (omega arith))
 
-  pub ruled-with : Ruled ws → w .campaign ≤ maxCampaign → accepts (w .block) ≡ true → waits (w .campaign) (w .block) ws ≡ false → hasPlace (w .campaign) ws ≡ true
-      → Ruled (ws ++ (w ∷ []))
+  pub ruled-with : RulesHold ws → w .campaign ≤ maxCampaign → accepts (w .block) ≡ true → waits (w .campaign) (w .block) ws ≡ false → hasPlace (w .campaign) ws ≡ true
+      → RulesHold (ws ++ (w ∷ []))
   ruled-with r h y n p =
       let f = fair-of ws (r .fair) in
       let q = place-free (w .campaign) ws p in
@@ -193,13 +193,13 @@ module _ (ws : List Waiting) (w : Waiting) where
       }
 
 -- "A campaign may always hold 2 places"
-pub place-for-two : (c : ℕ) (ws : List Waiting) → c < campaignCount → Ruled ws → holds c ws < reserved → hasPlace c ws ≡ true
+pub place-for-two : (c : ℕ) (ws : List Waiting) → c < campaignCount → RulesHold ws → holds c ws < reserved → hasPlace c ws ≡ true
 unfolding hasPlace
 place-for-two c ws h r k =
     let f = fair-of ws (r .fair) in
     rw (lt-ltb (holds c ws) maxShare (omega arith), lt-ltb (othersLack c ws) (free ws) (omega (arith, f .covered, all-lack c ws h)))
 
 -- nothing waits
-pub ruled-empty : Ruled []
+pub ruled-empty : RulesHold []
 unfolding eachSound shared holds countIn sumBelow
 ruled-empty = record { few = omega arith; sound = refl; fair = of-fair [] (record { shares = λ d h. omega arith; covered = omega arith }) }

@@ -15,23 +15,23 @@ use Rattle.base.proofs.Tests.{by-test, true-not-false, not-true-false, and-left
 use Rattle.base.proofs.List.{length-list, list-at}
 use Rattle.block.specs.Limits.{maxBlockSize}
 use Rattle.block.specs.Reading.{wellShaped, reading}
-use Rattle.shelf.specs.Layout.{entryHeader, entryStart, Waiting, countOf, campaignAt, lengthAt, blockAt, waitingAt, waitingIn}
+use Rattle.shelf.specs.Layout.{entryHeader, entryStart, Waiting, waitingCount, campaignAt, lengthAt, blockAt, waitingAt, waitingIn}
 use Rattle.shelf.specs.Rules.{maxCampaign, holds, isSame, waits, accepts, eachSound}
-use Rattle.shelf.specs.Steps.{Sized, Fits, soundAt, AllFit}
+use Rattle.shelf.specs.Steps.{ShelfSized, Fits, soundAt, AllFit}
 
-pub length-waiting : (s : Bytes) → length (waitingIn s) ≡ countOf s
+pub length-waiting : (s : Bytes) → length (waitingIn s) ≡ waitingCount s
 unfolding waitingIn
-length-waiting s = length-list (waitingAt s) (countOf s)
+length-waiting s = length-list (waitingAt s) (waitingCount s)
 
-pub waiting-end : (s : Bytes) (i : ℕ) → countOf s ≤ i → drop i (waitingIn s) ≡ []
+pub waiting-end : (s : Bytes) (i : ℕ) → waitingCount s ≤ i → drop i (waitingIn s) ≡ []
 waiting-end s i h = let l : length (waitingIn s) ≤ i = omega (arith, length-waiting s) in drop-of-length-le (waitingIn s) l
 
-module _ (s : Bytes) (i : ℕ) (below : i < countOf s) where
+module _ (s : Bytes) (i : ℕ) (below : i < waitingCount s) where
   pub waiting-cons : drop i (waitingIn s) ≡ waitingAt s i ∷ drop (i + 1) (waitingIn s)
   unfolding waitingIn
   waiting-cons =
       drop-cons (waitingIn s) i (waitingAt s i) (omega (arith, length-waiting s))
-      ∙ ap₂ (λ (w : Waiting) (n : ℕ). w ∷ drop n (waitingIn s)) (list-at (waitingAt s) (countOf s) i (waitingAt s i) below) (sym (add-one i))
+      ∙ ap₂ (λ (w : Waiting) (n : ℕ). w ∷ drop n (waitingIn s)) (list-at (waitingAt s) (waitingCount s) i (waitingAt s i) below) (sym (add-one i))
 
   pub holds-turn : (c : ℕ) → holds c (drop i (waitingIn s)) ≡ cond (eqb (campaignAt s i) c) 1 0 + holds c (drop (i + 1) (waitingIn s))
   unfolding holds countIn
@@ -70,7 +70,7 @@ sound-short s i e =
     true-not-false (and-left (accepts (blockAt s i)) (not (waits (campaignAt s i) (blockAt s i) (drop (i + 1) (waitingIn s)))) rest)
     (overlong s i (leb-false _ _ n)))
 
-pub sound-fits : (s : Bytes) → Sized s → eachSound (waitingIn s) ≡ true → Fits s 0
+pub sound-fits : (s : Bytes) → ShelfSized s → eachSound (waitingIn s) ≡ true → Fits s 0
 sound-fits s z e =
     record {
       sized = z;
@@ -87,7 +87,7 @@ shown-short s i = go (leb (lengthAt s i) maxBlockSize) refl
 
 pub shown-fit : (s : Bytes) → AllFit (waitingIn s)
 unfolding waitingIn listBelow
-shown-fit s = list-fit (waitingAt s) (countOf s) (shown-short s)
+shown-fit s = list-fit (waitingAt s) (waitingCount s) (shown-short s)
   where
     list-fit : (f : ℕ → Waiting) (k : ℕ) → ((i : ℕ) → length (f i .block) ≤ maxBlockSize) → AllFit (listBelow f k)
     list-fit f zero h = tt

@@ -8,11 +8,11 @@ ghost use mathlib.Core.Path.{_≡_};
 ghost use Prim.Native.Nat.{_≤_};
 ghost use Rattle.shelf.specs.Layout.{maxWaiting, waitingIn};
 ghost use Rattle.shelf.specs.Rules.{reserved, holds, lack, othersLack, hasPlace, shared};
-ghost use Rattle.shelf.specs.Steps.{Sized};
+ghost use Rattle.shelf.specs.Steps.{ShelfSized};
 
 // How many places a campaign holds.
 fn places_held(shelf: &[u8], campaign: u8) -> usize
-    requires { ⌜ Sized (now shelf) ⌝ }
+    requires { ⌜ ShelfSized (now shelf) ⌝ }
     ensures { λ r. ⌜ (r ≡ holds campaign (waitingIn (now (shelf .entry)))) × (r ≤ maxWaiting) ⌝ }
 {
     let k = entries::count_of(shelf);
@@ -29,7 +29,7 @@ fn places_held(shelf: &[u8], campaign: u8) -> usize
 
 // What it lacks of its 2.
 fn lacked(shelf: &[u8], campaign: u8) -> usize
-    requires { ⌜ Sized (now shelf) ⌝ }
+    requires { ⌜ ShelfSized (now shelf) ⌝ }
     ensures { λ r. ⌜ (r ≡ lack campaign (waitingIn (now (shelf .entry)))) × (r ≤ reserved) ⌝ }
 {
     let held = places_held(shelf, campaign);
@@ -41,7 +41,7 @@ fn lacked(shelf: &[u8], campaign: u8) -> usize
 
 // What the others lack of theirs.
 fn others_lack(shelf: &[u8], campaign: u8) -> usize
-    requires { ⌜ Sized (now shelf) ⌝ }
+    requires { ⌜ ShelfSized (now shelf) ⌝ }
     ensures { λ r. ⌜ r ≡ othersLack campaign (waitingIn (now (shelf .entry))) ⌝ }
 {
     let mut sum: usize = 0;
@@ -57,7 +57,7 @@ fn others_lack(shelf: &[u8], campaign: u8) -> usize
 
 // Whether there is a place for a further block of the campaign.
 pub fn has_place(shelf: &[u8], campaign: u8) -> bool
-    requires { ⌜ Sized (now shelf) ⌝ }
+    requires { ⌜ ShelfSized (now shelf) ⌝ }
     ensures { λ r. ⌜ r ≡ hasPlace campaign (waitingIn (now (shelf .entry))) ⌝ }
 {
     if MAX_SHARE <= places_held(shelf, campaign) {
@@ -68,7 +68,7 @@ pub fn has_place(shelf: &[u8], campaign: u8) -> bool
 
 // Whether no campaign holds more than 10 places, and the free ones cover what the campaigns lack of their 2.
 pub fn shared(shelf: &[u8]) -> bool
-    requires { ⌜ Sized (now shelf) ⌝ }
+    requires { ⌜ ShelfSized (now shelf) ⌝ }
     ensures { λ r. ⌜ r ≡ shared (waitingIn (now (shelf .entry))) ⌝ }
 {
     let mut sum: usize = 0;

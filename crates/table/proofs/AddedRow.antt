@@ -18,7 +18,7 @@ use Rattle.table.specs.Layout.{ownersOffset, retiredOffset, countOffset,
 use Rattle.table.specs.Rules.{rowInForm}
 use Rattle.table.specs.Promises.{Grown}
 use Rattle.table.proofs.Views.{row-trans, form-grows}
-use Rattle.table.proofs.InForm.{Formed}
+use Rattle.table.proofs.InForm.{TableForm}
 use Rattle.table.proofs.RowBytes.{rowIn, rowPart, row-in, part-same, length-row, row-back, row-bytes-same}
 
 module _ (t : Bytes) (r : Row) (size : length t ≡ tableSize) (room : countOf t < maxPlaces) (whole : length (r .digest) ≡ referenceSize) where
@@ -111,7 +111,7 @@ unfolding withRow
 put-same t r q e = ap (λ (b : Bytes). splice (splice t (rowStart (countOf t)) b) countOffset ((countOf t + 1) ∷ [])) (row-bytes-same r q e)
 
 -- one row more in form
-pub grown-formed : (t t′ : Bytes) (r : Row) → Formed t → countOf t < maxPlaces → Grown t t′ r → rowInForm (setupOf t) (viewOf t′) (countOf t) ≡ true → Formed t′
+pub grown-formed : (t t′ : Bytes) (r : Row) → TableForm t → countOf t < maxPlaces → Grown t t′ r → rowInForm (setupOf t) (viewOf t′) (countOf t) ≡ true → TableForm t′
 grown-formed t t′ r f room g e =
     record {
       size = g .size;

@@ -12,13 +12,13 @@ use lib.Dec.{eqb}
 use lib.ListN.{length, getD, take, drop, replicate, length-drop, length-append}
 use lib.Seq.{drop-drop, drop-cons, take-add, take-at, take-take, length-take-le}
 use borrow.Author.Tests.{eqb-true}
-use Rattle.base.specs.Bytes.{Bytes, partAt, joined}
+use Rattle.base.specs.Bytes.{Bytes, partAt, concat}
 use Rattle.base.specs.List.{listBelow}
 use Rattle.base.specs.Number.{pair}
 use Rattle.base.proofs.Tests.{by-test}
 use Rattle.base.proofs.Bytes.{zeros-replicate}
 use Rattle.base.proofs.List.{list-same}
-use Rattle.base.proofs.Parts.{part-and-rest, parts-list, joined-parts}
+use Rattle.base.proofs.Parts.{part-and-rest, parts-list, concat-parts}
 use Rattle.base.proofs.Splice.{splice-part-in}
 use Rattle.setup.specs.Setup.{Setup, slotCount}
 use Rattle.block.specs.Limits.{referenceSize}
@@ -26,7 +26,7 @@ use Rattle.table.specs.View.{maxPlaces, Row, View, markedIf, SameBelow}
 use Rattle.table.specs.Layout.{ownersOffset, retiredOffset, countOffset, rowsOffset, markOffset, rowSize, rowStart, tableSize, setupOf, retiredOf, countOf, rowAt, viewOf, rowBytes, layout, withRow, withMark}
 use Rattle.table.specs.Form.{inForm}
 use Rattle.table.specs.Promises.{Marked}
-use Rattle.table.proofs.InForm.{Formed, formed-of}
+use Rattle.table.proofs.InForm.{TableForm, table-form}
 use Rattle.table.proofs.RowBytes.{rowPart, length-row, row-bytes-same, requestPairs, referenceMask}
 use Rattle.table.proofs.AddedRow.{part-kept, part-here, grown}
 use Rattle.table.proofs.MarkedPlace as mark
@@ -49,13 +49,13 @@ module _ (t : Bytes) (r : Row) (size : length t ≡ tableSize) (room : countOf t
 
 -- what stands before the mark
 abbrev front : Row → Bytes
-front r = r .digest ++ (r .site ∷ (pair (r .sequence) ++ (referenceMask r ++ joined (requestPairs r))))
+front r = r .digest ++ (r .site ∷ (pair (r .sequence) ++ (referenceMask r ++ concat (requestPairs r))))
 
 front-mark : (r : Row) → rowBytes r ≡ front r ++ (r .mark ∷ [])
 unfolding rowBytes
 front-mark r =
-    sym (append-assoc (r .digest) (r .site ∷ (pair (r .sequence) ++ (referenceMask r ++ joined (requestPairs r)))) (r .mark ∷ [])
-    ∙ ap (λ (b : Bytes). r .digest ++ (r .site ∷ (pair (r .sequence) ++ b))) (append-assoc (referenceMask r) (joined (requestPairs r)) (r .mark ∷ [])))
+    sym (append-assoc (r .digest) (r .site ∷ (pair (r .sequence) ++ (referenceMask r ++ concat (requestPairs r)))) (r .mark ∷ [])
+    ∙ ap (λ (b : Bytes). r .digest ++ (r .site ∷ (pair (r .sequence) ++ b))) (append-assoc (referenceMask r) (concat (requestPairs r)) (r .mark ∷ [])))
 
 front-length : (r : Row) → length (r .digest) ≡ referenceSize → length (front r) ≡ markOffset
 front-length r whole =
@@ -96,13 +96,13 @@ module _ (t : Bytes) (i : ℕ) (size : length t ≡ tableSize) (low : i < countO
 
 -- ---- a table in form whose rows stand so is the layout of its contents: none of its bytes is left to choose
 
-module _ (t : Bytes) (f : Formed t) (c : Canonical t) where
-  rows-laid : joined (listBelow (λ i. rowBytes (rowAt t i)) (countOf t)) ≡ take (rowSize * countOf t) (drop rowsOffset t)
+module _ (t : Bytes) (f : TableForm t) (c : Canonical t) where
+  rows-laid : concat (listBelow (λ i. rowBytes (rowAt t i)) (countOf t)) ≡ take (rowSize * countOf t) (drop rowsOffset t)
   rows-laid =
-      ap joined (list-same (λ i. rowBytes (rowAt t i)) (partAt rowSize (drop rowsOffset t)) (countOf t)
+      ap concat (list-same (λ i. rowBytes (rowAt t i)) (partAt rowSize (drop rowsOffset t)) (countOf t)
       (λ i l. c i l ∙ ap (take rowSize) (sym (drop-drop (rowSize * i) rowsOffset t)))
       ∙ sym (parts-list (countOf t) rowSize (drop rowsOffset t)))
-      ∙ joined-parts (countOf t) rowSize (drop rowsOffset t)
+      ∙ concat-parts (countOf t) rowSize (drop rowsOffset t)
 
   zeros-length : rowSize * (maxPlaces - countOf t) ≡ length (drop (rowStart (countOf t)) t)
   zeros-length = sym (length-drop (rowStart (countOf t)) t ∙ omega (arith, f .size, f .held .fits))
@@ -110,7 +110,7 @@ module _ (t : Bytes) (f : Formed t) (c : Canonical t) where
   zeros-back : replicate (rowSize * (maxPlaces - countOf t)) 0 ≡ drop (rowStart (countOf t)) t
   zeros-back = ap (λ (n : ℕ). replicate n 0) zeros-length ∙ sym (zeros-replicate (drop (rowStart (countOf t)) t) (f .zeros))
 
-  rows-back : joined (listBelow (λ i. rowBytes (rowAt t i)) (countOf t)) ++ replicate (rowSize * (maxPlaces - countOf t)) 0 ≡ drop rowsOffset t
+  rows-back : concat (listBelow (λ i. rowBytes (rowAt t i)) (countOf t)) ++ replicate (rowSize * (maxPlaces - countOf t)) 0 ≡ drop rowsOffset t
   rows-back = ap₂ _++_ rows-laid zeros-back ∙ part-and-rest t rowsOffset (rowSize * countOf t)
 
   -- a byte of the header, and what follows it
@@ -129,13 +129,13 @@ pub layout-same : (s : Setup) (v w : View) → v .retired ≡ w .retired → v .
 unfolding layout
 layout-same s v w g n e =
     ap (λ (b : Bytes). s .sites ∷ (s .owners ++ (v .retired ∷ v .held ∷ (b ++ replicate (rowSize * (maxPlaces - v .held)) 0))))
-    (ap joined (list-same (λ i. rowBytes (v .row i)) (λ i. rowBytes (w .row i)) (v .held) (λ i h. row-bytes-same (v .row i) (w .row i) (e i h))))
-    ∙ ap₂ (λ (r k : ℕ). s .sites ∷ (s .owners ++ (r ∷ k ∷ (joined (listBelow (λ i. rowBytes (w .row i)) k) ++ replicate (rowSize * (maxPlaces - k)) 0)))) g n
+    (ap concat (list-same (λ i. rowBytes (v .row i)) (λ i. rowBytes (w .row i)) (v .held) (λ i h. row-bytes-same (v .row i) (w .row i) (e i h))))
+    ∙ ap₂ (λ (r k : ℕ). s .sites ∷ (s .owners ++ (r ∷ k ∷ (concat (listBelow (λ i. rowBytes (w .row i)) k) ++ replicate (rowSize * (maxPlaces - k)) 0)))) g n
 
 pub tables-equal : (t u : Bytes) → inForm t ≡ true → inForm u ≡ true → Canonical t → Canonical u → setupOf t ≡ setupOf u
     → retiredOf t ≡ retiredOf u → countOf t ≡ countOf u → SameBelow (viewOf t) (viewOf u) (countOf t) → t ≡ u
 tables-equal t u f g c d s r n e =
-    canonical-laid t (formed-of t f) c
+    canonical-laid t (table-form t f) c
     ∙ ap (λ (z : Setup). layout z (viewOf t)) s
     ∙ layout-same (setupOf u) (viewOf t) (viewOf u) r n e
-    ∙ sym (canonical-laid u (formed-of u g) d)
+    ∙ sym (canonical-laid u (table-form u g) d)

@@ -6,7 +6,7 @@ use Prim.Native.Nat.{ℕ, suc, _+_, _*_}
 use native.Mathlib.Omega.{arith}
 use lib.ListN.{length, getD, take, drop, replicate, length-append, length-replicate}
 use lib.Seq.{take-at, getD-at, drop-append-add, getD-append-add}
-use Rattle.base.specs.Bytes.{Bytes, allZero, joined}
+use Rattle.base.specs.Bytes.{Bytes, allZero, concat}
 use Rattle.base.specs.List.{listBelow}
 use Rattle.base.proofs.Bytes.{replicate-zeros}
 use Rattle.setup.specs.Setup.{Setup, lawful, slotCount}
@@ -14,7 +14,7 @@ use Rattle.setup.proofs.Thresholds.{eight-owners}
 use Rattle.table.specs.View.{maxPlaces}
 use Rattle.table.specs.Layout.{ownersOffset, retiredOffset, countOffset, rowsOffset, rowSize, rowStart, setupOf, retiredOf, countOf, layout}
 use Rattle.table.specs.Fresh.{emptyTable}
-use Rattle.table.proofs.InForm.{Formed}
+use Rattle.table.proofs.InForm.{TableForm}
 
 -- a site count, eight owners, nothing retired, no block, and n zeros
 module _ (sites : ℕ) (owners : Bytes) (eight : length owners ≡ slotCount) (n : ℕ) where
@@ -45,7 +45,7 @@ module _ (s : Setup) (law : lawful s ≡ true) where
   empty = bare (s .sites) (s .owners) eight (rowSize * maxPlaces)
 
   is-empty : emptyTable s ≡ empty
-  unfolding emptyTable layout joined listBelow empty
+  unfolding emptyTable layout concat listBelow empty
   is-empty = refl
 
   setup-shown : setupOf empty ≡ s
@@ -60,7 +60,7 @@ module _ (s : Setup) (law : lawful s ≡ true) where
   unfolding empty
   retired-shown = bare-retired (s .sites) (s .owners) eight (rowSize * maxPlaces)
 
-  formed : Formed empty
+  formed : TableForm empty
   unfolding empty
   formed =
       record {
@@ -79,5 +79,5 @@ module _ (s : Setup) (law : lawful s ≡ true) where
   pub empty-shows : (setupOf (emptyTable s) ≡ s) × (retiredOf (emptyTable s) ≡ 0) × (countOf (emptyTable s) ≡ 0)
   empty-shows = (ap setupOf is-empty ∙ setup-shown, ap retiredOf is-empty ∙ retired-shown, ap countOf is-empty ∙ count-shown)
 
-  pub empty-formed : Formed (emptyTable s)
+  pub empty-formed : TableForm (emptyTable s)
   empty-formed = rw is-empty formed

@@ -15,17 +15,17 @@ use Rattle.table.specs.Rules.{parentRule, heldInForm}
 use Rattle.table.specs.Form.{inForm}
 use Rattle.table.specs.Promises.{Shows}
 use Rattle.table.specs.Steps.{Places, LastPlace}
-use Rattle.table.proofs.Views.{same-sym, held-same, form-rule, RowForm, row-form, Held, held-of, held-in}
+use Rattle.table.proofs.Views.{same-sym, held-same, form-rule, RowForm, row-form, ViewInForm, held-of, held-in}
 
-pub record Formed (t : Bytes) : Type 0 where
+pub record TableForm (t : Bytes) : Type 0 where
   pub size : length t ≡ tableSize
-  pub held : Held (setupOf t) (viewOf t)
+  pub held : ViewInForm (setupOf t) (viewOf t)
   -- entries from the count on
   pub zeros : allZero (drop (rowStart (countOf t)) t) ≡ true
 
-pub formed-of : (t : Bytes) → inForm t ≡ true → Formed t
+pub table-form : (t : Bytes) → inForm t ≡ true → TableForm t
 unfolding inForm
-formed-of t e =
+table-form t e =
     record {
       size = eqb-true (length t) tableSize (search and-left);
       held = held-of (setupOf t) (viewOf t) (search (and-left, and-right));
@@ -33,13 +33,13 @@ formed-of t e =
     }
 
 pub formed-places : (t : Bytes) → inForm t ≡ true → Places t (countOf t)
-formed-places t e = let f = formed-of t e in record { size = f .size; bound = f .held .fits }
+formed-places t e = let f = table-form t e in record { size = f .size; bound = f .held .fits }
 
 pub last-place : (t : Bytes) → inForm t ≡ true → (last : ℕ) → countOf t ≡ suc last → LastPlace t last
-last-place t e last c = let f = formed-of t e in record { size = f .size; count = c; few = omega (arith, f .held .fits) }
+last-place t e last c = let f = table-form t e in record { size = f .size; count = c; few = omega (arith, f .held .fits) }
 
 pub formed-row : (t : Bytes) → inForm t ≡ true → (i : ℕ) → i < countOf t → RowForm (setupOf t) (viewOf t) i
-formed-row t f i h = row-form (setupOf t) (viewOf t) i (formed-of t f .held .rows i h)
+formed-row t f i h = row-form (setupOf t) (viewOf t) i (table-form t f .held .rows i h)
 
 -- where nothing has been retired, each place has its parent
 pub formed-parent : (t : Bytes) → inForm t ≡ true → retiredOf t ≡ 0 → (i : ℕ) → i < countOf t → parentRule (viewOf t) i (rowAt t i) ≡ true
@@ -53,12 +53,12 @@ one-place t f i j h l e = by-test (ltb i j)
     (λ y. absurd (formed-row t f i h .new j (ltb-true j i y) (sym e)))
     (λ m. omega (arith, ltb-false i j n, ltb-false j i m)))
 
-pub in-formed : (t : Bytes) → Formed t → inForm t ≡ true
+pub in-formed : (t : Bytes) → TableForm t → inForm t ≡ true
 unfolding inForm
 in-formed t f = rw (eq-eqb (length t) tableSize (f .size), held-in (setupOf t) (viewOf t) (f .held), f .zeros)
 
 -- a table that shows a view in form, and zeros behind it, is in form
-pub shows-formed : (s : Setup) (v : View) (t : Bytes) → Shows s v t → Held s v → inForm t ≡ true
+pub shows-formed : (s : Setup) (v : View) (t : Bytes) → Shows s v t → ViewInForm s v → inForm t ≡ true
 unfolding inForm
 shows-formed s v t w h =
     let held : heldInForm (setupOf t) (viewOf t) ≡ true =

@@ -11,14 +11,14 @@ use Rattle.base.specs.Mask.{maskBelow, inMask}
 use Rattle.base.specs.List.{listBelow}
 use Rattle.base.specs.Bytes.{Bytes, allZero, parts, splice}
 use Rattle.base.specs.Number.{number}
-use Rattle.base.specs.LowFirst.{wordSize, word, wordBytes}
+use Rattle.base.specs.LowFirst.{wordSize, lowFirst, lowFirstBytes}
 use Rattle.base.proofs.Bytes.{zeros-append, replicate-zeros}
 use Rattle.base.proofs.List.{length-list, list-at}
 use Rattle.base.proofs.Mask.{mask-below}
 use Rattle.base.proofs.Sets.{mask-has}
 use Rattle.base.proofs.Parts.{EachSize, parts-at, parts-joined, length-joined}
 use Rattle.base.proofs.Splice.{splice-low, splice-in, splice-high, splice-part-low, splice-part-in, length-splice}
-use Rattle.base.proofs.LowFirst.{length-word, word-of-bytes}
+use Rattle.base.proofs.LowFirst.{length-low-first, low-first-of-bytes}
 use Rattle.setup.specs.Setup.{slotCount}
 use Rattle.block.specs.Limits.{referenceSize}
 use Rattle.table.specs.View.{maxPlaces, SameRow}
@@ -42,10 +42,10 @@ module _ (t : Bytes) (i : ℕ) (fits : rowStart (suc i) ≤ length t) where
   mask = maskBelow (movedRow (rowAt t i) .refersTo) maxPlaces
 
   abbrev new : Bytes
-  new = wordBytes wordSize mask
+  new = lowFirstBytes wordSize mask
 
   new-length : length new ≡ wordSize
-  new-length = length-word wordSize mask
+  new-length = length-low-first wordSize mask
 
   within : referencesOffset ≤ length b
   within = omega (arith, b-length)
@@ -78,8 +78,8 @@ module _ (t : Bytes) (i : ℕ) (fits : rowStart (suc i) ≤ length t) where
         site = low siteOffset (omega arith) ∙ r .site;
         sequence = ap₂ number (low sequenceOffset (omega arith)) (low (sequenceOffset + 1) (omega arith)) ∙ r .sequence;
         refersTo = λ j h.
-            ap (λ (x : Bytes). inMask (word x) j) references-there
-            ∙ ap (λ (m : ℕ). inMask m j) (word-of-bytes wordSize mask (mask-below (movedRow (rowAt t i) .refersTo) maxPlaces))
+            ap (λ (x : Bytes). inMask (lowFirst x) j) references-there
+            ∙ ap (λ (m : ℕ). inMask m j) (low-first-of-bytes wordSize mask (mask-below (movedRow (rowAt t i) .refersTo) maxPlaces))
             ∙ mask-has (movedRow (rowAt t i) .refersTo) maxPlaces j h;
         request = λ slot h. ap₂ number (high (requestsOffset + 2 * slot) (omega arith)) (high (requestsOffset + 2 * slot + 1) (omega arith)) ∙ r .request slot h;
         mark = high markOffset (omega arith) ∙ r .mark;
@@ -196,7 +196,7 @@ module _ (t : Bytes) (size : length t ≡ tableSize) (some : 0 < countOf t) (few
       let whole : length (rowAt t (suc i) .digest) ≡ referenceSize =
       length-take-le referenceSize (drop (rowStart (suc i)) t) (omega (arith, length-drop (rowStart (suc i)) t)) in
       sym (references-put (rowAt t (suc i)) whole (movedRow (rowAt t (suc i)) .refersTo))
-      ∙ ap (λ (b : Bytes). splice b referencesOffset (wordBytes wordSize (maskBelow (movedRow (rowAt t (suc i)) .refersTo) maxPlaces))) e
+      ∙ ap (λ (b : Bytes). splice b referencesOffset (lowFirstBytes wordSize (maskBelow (movedRow (rowAt t (suc i)) .refersTo) maxPlaces))) e
 
   pub down-canonical : Canonical t → Canonical (moveDown t)
   down-canonical c i h =

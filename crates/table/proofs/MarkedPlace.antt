@@ -10,7 +10,7 @@ use lib.ListN.{length, getD, take, drop}
 use borrow.Author.Tests.{eqb-true, eqb-false, ltb-true, ltb-false}
 use Rattle.base.specs.Bytes.{Bytes, allZero, splice}
 use Rattle.base.specs.Mask.{inMask}
-use Rattle.base.specs.LowFirst.{wordSize, word}
+use Rattle.base.specs.LowFirst.{wordSize, lowFirst}
 use Rattle.base.specs.Number.{number, numberAt}
 use Rattle.base.proofs.Tests.{by-test, true-not-false}
 use Rattle.base.proofs.Count.{count-same}
@@ -22,7 +22,7 @@ use Rattle.table.specs.Layout.{ownersOffset, countOffset, siteOffset, se
 use Rattle.table.specs.Rules.{parents, parentRule, parentInForm}
 use Rattle.table.specs.Promises.{Marked}
 use Rattle.table.proofs.Views.{form-rule-reads, RowForm, row-form, form-row}
-use Rattle.table.proofs.InForm.{Formed}
+use Rattle.table.proofs.InForm.{TableForm}
 use Rattle.table.proofs.RowBytes.{rowPart, part-same}
 
 module _ (t : Bytes) (i : ℕ) (size : length t ≡ tableSize) (low : i < maxPlaces) where
@@ -64,7 +64,7 @@ module _ (t : Bytes) (i : ℕ) (size : length t ≡ tableSize) (low : i < maxPla
         digest = part-kept (rowStart i) referenceSize (omega arith);
         site = byte-kept (rowStart i + siteOffset) (omega arith);
         sequence = number-kept (rowStart i + sequenceOffset) (omega arith);
-        refersTo = λ j h. ap (λ (b : Bytes). inMask (word b) j) (part-kept (rowStart i + referencesOffset) wordSize (omega arith));
+        refersTo = λ j h. ap (λ (b : Bytes). inMask (lowFirst b) j) (part-kept (rowStart i + referencesOffset) wordSize (omega arith));
         request = λ slot h. number-kept (rowStart i + requestsOffset + 2 * slot) (omega arith);
         mark = mark-set;
       }
@@ -115,7 +115,7 @@ rule-marks v k r true e = go (parentRule v k r) (eqb (v .retired) 1) (interprete
     go false true false d h = true-not-false h refl
     go false false c d h = h
 
-module _ (t t′ : Bytes) (i : ℕ) (f : Formed t) (m : Marked t t′ i) (below : i < countOf t)
+module _ (t t′ : Bytes) (i : ℕ) (f : TableForm t) (m : Marked t t′ i) (below : i < countOf t)
     (ready : (j : ℕ) → j < i → rowAt t i .refersTo j ≡ true → rowAt t j .mark ≡ 1) where
   was : (j : ℕ) → j < countOf t → RowForm (setupOf t) (viewOf t) j
   was j h = row-form (setupOf t) (viewOf t) j (f .held .rows j h)
@@ -154,7 +154,7 @@ module _ (t t′ : Bytes) (i : ℕ) (f : Formed t) (m : Marked t t′ i) (below 
             ∙ rule-aside t i j (markedIf (eqb j i) (rowAt t j)) ∙ rule-marks (viewOf t) j (rowAt t j) (eqb j i) (was j h .parent);
       }
 
-  pub marked-formed : Formed t′
+  pub marked-formed : TableForm t′
   marked-formed =
       record {
         size = m .size;

@@ -13,12 +13,12 @@ use lib.Seq.{drop-length}
 use borrow.Author.Tests.{ltb-true, ltb-false}
 use Rattle.base.specs.Mask.{maskBelow, bitAt, inMask}
 use Rattle.base.specs.List.{listBelow}
-use Rattle.base.specs.Bytes.{Bytes, joined, splice}
-use Rattle.base.specs.LowFirst.{wordSize, wordBytes}
+use Rattle.base.specs.Bytes.{Bytes, concat, splice}
+use Rattle.base.specs.LowFirst.{wordSize, lowFirstBytes}
 use Rattle.base.proofs.Tests.{by-test}
 use Rattle.base.proofs.Mask.{bit-suc}
 use Rattle.base.proofs.Sets.{mask-members, mask-same}
-use Rattle.base.proofs.Parts.{joined-list-more}
+use Rattle.base.proofs.Parts.{concat-list-more}
 use Rattle.base.proofs.Splice.{drop-splice, splice-append, splice-before}
 use Rattle.table.specs.View.{maxPlaces}
 use Rattle.table.specs.Layout.{retiredOffset, rowsOffset, referencesOffset, rowSize, rowStart, tableSize, countOf, referencesAt, rowAt}
@@ -33,7 +33,7 @@ use Rattle.table.proofs.LoweredRows.{rows-length}
 moved-same : (t u : Bytes) (i : ℕ) → rowPart t i ≡ rowPart u i → movedBytes t i ≡ movedBytes u i
 unfolding movedBytes
 moved-same t u i e =
-    ap₂ (λ (b : Bytes) (m : ℕ). splice b referencesOffset (wordBytes wordSize m)) e
+    ap₂ (λ (b : Bytes) (m : ℕ). splice b referencesOffset (lowFirstBytes wordSize m)) e
     (mask-same (movedRow (rowAt t i) .refersTo) (movedRow (rowAt u i) .refersTo) maxPlaces (λ j h. by-test (ltb (suc j) maxPlaces)
     (λ y. ap (λ (x : Bool). ltb (suc j) maxPlaces && x) (part-same t u i e .refersTo (suc j) (ltb-true (suc j) maxPlaces y)))
     (λ n. rw n)))
@@ -50,7 +50,7 @@ half m h =
         (λ n. let z : bitAt m (suc j) ≡ 0 = ap (λ (x : ℕ). x % 2) (div-eq-of-lt (omega (arith, h, pow-mono (ltb-false (suc j) maxPlaces n)))) in rw (n, z))
 
 pub moved-is : (t : Bytes) (i references : ℕ) → references ≡ referencesAt t i → references < 2 ^ maxPlaces → (part row₁ w row₂ : Bytes) → part ≡ rowPart t i → length part ≡ rowSize
-    → row₁ ≡ splice (replicate rowSize 0) 0 part → w ≡ wordBytes wordSize (references / 2 ^ 1) → row₂ ≡ splice row₁ referencesOffset w → row₂ ≡ movedBytes t i
+    → row₁ ≡ splice (replicate rowSize 0) 0 part → w ≡ lowFirstBytes wordSize (references / 2 ^ 1) → row₂ ≡ splice row₁ referencesOffset w → row₂ ≡ movedBytes t i
 unfolding movedBytes splice
 moved-is t i references e h part row₁ w row₂ p l q u v =
     let n : 0 + length part ≡ length (replicate {A = ℕ} rowSize 0) = omega (arith, l, length-replicate {A = ℕ} rowSize 0) in
@@ -58,7 +58,7 @@ moved-is t i references e h part row₁ w row₂ p l q u v =
     q ∙ ap (λ (n : ℕ). part ++ drop n (replicate rowSize 0)) n ∙ ap (λ (x : Bytes). part ++ x) (drop-length (replicate rowSize 0)) ∙ append-nil part ∙ p in
     let m : references / 2 ^ 1 ≡ maskBelow (movedRow (rowAt t i) .refersTo) maxPlaces =
     half references h ∙ ap (λ (x : ℕ). maskBelow (λ j. ltb (suc j) maxPlaces && inMask x (suc j)) maxPlaces) e in
-    v ∙ ap₂ (λ (x y : Bytes). splice x referencesOffset y) first (u ∙ ap (wordBytes wordSize) m)
+    v ∙ ap₂ (λ (x y : Bytes). splice x referencesOffset y) first (u ∙ ap (lowFirstBytes wordSize) m)
 
 -- ---- the rows
 
@@ -76,10 +76,10 @@ module _ (t : Bytes) (size : length t ≡ tableSize) where
       f ∙ ap₂ (λ (x : Bytes) (y : Bytes). splice x (rowStart i) y) e its
       ∙ ap (λ (m : ℕ). splice (splice t rowsOffset (movedRows t i)) m (movedBytes t (suc i))) start
       ∙ splice-append t rowsOffset (movedRows t i) (omega arith) (movedBytes t (suc i))
-      ∙ ap (splice t rowsOffset) (sym (joined-list-more (λ j. movedBytes t (suc j)) i))
+      ∙ ap (splice t rowsOffset) (sym (concat-list-more (λ j. movedBytes t (suc j)) i))
 
 pub none-moved : (t : Bytes) → t ≡ splice t rowsOffset (movedRows t 0)
-unfolding splice joined listBelow
+unfolding splice concat listBelow
 none-moved t = sym (take-append-drop rowsOffset t)
 
 -- ---- the table

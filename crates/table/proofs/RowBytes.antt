@@ -8,17 +8,17 @@ use native.Mathlib.Nat.{add-assoc}
 use native.Mathlib.Omega.{arith}
 use lib.ListN.{length, getD, take, drop, length-append}
 use lib.Seq.{take-at, drop-at, drop-drop, take-take, getD-at, getD-take, getD-drop, drop-append-add, getD-append-add}
-use Rattle.base.specs.Bytes.{Bytes, partAt, parts, joined, splice}
+use Rattle.base.specs.Bytes.{Bytes, partAt, parts, concat, splice}
 use Rattle.base.specs.List.{listBelow}
 use Rattle.base.specs.Mask.{maskBelow, inMask}
 use Rattle.base.specs.Number.{number, numberAt, pair}
-use Rattle.base.specs.LowFirst.{wordSize, word, wordBytes}
+use Rattle.base.specs.LowFirst.{wordSize, lowFirst, lowFirstBytes}
 use Rattle.base.proofs.List.{length-list, list-at, list-same}
 use Rattle.base.proofs.Mask.{mask-below}
 use Rattle.base.proofs.Sets.{mask-has, mask-same}
 use Rattle.base.proofs.Parts.{part-of-front, EachSize, parts-at, parts-joined, length-joined-list}
 use Rattle.base.proofs.Number.{number-pair, number-of-part}
-use Rattle.base.proofs.LowFirst.{length-word, word-of-bytes}
+use Rattle.base.proofs.LowFirst.{length-low-first, low-first-of-bytes}
 use Rattle.setup.specs.Setup.{slotCount}
 use Rattle.block.specs.Limits.{referenceSize}
 use Rattle.table.specs.View.{maxPlaces, Row, SameRow}
@@ -33,7 +33,7 @@ rowIn b =
       digest = take referenceSize b;
       site = getD b siteOffset 0;
       sequence = numberAt b sequenceOffset;
-      refersTo = inMask (word (take wordSize (drop referencesOffset b)));
+      refersTo = inMask (lowFirst (take wordSize (drop referencesOffset b)));
       request = λ slot. numberAt b (requestsOffset + 2 * slot);
       mark = getD b markOffset 0;
     }
@@ -55,7 +55,7 @@ row-in t i =
       digest = sym (take-take referenceSize rowSize (drop (rowStart i) t) (omega arith));
       site = byte-in t i siteOffset (omega arith);
       sequence = number-in t i sequenceOffset (omega arith);
-      refersTo = λ j h. ap (λ (b : Bytes). inMask (word b) j) references;
+      refersTo = λ j h. ap (λ (b : Bytes). inMask (lowFirst b) j) references;
       request = λ slot h. ap (numberAt t) (add-assoc (rowStart i) requestsOffset (2 * slot)) ∙ number-in t i (requestsOffset + 2 * slot) (omega arith);
       mark = byte-in t i markOffset (omega arith);
     }
@@ -84,16 +84,16 @@ requestPairs r = listBelow (requestPair r) slotCount
 pair-size : (r : Row) → EachSize 2 (requestPairs r)
 pair-size r i h = ap length (list-at (requestPair r) slotCount i [] (omega (arith, length-list (requestPair r) slotCount)))
 
-pairs-length : (r : Row) → length (joined (requestPairs r)) ≡ 2 * slotCount
+pairs-length : (r : Row) → length (concat (requestPairs r)) ≡ 2 * slotCount
 pairs-length r = length-joined-list 2 (requestPair r) slotCount (λ slot. refl)
 
 -- the bytes of the references
 abbrev pub referenceMask : Row → Bytes
-referenceMask r = wordBytes wordSize (maskBelow (r .refersTo) maxPlaces)
+referenceMask r = lowFirstBytes wordSize (maskBelow (r .refersTo) maxPlaces)
 
 -- what stands from the requests on
 abbrev pub requestsOn : Row → Bytes
-requestsOn r = joined (requestPairs r) ++ (r .mark ∷ [])
+requestsOn r = concat (requestPairs r) ++ (r .mark ∷ [])
 
 -- what stands after the digest
 abbrev pub afterDigest : Row → Bytes
@@ -109,8 +109,8 @@ module _ (r : Row) (whole : length (r .digest) ≡ referenceSize) where
   unfolding rowBytes
   length-row =
       let e = length-append (referenceMask r) (requestsOn r) in
-      let f = length-append (joined (requestPairs r)) (r .mark ∷ []) in
-      length-append (r .digest) (afterDigest r) ∙ omega (arith, length-word wordSize (maskBelow (r .refersTo) maxPlaces), pairs-length r)
+      let f = length-append (concat (requestPairs r)) (r .mark ∷ []) in
+      length-append (r .digest) (afterDigest r) ∙ omega (arith, length-low-first wordSize (maskBelow (r .refersTo) maxPlaces), pairs-length r)
 
   after-at : (i : ℕ) → getD (rowBytes r) (referenceSize + i) 0 ≡ getD (afterDigest r) i 0
   unfolding rowBytes
@@ -123,16 +123,16 @@ module _ (r : Row) (whole : length (r .digest) ≡ referenceSize) where
   requests-on : drop requestsOffset (rowBytes r) ≡ requestsOn r
   requests-on =
       sym (drop-drop wordSize referencesOffset (rowBytes r)) ∙ ap (drop wordSize) references-on
-      ∙ drop-at (referenceMask r) (requestsOn r) wordSize (length-word wordSize (maskBelow (r .refersTo) maxPlaces))
+      ∙ drop-at (referenceMask r) (requestsOn r) wordSize (length-low-first wordSize (maskBelow (r .refersTo) maxPlaces))
 
   on-request : (i : ℕ) → getD (rowBytes r) (requestsOffset + i) 0 ≡ getD (requestsOn r) i 0
   on-request i = sym (getD-drop requestsOffset (rowBytes r) i 0) ∙ ap (λ (b : Bytes). getD b i 0) requests-on
 
-  references-there : word (take wordSize (drop referencesOffset (rowBytes r))) ≡ maskBelow (r .refersTo) maxPlaces
+  references-there : lowFirst (take wordSize (drop referencesOffset (rowBytes r))) ≡ maskBelow (r .refersTo) maxPlaces
   references-there =
-      ap (λ (b : Bytes). word (take wordSize b)) references-on
-      ∙ ap word (take-at (referenceMask r) (requestsOn r) wordSize (length-word wordSize (maskBelow (r .refersTo) maxPlaces)))
-      ∙ word-of-bytes wordSize (maskBelow (r .refersTo) maxPlaces) (mask-below (r .refersTo) maxPlaces)
+      ap (λ (b : Bytes). lowFirst (take wordSize b)) references-on
+      ∙ ap lowFirst (take-at (referenceMask r) (requestsOn r) wordSize (length-low-first wordSize (maskBelow (r .refersTo) maxPlaces)))
+      ∙ low-first-of-bytes wordSize (maskBelow (r .refersTo) maxPlaces) (mask-below (r .refersTo) maxPlaces)
 
   -- the pair of a slot, among those joined
   pair-there : (slot : ℕ) → slot < slotCount → partAt 2 (requestsOn r) slot ≡ requestPair r slot
@@ -156,7 +156,7 @@ module _ (r : Row) (whole : length (r .digest) ≡ referenceSize) where
         sequence = ap₂ number (after-at 1) (after-at 2) ∙ number-pair (r .sequence);
         refersTo = λ j h. ap (λ (m : ℕ). inMask m j) references-there ∙ mask-has (r .refersTo) maxPlaces j h;
         request = request-there;
-        mark = on-request (2 * slotCount) ∙ getD-at (joined (requestPairs r)) (r .mark) [] 0 (2 * slotCount) (pairs-length r);
+        mark = on-request (2 * slotCount) ∙ getD-at (concat (requestPairs r)) (r .mark) [] 0 (2 * slotCount) (pairs-length r);
       }
 
   -- ---- other references
@@ -174,12 +174,12 @@ module _ (r : Row) (whole : length (r .digest) ≡ referenceSize) where
       ap (take referencesOffset) (cut (r .refersTo))
       ∙ take-at front (referenceMask r ++ requestsOn r) referencesOffset (length-append (r .digest) (r .site ∷ pair (r .sequence)) ∙ omega arith)
 
-  pub references-put : (test : ℕ → Bool) → splice (rowBytes r) referencesOffset (wordBytes wordSize (maskBelow test maxPlaces)) ≡ rowBytes (referring r test)
+  pub references-put : (test : ℕ → Bool) → splice (rowBytes r) referencesOffset (lowFirstBytes wordSize (maskBelow test maxPlaces)) ≡ rowBytes (referring r test)
   unfolding splice
   references-put test =
-      let mask : Bytes = wordBytes wordSize (maskBelow test maxPlaces) in
+      let mask : Bytes = lowFirstBytes wordSize (maskBelow test maxPlaces) in
       ap₂ (λ (x y : Bytes). x ++ (mask ++ y)) front-there
-      (ap (λ (n : ℕ). drop (referencesOffset + n) (rowBytes r)) (length-word wordSize (maskBelow test maxPlaces)) ∙ requests-on)
+      (ap (λ (n : ℕ). drop (referencesOffset + n) (rowBytes r)) (length-low-first wordSize (maskBelow test maxPlaces)) ∙ requests-on)
       ∙ sym (cut test)
 
 -- rows that show the same have the same bytes
@@ -187,5 +187,5 @@ pub row-bytes-same : (r q : Row) → SameRow r q → rowBytes r ≡ rowBytes q
 unfolding rowBytes
 row-bytes-same r q e =
     ap₂ _++_ (e .digest) (ap₂ _∷_ (e .site) (ap₂ (λ (x : ℕ) (y : Bytes). pair x ++ y) (e .sequence)
-    (ap₂ (λ (m : ℕ) (y : Bytes). wordBytes wordSize m ++ y) (mask-same (r .refersTo) (q .refersTo) maxPlaces (e .refersTo))
-    (ap₂ (λ (x : List Bytes) (m : ℕ). joined x ++ (m ∷ [])) (list-same (requestPair r) (requestPair q) slotCount (λ slot h. ap pair (e .request slot h))) (e .mark)))))
+    (ap₂ (λ (m : ℕ) (y : Bytes). lowFirstBytes wordSize m ++ y) (mask-same (r .refersTo) (q .refersTo) maxPlaces (e .refersTo))
+    (ap₂ (λ (x : List Bytes) (m : ℕ). concat x ++ (m ∷ [])) (list-same (requestPair r) (requestPair q) slotCount (λ slot h. ap pair (e .request slot h))) (e .mark)))))

@@ -53,9 +53,6 @@ same-refl v k i h = row-refl (v .row i)
 pub same-sym : (v w : View) (k : ℕ) → SameBelow v w k → SameBelow w v k
 same-sym v w k e i h = row-sym (v .row i) (w .row i) (e i h)
 
-pub same-trans : (u v w : View) (k : ℕ) → SameBelow u v k → SameBelow v w k → SameBelow u w k
-same-trans u v w k e f i h = row-trans (u .row i) (v .row i) (w .row i) (e i h) (f i h)
-
 pub same-lower : (v w : View) (k i : ℕ) → i ≤ k → SameBelow v w k → SameBelow v w i
 same-lower v w k i l e j h = e j (omega arith)
 
@@ -183,13 +180,13 @@ form-row s v i f =
 
 -- ---- what a view in form has
 
-pub record Held (s : Setup) (v : View) : Type 0 where
+pub record ViewInForm (s : Setup) (v : View) : Type 0 where
   pub lawful : lawful s ≡ true
   pub retired : v .retired ≤ 1
   pub fits : v .held ≤ maxPlaces
   pub rows : (i : ℕ) → i < v .held → rowInForm s v i ≡ true
 
-pub held-of : (s : Setup) (v : View) → heldInForm s v ≡ true → Held s v
+pub held-of : (s : Setup) (v : View) → heldInForm s v ≡ true → ViewInForm s v
 unfolding heldInForm
 held-of s v e =
     record {
@@ -199,12 +196,12 @@ held-of s v e =
       rows = all-true-at (rowInForm s v) (v .held) (search (and-right, and-left));
     }
 
-pub held-in : (s : Setup) (v : View) → Held s v → heldInForm s v ≡ true
+pub held-in : (s : Setup) (v : View) → ViewInForm s v → heldInForm s v ≡ true
 unfolding heldInForm
 held-in s v h = rw (h .lawful, le-leb (v .retired) 1 (h .retired), le-leb (v .held) maxPlaces (h .fits), all-true (rowInForm s v) (v .held) (h .rows))
 
 -- one row more
-pub form-grows : (s : Setup) (v w : View) → Held s v → v .retired ≡ w .retired → w .held ≡ suc (v .held) → v .held < maxPlaces → SameBelow v w (v .held) → rowInForm s w (v .held) ≡ true → Held s w
+pub form-grows : (s : Setup) (v w : View) → ViewInForm s v → v .retired ≡ w .retired → w .held ≡ suc (v .held) → v .held < maxPlaces → SameBelow v w (v .held) → rowInForm s w (v .held) ≡ true → ViewInForm s w
 form-grows s v w h g n l e r =
     record {
       lawful = h .lawful;

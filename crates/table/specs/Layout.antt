@@ -17,9 +17,9 @@ use Prim.Native.Nat.{ℕ, _+_, _-_, _*_}
 use lib.ListN.{getD, take, drop, replicate}
 use Rattle.base.specs.Mask.{maskBelow, inMask}
 use Rattle.base.specs.List.{listBelow}
-use Rattle.base.specs.Bytes.{Bytes, joined, splice}
+use Rattle.base.specs.Bytes.{Bytes, concat, splice}
 use Rattle.base.specs.Number.{numberAt, pair}
-use Rattle.base.specs.LowFirst.{wordSize, wordAt, wordBytes}
+use Rattle.base.specs.LowFirst.{wordSize, lowFirstAt, lowFirstBytes}
 use Rattle.setup.specs.Setup.{Setup, slotCount}
 use Rattle.block.specs.Limits.{referenceSize}
 use Rattle.table.specs.View.{maxPlaces, Row, View}
@@ -88,10 +88,10 @@ abbrev pub sequenceAt : Bytes → ℕ → ℕ
 sequenceAt t i = numberAt t (rowStart i + sequenceOffset)
 
 abbrev pub referencesAt : Bytes → ℕ → ℕ
-referencesAt t i = wordAt t (rowStart i + referencesOffset)
+referencesAt t i = lowFirstAt t (rowStart i + referencesOffset)
 
-abbrev pub requestAt : Bytes → ℕ → ℕ → ℕ
-requestAt t i slot = numberAt t (rowStart i + requestsOffset + 2 * slot)
+abbrev pub countedRequestAt : Bytes → ℕ → ℕ → ℕ
+countedRequestAt t i slot = numberAt t (rowStart i + requestsOffset + 2 * slot)
 
 abbrev pub markAt : Bytes → ℕ → ℕ
 markAt t i = getD t (rowStart i + markOffset) 0
@@ -103,7 +103,7 @@ rowAt t i =
       site = siteAt t i;
       sequence = sequenceAt t i;
       refersTo = inMask (referencesAt t i);
-      request = requestAt t i;
+      request = countedRequestAt t i;
       mark = markAt t i;
     }
 
@@ -117,8 +117,8 @@ rowBytes r =
     r .digest
     ++ (r .site
     ∷ (pair (r .sequence)
-    ++ (wordBytes wordSize (maskBelow (r .refersTo) maxPlaces)
-    ++ (joined (listBelow (λ slot. pair (r .request slot)) slotCount)
+    ++ (lowFirstBytes wordSize (maskBelow (r .refersTo) maxPlaces)
+    ++ (concat (listBelow (λ slot. pair (r .request slot)) slotCount)
     ++ (r .mark ∷ [])))))
 
 -- "Entries from the count on are zero"
@@ -128,7 +128,7 @@ layout s v =
     ∷ (s .owners
     ++ (v .retired
     ∷ (v .held
-    ∷ (joined (listBelow (λ i. rowBytes (v .row i)) (v .held))
+    ∷ (concat (listBelow (λ i. rowBytes (v .row i)) (v .held))
     ++ replicate (rowSize * (maxPlaces - v .held)) 0))))
 
 -- a table with a row at the next place, and the count one more

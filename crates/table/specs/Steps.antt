@@ -5,12 +5,12 @@ use mathlib.Core.List.{List, [], _++_}
 use Prim.Native.Nat.{ℕ, zero, suc, _+_, _/_, _%_, _^_, _≤_, _<_}
 use lib.Dec.{eqb}
 use lib.ListN.{length, getD, take, drop}
-use Rattle.base.specs.Bytes.{Bytes, joined}
+use Rattle.base.specs.Bytes.{Bytes, concat}
 use Rattle.base.specs.Search.{anyBelow}
 use Rattle.base.specs.List.{listBelow}
 use Rattle.base.specs.Mask.{maskBelow, inMask}
 use Rattle.base.specs.Number.{pair}
-use Rattle.base.specs.LowFirst.{wordSize, wordBytes}
+use Rattle.base.specs.LowFirst.{wordSize, lowFirstBytes}
 use Rattle.base.specs.Steps.{printCount, printsBelow}
 use Rattle.setup.specs.Setup.{maxSites, slotCount}
 use Rattle.block.specs.Layout.{requestsIn, countedRequest}
@@ -53,8 +53,8 @@ rowWith t i references =
     }
 
 -- the two bytes of each slot's counted request
-abbrev pub requestBytes : Bytes → Bytes
-requestBytes list = joined (listBelow (λ slot. pair (countedRequest (requestsIn list) slot)) slotCount)
+abbrev pub countedRequestBytes : Bytes → Bytes
+countedRequestBytes list = concat (listBelow (λ slot. pair (countedRequest (requestsIn list) slot)) slotCount)
 
 -- a row with the places referred to as a mask, uninterpreted
 abbrev pub newRow : Bytes → ℕ → ℕ → ℕ → Bytes → Row
@@ -70,7 +70,7 @@ newRow d site sequence references requests =
 
 -- the bytes of a row with these references in place of its own
 abbrev pub withReferences : Bytes → ℕ → Bytes
-withReferences row references = take referencesOffset row ++ (wordBytes wordSize references ++ drop requestsOffset row)
+withReferences row references = take referencesOffset row ++ (lowFirstBytes wordSize references ++ drop requestsOffset row)
 
 -- for a block of this site and sequence number, that at place j is a parent
 abbrev pub parentAt : Bytes → ℕ → ℕ → ℕ → Bool
@@ -103,7 +103,7 @@ printsMet t i = printsBelow (groupAt t) (printAt t) i (groupAt t i)
 
 -- what the check of a row asks of a caller: its site below n, which of the lower places are interpreted and which of its own site, and the
 -- prints of its group
-pub record Met (t : Bytes) (i marked own prints : ℕ) : Type 0 where
+pub record RowContext (t : Bytes) (i marked own prints : ℕ) : Type 0 where
   pub site : siteAt t i < setupOf t .sites
   pub marks : marked ≡ marksBelow t i
   pub same : own ≡ siteBelow t (siteAt t i) i

@@ -7,8 +7,8 @@ use lib.Dec.{ltb}
 use lib.ListN.{take, drop, replicate}
 use Rattle.base.specs.Mask.{maskBelow}
 use Rattle.base.specs.List.{listBelow}
-use Rattle.base.specs.Bytes.{Bytes, joined, splice}
-use Rattle.base.specs.LowFirst.{wordSize, wordBytes}
+use Rattle.base.specs.Bytes.{Bytes, concat, splice}
+use Rattle.base.specs.LowFirst.{wordSize, lowFirstBytes}
 use Rattle.table.specs.View.{maxPlaces, Row, View}
 use Rattle.table.specs.Layout.{retiredOffset, countOffset, referencesOffset, rowSize, rowStart, countOf, rowAt}
 
@@ -42,11 +42,11 @@ withoutFirst v = record { retired = 1; held = v .held - 1; row = λ i. movedRow 
 
 -- the bytes of such a row: the places referred to changed, all others as they are
 unfoldable pub movedBytes : Bytes → ℕ → Bytes
-movedBytes t i = splice (take rowSize (drop (rowStart i) t)) referencesOffset (wordBytes wordSize (maskBelow (movedRow (rowAt t i) .refersTo) maxPlaces))
+movedBytes t i = splice (take rowSize (drop (rowStart i) t)) referencesOffset (lowFirstBytes wordSize (maskBelow (movedRow (rowAt t i) .refersTo) maxPlaces))
 
 -- those of the places 1 to k
 abbrev pub movedRows : Bytes → ℕ → Bytes
-movedRows t k = joined (listBelow (λ i. movedBytes t (suc i)) k)
+movedRows t k = concat (listBelow (λ i. movedBytes t (suc i)) k)
 
 -- the table that has retired something, with the count one less, the other rows one place lower, and zeros at the old last place
 unfoldable pub moveDown : Bytes → Bytes

@@ -14,7 +14,7 @@ ghost use Rattle.setup.specs.Setup.{maxSites};
 ghost use Rattle.table.specs.View.{interpreted};
 ghost use Rattle.table.specs.Layout.{tableSize, setupOf, retiredOf, digestAt, rowAt, viewOf};
 ghost use Rattle.table.specs.Rules.{hasDigest, parentInForm, rowInForm, heldInForm};
-ghost use Rattle.table.specs.Steps.{Place, Places, Lower, Met, rowWith, groupAt, printAt, printsMet, marksClosed};
+ghost use Rattle.table.specs.Steps.{Place, Places, Lower, RowContext, rowWith, groupAt, printAt, printsMet, marksClosed};
 
 // A digest is of one of these groups and has a print in it, by its first two bytes. Equal digests have both in common, and others seldom do.
 const GROUPS: usize = 16;
@@ -93,7 +93,7 @@ fn parent_in_form(table: &[u8], i: usize, references: u64) -> bool
 // prints in the group of its digest.
 fn row_in_form(table: &[u8], i: usize, marked: u64, own: u64, prints: u64) -> bool
     requires { ⌜ Place (now table) i ⌝ }
-    requires { ⌜ Met (now table) i marked own prints ⌝ }
+    requires { ⌜ RowContext (now table) i marked own prints ⌝ }
     ensures { λ r. ⌜ r ≡ rowInForm (setupOf (now (table .entry))) (viewOf (now (table .entry))) i ⌝ }
 {
     if 1 < rows::mark_at(table, i) {

@@ -25,7 +25,7 @@ fn moved_bytes(table: &[u8], i: usize) -> [u8; ROW_SIZE]
     base::put(
         &mut row,
         REFERENCES_OFFSET,
-        &base::word_bytes(references >> 1),
+        &base::low_first_bytes(references >> 1),
     );
     row
 }

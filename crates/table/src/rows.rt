@@ -13,7 +13,7 @@ ghost use mathlib.Core.Path.{_≡_};
 ghost use Prim.Native.Nat.{_<_};
 ghost use lib.ListN.{length};
 ghost use Rattle.setup.specs.Setup.{ownerOf, slotCount};
-ghost use Rattle.table.specs.Layout.{tableSize, setupOf, retiredOf, countOf, digestAt, siteAt, sequenceAt, referencesAt, requestAt, markAt};
+ghost use Rattle.table.specs.Layout.{tableSize, setupOf, retiredOf, countOf, digestAt, siteAt, sequenceAt, referencesAt, countedRequestAt, markAt};
 ghost use Rattle.table.specs.Steps.{Place};
 
 pub fn sites_of(table: &[u8]) -> u8
@@ -81,13 +81,13 @@ pub fn references_at(table: &[u8], i: usize) -> u64
     ensures { λ r. ⌜ r ≡ referencesAt (now (table .entry)) i ⌝ }
 {
     let at = ROWS_OFFSET + ROW_SIZE * i + REFERENCES_OFFSET;
-    base::word_of(&table[at..at + base::WORD_SIZE])
+    base::low_first(&table[at..at + base::WORD_SIZE])
 }
 
 // The counted request of a slot, 0 if none.
 pub fn request_at(table: &[u8], i: usize, slot: usize) -> u16
     requires { ⌜ Place (now table) i × (slot < slotCount) ⌝ }
-    ensures { λ r. ⌜ r ≡ requestAt (now (table .entry)) i slot ⌝ }
+    ensures { λ r. ⌜ r ≡ countedRequestAt (now (table .entry)) i slot ⌝ }
 {
     let at = ROWS_OFFSET + ROW_SIZE * i + REQUESTS_OFFSET + 2 * slot;
     base::number_of(table[at], table[at + 1])

@@ -17,12 +17,12 @@ ghost use Rattle.setup.specs.Setup.{slotCount};
 ghost use Rattle.block.specs.Limits.{referenceSize};
 ghost use Rattle.table.specs.Layout.{countOf, rowSize, rowBytes, withRow, withMark};
 ghost use Rattle.table.specs.Writing.{withoutRow};
-ghost use Rattle.table.specs.Steps.{Place, LastPlace, rowWith, requestBytes, newRow, withReferences};
+ghost use Rattle.table.specs.Steps.{Place, LastPlace, rowWith, countedRequestBytes, newRow, withReferences};
 
 // Puts the counted request of each slot of the list, two bytes each.
 fn put_requests(table: &mut [u8], at: usize, list: &[u8])
     requires { ⌜ at + 2 * slotCount ≤ length (now table) ⌝ }
-    ensures { λ _. ⌜ now (table .exit) ≡ splice (now (table .entry)) at (requestBytes (now (list .entry))) ⌝ }
+    ensures { λ _. ⌜ now (table .exit) ≡ splice (now (table .entry)) at (countedRequestBytes (now (list .entry))) ⌝ }
 {
     let mut slot = 0;
     while slot < SLOTS {
@@ -55,7 +55,11 @@ fn write_row(
         at + SITE_OFFSET,
         &[site, (sequence / 256) as u8, (sequence % 256) as u8],
     );
-    base::put(table, at + REFERENCES_OFFSET, &base::word_bytes(references));
+    base::put(
+        table,
+        at + REFERENCES_OFFSET,
+        &base::low_first_bytes(references),
+    );
     put_requests(table, at + REQUESTS_OFFSET, requests);
     base::put(table, at + MARK_OFFSET, &[0u8]);
 }
@@ -84,7 +88,11 @@ fn write_carried(table: &mut [u8], at: usize, row: &[u8], references: u64)
     ensures { λ _. ⌜ now (table .exit) ≡ splice (now (table .entry)) at (withReferences (now (row .entry)) references) ⌝ }
 {
     base::put(table, at, &row[0..REFERENCES_OFFSET]);
-    base::put(table, at + REFERENCES_OFFSET, &base::word_bytes(references));
+    base::put(
+        table,
+        at + REFERENCES_OFFSET,
+        &base::low_first_bytes(references),
+    );
     base::put(table, at + REQUESTS_OFFSET, &row[REQUESTS_OFFSET..]);
 }
 

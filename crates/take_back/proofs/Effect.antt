@@ -17,14 +17,14 @@ use Rattle.table.specs.Layout.{setupOf, countOf, viewOf}
 use Rattle.table.specs.Writing.{withoutLast, withoutRow}
 use Rattle.table.specs.Form.{inForm}
 use Rattle.table.specs.Promises.{Shows}
-use Rattle.table.proofs.Views.{Held, row-same, same-refl}
-use Rattle.table.proofs.InForm.{Formed, formed-of, shows-formed}
+use Rattle.table.proofs.Views.{ViewInForm, row-same, same-refl}
+use Rattle.table.proofs.InForm.{TableForm, table-form, shows-formed}
 use Rattle.table.proofs.Canonical.{Canonical}
 use Rattle.table.proofs.ClearedRow.{left-shows, left-canonical}
 use Rattle.take_back.specs.TakingBack.{takingBackChecks, takingBack, takenBack}
 
 -- the view that is left is in form: no row refers to a later one
-pub held-left : (s : Setup) (v : View) → Held s v → Held s (withoutLast v)
+pub held-left : (s : Setup) (v : View) → ViewInForm s v → ViewInForm s (withoutLast v)
 held-left s v h =
     record {
       lawful = h .lawful;
@@ -38,8 +38,8 @@ module _ (t : Bytes) (e : takingBack t .refusal ≡ 0) where
   unfolding takingBack different elsewhere
   passes = all-passed (takingBackChecks (inForm t) (viewOf t)) 0 refl e
 
-  formed : Formed t
-  formed = formed-of t (passes .0 .0 .1)
+  formed : TableForm t
+  formed = table-form t (passes .0 .0 .1)
 
   some : 0 < countOf t
   some = ltb-true 0 (countOf t) (passes .0 .1)

@@ -16,7 +16,7 @@ use Rattle.table.specs.Layout.{countOf, markAt, viewOf, withRow}
 use Rattle.table.specs.Writing.{withoutRow}
 use Rattle.table.specs.Form.{inForm}
 use Rattle.table.specs.Promises.{Grown}
-use Rattle.table.proofs.InForm.{formed-of}
+use Rattle.table.proofs.InForm.{table-form}
 use Rattle.table.proofs.ClearedRow.{row-undone}
 use Rattle.admission.specs.Admission.{rowFor, admission, admitted}
 use Rattle.admission.proofs.Effect.{refused-table}
@@ -56,7 +56,7 @@ module _ (digest : Bytes → Bytes) (sized : (b : Bytes) → length (digest b) �
   undone = (
     passes-back,
     table-passed t′ (number-of passes-back) ∙ ap withoutRow with-row
-        ∙ row-undone t (rowFor digest (viewOf t) b) (formed-of t was .size) (promises digest sized .causes t b verdict .none .0 e .1) (sized b) (formed-of t was .zeros),
+        ∙ row-undone t (rowFor digest (viewOf t) b) (table-form t was .size) (promises digest sized .causes t b verdict .none .0 e .1) (sized b) (table-form t was .zeros),
   )
 
 -- ---- and after many

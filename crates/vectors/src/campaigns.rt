@@ -1,4 +1,4 @@
-// Campaigns through admission and interpretation, with SHA-256: what each call is answered, and what each block makes in slot 0.
+// Campaigns written down as text, run through the calls with SHA-256: what each call is answered, and what each block makes in slot 0.
 use crate::line::Line;
 use crate::watching;
 use answer::Answer;
@@ -23,21 +23,19 @@ const ENTRY_SIZE: usize = 6;
 // The block is admitted, and interpreted at its place.
 const ARRIVES: u8 = b'a';
 
-// It is admitted. With another letter it is brought with verdict 0.
+// The block is admitted, and not interpreted.
 const ADMITTED: u8 = b'd';
 
-// It is named and not brought, so that another can refer to it.
-const NAMED: u8 = b'n';
-
-// The place that stands for the site is interpreted, or asked for its ancestors.
+// The place whose number stands for the site is interpreted.
 const INTERPRETED: u8 = b'i';
 
+// The watch is asked for the ancestors of the place whose number stands for the site.
 const ASKED: u8 = b'p';
 
-// The watch is asked for forks.
+// The watch is asked for the sites that forked.
 const WATCHED: u8 = b'f';
 
-// The site builds its next block with these requests; it arrives where it was built.
+// The site builds its next block with these requests, and the block arrives where it was built.
 const BUILT: u8 = b'b';
 
 // Place 0 is retired.
@@ -204,12 +202,8 @@ fn show_interpreted(table: &mut [u8], records: &mut [u16], place: usize) {
 
 // Admits the block, and interprets it at its place if that is asked for.
 fn settle(table: &mut [u8], records: &mut [u16], step: u8, block: &[u8]) {
-    if step == NAMED {
-        return;
-    }
-    let verdict: u8 = if step <= ADMITTED { 1 } else { 0 };
-    let answer = admission::admit(table, block, verdict);
-    if step != ARRIVES {
+    let answer = admission::admit(table, block, 1);
+    if step == ADMITTED {
         show_answer(b"admit", answer);
         return;
     }
@@ -387,265 +381,4 @@ pub fn show(name: &[u8], sites: u8, campaign: &[u8]) {
     let mut table = fresh.table;
     let mut records = [0u16; BUFFER_SIZE];
     run_on(&mut table, &mut records, campaign);
-}
-
-// Each block refers to the one before; the first requests 7.
-fn show_chain() {
-    show(
-        b"n 1, a chain of four",
-        1,
-        b"a00\x07.0 a01..10 a02..11 a03..12",
-    );
-}
-
-// Block 0 requests 42; four blocks refer to it, four to all of those, four to all of these.
-fn show_thirteen() {
-    show(
-        b"n 4, 13 blocks",
-        4,
-        b"a00*.0 a01..10 a10..10 a20..10 a30..10 a02..41234 a11..41234 a21..41234 a31..41234 a03..45678 a12..45678 a22..45678 a32..45678",
-    );
-}
-
-// Blocks 1 to 3 of sites 0 to 2 send ECHO; site 3 hears of two of them, then of the third.
-fn show_echoes_of_4() {
-    show(
-        b"n 4, ECHO from two sites, then from a third",
-        4,
-        b"a00*.0 a01..10 a10..10 a20..10 a30..212 a31..243",
-    );
-}
-
-// Blocks 4 and 5 of sites 0 and 1 send READY; site 3 hears of one, then of the other, and then its own.
-fn show_readies_of_4() {
-    show(
-        b"n 4, READY from one site, from two, and its own",
-        4,
-        b"a00*.0 a01..10 a10..10 a20..10 a02..3123 a11..3123 a30..14 a31..265 a32..17",
-    );
-}
-
-// Blocks 4 to 6 of sites 0 to 2 send READY; site 3 hears of two of them, then of the third.
-fn show_third_ready() {
-    show(
-        b"n 4, READY from two sites, then from a third",
-        4,
-        b"a00*.0 a01..10 a10..10 a20..10 a02..3123 a11..3123 a21..3123 a30..245 a31..276",
-    );
-}
-
-// Blocks 1 to 5 of sites 1 to 5 send ECHO; site 6 hears of four of them, then of the fifth.
-fn show_echoes_of_7() {
-    show(
-        b"n 7, ECHO from four sites, then from a fifth",
-        7,
-        b"a00*.0 a10..10 a20..10 a30..10 a40..10 a50..10 a60..41234 a61..265",
-    );
-}
-
-// Blocks 6 to 9 of sites 1 to 4 send READY; site 6 hears of two, then of a third, then its own, then of a fourth site.
-fn show_readies_of_7() {
-    show(
-        b"n 7, READY from two sites, from three, its own, and from a fifth",
-        7,
-        b"a00*.0 a10..10 a20..10 a30..10 a40..10 a50..10 a11..512345 a21..512345 a31..512345 a41..512345 a60..267 a61..2:8 a62..1; a63..2<9",
-    );
-}
-
-// Site 1 refers to both, site 2 to the second alone.
-fn show_fork() {
-    show(
-        b"n 4, a fork with 42 and 43",
-        4,
-        b"a00*.0 a00+.0 a10..201 a20..11",
-    );
-}
-
-// Site 1 requests 42; site 0 requests 42, and 43 a block later.
-fn show_requests() {
-    show(
-        b"n 4, requests of another site, and of the owner once more",
-        4,
-        b"a10*.0 a00*.0 a01+.11",
-    );
-}
-
-// Blocks 2 and 3 are both of site 1 and send ECHO; site 3 hears of them and of site 2, then of site 0.
-fn show_distinct() {
-    show(
-        b"n 4, two ECHOs of one site, and of two more sites",
-        4,
-        b"a00*.0 a01..10 a10..10 a10.510 a20..10 a30..3234 a31..251",
-    );
-}
-
-// Site 2 refers to a block that refers to the SEND.
-fn show_direct() {
-    show(
-        b"n 4, a SEND two references away",
-        4,
-        b"a00*.0 a10..10 a20..11",
-    );
-}
-
-// Blocks 2, 3 and 4 are of site 1; 3 and 4 have parent 2, and 4 refers to 3 too.
-fn show_branches() {
-    show(
-        b"n 4, two branches of a site",
-        4,
-        b"a00*.0 a10.510 a10..0 a11..220 a11..3320",
-    );
-}
-
-// 43 arrives first, and is listed first.
-fn show_lower_first() {
-    show(
-        b"n 4, the higher number first",
-        4,
-        b"a00+.0 a00*.0 a10..201 a20..210",
-    );
-}
-
-// Blocks 4, 5 send READY 42, blocks 10, 11 READY 43; site 3 hears of all four in this order.
-fn show_lower_sender() {
-    show(
-        b"n 4, READY 42 of sites 2 and 3, READY 43 of sites 0 and 1",
-        4,
-        b"a00*.0 a01..10 a10..10 a20..10 a21..3123 a30..3123 a00+.0 a01.516 a10.516 a20.516 a02.53789 a11.53789 a30..445:;",
-    );
-}
-
-// Blocks 4 and 5 send READY 43, blocks 7 to 9 ECHO 42; site 3 hears of all five in this order.
-fn show_echo_first() {
-    show(
-        b"n 4, READY 43 of two sites, ECHO 42 of three",
-        4,
-        b"a00+.0 a01.510 a10.510 a20.510 a02.53123 a11.53123 a00*.0 a01..16 a10..16 a20..16 a30..545789",
-    );
-}
-
-// A place that is not there, one that waits for two, one that waits, one twice.
-fn show_order() {
-    show(
-        b"n 4, interpretations that wait",
-        4,
-        b"i00..0 d00*.0 d00+.0 d30..11 d31..220 i30..0 i00..0 i30..0 i20..0 i10..0 i30..0 i20..0 i30..0 i30..0",
-    );
-}
-
-// It holds blocks of one branch of site 0 alone.
-fn show_first_site() {
-    show(
-        b"n 4, the first of two sites",
-        4,
-        b"i00..0 d00*.0 d01..10 i10..0 i00..0 i10..0 d00*.0 d10..10 d20..10 i30..0 i20..0 v02..3134 d02..3134 n11..3134 n21..3134 d12..3678 d11..3134 d21..3134 i40..0 i50..0 i60..0 d12..3678 i70..0 i70..0",
-    );
-}
-
-// It gets the other branch first, and the same blocks in another order.
-fn show_second_site() {
-    show(
-        b"n 4, the second of two sites",
-        4,
-        b"d00+.0 d30..10 d01..201 d00*.0 d01..3301 d20..13 d10..13 d01..13 i60..0 i30..0 i60..0 i50..0 i40..0 d21..3765 d11..3765 i80..0 i70..0 d31..3198 i90..0 i00..0 i10..0 i20..0 i90..0 d32..1: i:0..0",
-    );
-}
-
-// Blocks 1 and 2 are a fork of site 3. Blocks 3 to 5 of sites 0 to 2 send ECHO, and that of site 2 refers to a branch too; 6 to 8 send READY.
-fn show_beside_fork() {
-    show(
-        b"n 4, delivery beside a fork of site 3",
-        4,
-        b"a00*.0 a30.\x010 a30.\x020 a01..10 a10..10 a20..201 a02..3345 a11..3345 a21..3345 a12..3678 f00..0",
-    );
-}
-
-// Block 1, the owner's second, requests 42. Blocks 2 to 4 of the other sites send ECHO, 5 to 7 READY; the owner refers to all and requests 43.
-fn show_owner_outside() {
-    show(
-        b"n 4, a later request of the owner, and the three other sites",
-        4,
-        b"a00..0 a01*.10 a10..201 a20..201 a30..201 a11..3234 a21..3234 a31..3234 a02+.71234567",
-    );
-}
-
-// Sites 0 and 1 alone build: blocks 3 and 4 hear of two ECHOs, and block 5 of no READY.
-fn show_one_site_fewer() {
-    show(
-        b"n 4, one site fewer than n - f",
-        4,
-        b"a00*.0 a01..10 a10..10 a02..212 a11..212 a12..234",
-    );
-}
-
-// Block 7 of site 0 delivers; block 8, site 3's only one, is above all of them and refers to block 7 alone.
-fn show_last_not_full() {
-    show(
-        b"n 4, a last block of a site that is not full",
-        4,
-        b"a00*.0 a01..10 a10..10 a20..10 a02..3123 a11..3123 a21..3123 a03..3456 a30..17",
-    );
-}
-
-// Interpretation of a place that is not there, with a buffer of one number too few, then with a whole one.
-fn show_lengths() {
-    let fresh = table::fresh(4, [0; SLOTS]);
-    let mut table = fresh.table;
-    let mut short = [0u16; BUFFER_SIZE - 1];
-    let mut whole = [0u16; BUFFER_SIZE];
-    show_answer(
-        b"interpret, 20479 numbers",
-        interpret::interpret(&mut table, 0, &mut short),
-    );
-    show_answer(
-        b"interpret, 20480 numbers",
-        interpret::interpret(&mut table, 0, &mut whole),
-    );
-}
-
-fn show_campaigns() {
-    show_chain();
-    show_thirteen();
-    show_echoes_of_4();
-    show_readies_of_4();
-    show_third_ready();
-}
-
-fn show_more_campaigns() {
-    show_echoes_of_7();
-    show_readies_of_7();
-    show_fork();
-    show_requests();
-    show_distinct();
-}
-
-fn show_traps() {
-    show_direct();
-    show_branches();
-    show_lower_first();
-    show_lower_sender();
-}
-
-fn show_sites() {
-    show_lengths();
-    show_echo_first();
-    show_order();
-    show_first_site();
-    show_second_site();
-}
-
-// Runs that the promise of arrival is about, beside the one of 13 blocks.
-fn show_arrivals() {
-    show_beside_fork();
-    show_owner_outside();
-    show_one_site_fewer();
-    show_last_not_full();
-}
-
-pub fn show_all() {
-    show_campaigns();
-    show_more_campaigns();
-    show_traps();
-    show_sites();
-    show_arrivals();
 }

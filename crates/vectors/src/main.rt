@@ -1,5 +1,5 @@
 // A test program: the digests of published messages, what reading answers of blocks at every limit, what admission answers of a table that
-// fills up, what one message does to a record, what the blocks of document 01's campaigns make, what the watch names and building writes in
+// fills up, what one message does to a record, what the blocks of document 01's starred cases make, what the watch names and building writes in
 // campaigns of their own, and what retiring answers and leaves, also in a campaign of 240 blocks. The file stdout has what it must write; the
 // values there are the standard's and those of documents 01 and 02. Promises: safe, and ends. Assumes: the contracts of io and libc.
 mod admissions;
@@ -10,6 +10,7 @@ mod digests;
 mod line;
 mod messages;
 mod retiring;
+mod starred;
 mod watching;
 
 fn main() {
@@ -17,7 +18,7 @@ fn main() {
     blocks::show_all();
     admissions::show_all();
     messages::show_all();
-    campaigns::show_all();
+    starred::show_all();
     building::show_all();
     retiring::show_all();
 }

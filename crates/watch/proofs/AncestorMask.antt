@@ -17,16 +17,16 @@ use Rattle.base.proofs.Mask.{mask-below}
 use Rattle.base.proofs.Sets.{ones-members}
 use Rattle.table.specs.Layout.{countOf, viewOf}
 use Rattle.table.specs.Form.{inForm}
-use Rattle.watch.specs.Ancestors.{isAncestor, Ancestor, ancestorMask, ancestorAnswer, ancestors}
+use Rattle.watch.specs.Ancestors.{isAncestor, PlaceAncestor, ancestorMask, ancestorAnswer, ancestors}
 use Rattle.watch.proofs.InForm.{places-fit, refers-lower}
 use Rattle.watch.proofs.AncestorTest.{ancestor-lower, ancestor-bit}
 use Rattle.watch.proofs.Causes.{ancestors-found, ancestors-refused, answer-none}
 
 module _ (t : Bytes) (i : ℕ) where
-  mask-bit : inForm t ≡ true → i < countOf t → (a : ℕ) → (inMask (ancestorMask (viewOf t) i) a ≡ true) ↔ Ancestor (viewOf t) a i
+  mask-bit : inForm t ≡ true → i < countOf t → (a : ℕ) → (inMask (ancestorMask (viewOf t) i) a ≡ true) ↔ PlaceAncestor (viewOf t) a i
   mask-bit y h a = ancestor-bit (viewOf t) (places-fit t y) (refers-lower t y) i a h
 
-  pub found-bit : inForm t ≡ true → i < countOf t → (a : ℕ) → (inMask (ancestors t i .places) a ≡ true) ↔ Ancestor (viewOf t) a i
+  pub found-bit : inForm t ≡ true → i < countOf t → (a : ℕ) → (inMask (ancestors t i .places) a ≡ true) ↔ PlaceAncestor (viewOf t) a i
   found-bit y h a = rw (ancestors-found t i (eq-eqb _ 0 (answer-none t i .1 (y, h)))) (mask-bit y h a)
 
   pub found-count : ancestors t i .count ≡ countBelow (inMask (ancestors t i .places)) (countOf t)

@@ -14,7 +14,7 @@ use Rattle.base.proofs.Mask.{mask-below}
 use Rattle.base.proofs.Sets.{mask-same, mask-members, mask-or}
 use Rattle.table.specs.View.{maxPlaces}
 use Rattle.table.specs.Layout.{countOf, referencesAt, viewOf}
-use Rattle.watch.specs.Ancestors.{isAncestor, Ancestor, direct, further, ancestorMask}
+use Rattle.watch.specs.Ancestors.{isAncestor, PlaceAncestor, direct, further, ancestorMask}
 use Rattle.watch.specs.Steps.{gathered}
 use Rattle.watch.proofs.AncestorTest.{RefersLower, ancestor-bit}
 
@@ -28,7 +28,7 @@ or-has m n p = (
 module _ (t : Bytes) (a : ℕ) where
   -- a is in the mask, or an ancestor of a place below j that is in it
   abbrev pub Below : ℕ → ℕ → Type 0
-  Below j m = (inMask m a ≡ true) ⊎ ((c : ℕ) × (c < j) × (inMask m c ≡ true) × Ancestor (viewOf t) a c)
+  Below j m = (inMask m a ≡ true) ⊎ ((c : ℕ) × (c < j) × (inMask m c ≡ true) × PlaceAncestor (viewOf t) a c)
 
   below-or : (j m n : ℕ) → (Below j m ⊎ Below j n) ↔ Below j (bitOr m n)
   below-or j m n = (
@@ -45,7 +45,7 @@ module _ (t : Bytes) (a : ℕ) where
   )
 
   -- one place more: where it is in the mask, its ancestors count
-  below-suc : (j m : ℕ) → (Below j m ⊎ ((inMask m j ≡ true) × Ancestor (viewOf t) a j)) ↔ Below (suc j) m
+  below-suc : (j m : ℕ) → (Below j m ⊎ ((inMask m j ≡ true) × PlaceAncestor (viewOf t) a j)) ↔ Below (suc j) m
   below-suc j m = (
     λ s. elim s [ inl (inl y) ↦ inl y | inl (inr w) ↦ inr (w .0, omega arith, w .2, w .3) | inr p ↦ inr (j, omega arith, p .0, p .1) ],
     λ b. elim b [
@@ -56,14 +56,14 @@ module _ (t : Bytes) (a : ℕ) where
 
 module _ (t : Bytes) (fits : countOf t ≤ maxPlaces) (lower : RefersLower (viewOf t)) where
   -- the ancestors of a place are the places that it refers to, and their ancestors
-  ancestor-below : (i a : ℕ) → i < countOf t → a < maxPlaces → Below t a i (referencesAt t i) ↔ Ancestor (viewOf t) a i
+  ancestor-below : (i a : ℕ) → i < countOf t → a < maxPlaces → Below t a i (referencesAt t i) ↔ PlaceAncestor (viewOf t) a i
   ancestor-below i a l s = (below, above)
     where
-      below : Below t a i (referencesAt t i) → Ancestor (viewOf t) a i
+      below : Below t a i (referencesAt t i) → PlaceAncestor (viewOf t) a i
       below (inl r) = let h : a < countOf t = omega (arith, lower i l a s r) in direct h r
       below (inr w) = let h : w .0 < countOf t = omega arith in further (w .3) h (w .2)
 
-      above : Ancestor (viewOf t) a i → Below t a i (referencesAt t i)
+      above : PlaceAncestor (viewOf t) a i → Below t a i (referencesAt t i)
       above (direct h r) = inl r
       above (further {c} p h r) = inr (c, lower i l c (omega arith) r, r, p)
 
@@ -87,7 +87,7 @@ module _ (t : Bytes) (fits : countOf t ≤ maxPlaces) (lower : RefersLower (view
       (λ y. rw y (Iff·trans (gathered-has j (bitOr m (referencesAt t j)) a (omega arith) s) (turn-adds j m a (omega arith) s y)))
       (λ n. rw n (Iff·trans (gathered-has j m a (omega arith) s) (turn-passes j m a n)))
 
-  pub gathered-bit : (i a : ℕ) → i < countOf t → a < maxPlaces → (inMask (gathered t i (referencesAt t i)) a ≡ true) ↔ Ancestor (viewOf t) a i
+  pub gathered-bit : (i a : ℕ) → i < countOf t → a < maxPlaces → (inMask (gathered t i (referencesAt t i)) a ≡ true) ↔ PlaceAncestor (viewOf t) a i
   gathered-bit i a l s = Iff·trans (gathered-has i (referencesAt t i) a (omega arith) s) (ancestor-below i a l s)
 
   -- what is gathered from a place's references on are its ancestors, where it has room in 64 bits

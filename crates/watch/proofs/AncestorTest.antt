@@ -11,26 +11,26 @@ use Rattle.base.proofs.Tests.{true-not-false, and-left, and-right, or-cases}
 use Rattle.base.proofs.Search.{any-true, any-true-at}
 use Rattle.base.proofs.Sets.{mask-has, mask-has-not}
 use Rattle.table.specs.View.{maxPlaces, View}
-use Rattle.watch.specs.Ancestors.{reached, isAncestor, Ancestor, direct, further, ancestorMask}
+use Rattle.watch.specs.Ancestors.{reached, isAncestor, PlaceAncestor, direct, further, ancestorMask}
 
 -- every held place refers only to lower places
 abbrev pub RefersLower : View → Type 0
 RefersLower v = (i : ℕ) → i < v .held → (j : ℕ) → j < maxPlaces → v .row i .refersTo j ≡ true → j < i
 
 -- an ancestor is held
-pub ancestor-held : (v : View) (a i : ℕ) → Ancestor v a i → a < v .held
+pub ancestor-held : (v : View) (a i : ℕ) → PlaceAncestor v a i → a < v .held
 ancestor-held v a i (direct h r) = h
 ancestor-held v a i (further {c} p h r) = ancestor-held v a c p
 
 module _ (v : View) (fits : v .held ≤ maxPlaces) (lower : RefersLower v) where
   -- and lower
-  pub ancestor-lower : (a i : ℕ) → i < v .held → Ancestor v a i → a < i
+  pub ancestor-lower : (a i : ℕ) → i < v .held → PlaceAncestor v a i → a < i
   ancestor-lower a i l (direct h r) = lower i l a (omega arith) r
   ancestor-lower a i l (further {c} p h r) =
       let below : c < i = lower i l c (omega arith) r in
       omega (arith, ancestor-lower a c h p)
 
-  reached-ancestor : (k i a : ℕ) → i < v .held → a < maxPlaces → reached v k i a ≡ true → Ancestor v a i
+  reached-ancestor : (k i a : ℕ) → i < v .held → a < maxPlaces → reached v k i a ≡ true → PlaceAncestor v a i
   unfolding reached
   reached-ancestor zero i a l s e = true-not-false e refl
   reached-ancestor (suc k) i a l s e = elim (or-cases (v .row i .refersTo a) _ e) [
@@ -38,11 +38,11 @@ module _ (v : View) (fits : v .held ≤ maxPlaces) (lower : RefersLower v) where
     | inr e ↦
         let w = any-true-at (λ c. v .row i .refersTo c && reached v k c a) (v .held) e in
         let c : ℕ = w .0 in
-        let p : Ancestor v a c = reached-ancestor k c a (w .1) s (and-right (v .row i .refersTo c) (reached v k c a) (w .2)) in
+        let p : PlaceAncestor v a c = reached-ancestor k c a (w .1) s (and-right (v .row i .refersTo c) (reached v k c a) (w .2)) in
         further p (w .1) (and-left (v .row i .refersTo c) (reached v k c a) (w .2))
   ]
 
-  ancestor-reached : (k i a : ℕ) → i < v .held → i ≤ k → Ancestor v a i → reached v k i a ≡ true
+  ancestor-reached : (k i a : ℕ) → i < v .held → i ≤ k → PlaceAncestor v a i → reached v k i a ≡ true
   unfolding reached
   ancestor-reached zero i a l s p = absurd (omega (arith, ancestor-lower a i l p))
   ancestor-reached (suc k) i a l s (direct h r) = rw r
@@ -50,11 +50,11 @@ module _ (v : View) (fits : v .held ≤ maxPlaces) (lower : RefersLower v) where
       let below : c < i = lower i l c (omega arith) r in
       rw (any-true (λ c. v .row i .refersTo c && reached v k c a) (v .held) c h (rw (r, ancestor-reached k c a h (omega arith) p))) (or-true (v .row i .refersTo a))
 
-  pub ancestor-is : (i a : ℕ) → i < v .held → a < maxPlaces → (isAncestor v i a ≡ true) ↔ Ancestor v a i
+  pub ancestor-is : (i a : ℕ) → i < v .held → a < maxPlaces → (isAncestor v i a ≡ true) ↔ PlaceAncestor v a i
   ancestor-is i a l s = (reached-ancestor (v .held) i a l s, ancestor-reached (v .held) i a l (omega arith))
 
   -- the bits of the mask are the ancestors
-  pub ancestor-bit : (i a : ℕ) → i < v .held → (inMask (ancestorMask v i) a ≡ true) ↔ Ancestor v a i
+  pub ancestor-bit : (i a : ℕ) → i < v .held → (inMask (ancestorMask v i) a ≡ true) ↔ PlaceAncestor v a i
   ancestor-bit i a l = (
     λ e. elim (decLt a (v .held)) [
       | yes h ↦ ancestor-is i a l (omega arith) .0 (sym (mask-has (isAncestor v i) (v .held) a h) ∙ e)

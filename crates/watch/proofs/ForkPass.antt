@@ -16,14 +16,14 @@ use Rattle.base.proofs.Search.{any-false}
 use Rattle.base.proofs.Sets.{some-put, some-skip}
 use Rattle.base.proofs.Prints.{new-print}
 use Rattle.table.specs.Layout.{siteAt, sequenceAt, viewOf}
-use Rattle.watch.specs.Forks.{everywhere, ofSite, ofSequence, repeatedAt}
+use Rattle.watch.specs.Forks.{everywhere, ofSite, ofSequence, sequenceRepeatedAt}
 use Rattle.watch.specs.Steps.{sequencePrint, sequencePrintsMet}
 
 module _ (t : Bytes) (i : ℕ) where
   pub print-lt : sequencePrint t i < printCount
   print-lt = mod-lt (sequenceAt t i) (lit< tt)
 
-  pub new-sequence : inMask (sequencePrintsMet t i) (sequencePrint t i) ≡ false → repeatedAt (viewOf t) everywhere (siteAt t i) i ≡ false
+  pub new-sequence : inMask (sequencePrintsMet t i) (sequencePrint t i) ≡ false → sequenceRepeatedAt (viewOf t) everywhere (siteAt t i) i ≡ false
   new-sequence n = rw none (and-false (ofSite (viewOf t) everywhere (siteAt t i) i))
     where
       another : (j : ℕ) → j < i → ofSequence (viewOf t) everywhere (siteAt t i) (sequenceAt t i) j ≡ true → ⊥
@@ -36,21 +36,21 @@ module _ (t : Bytes) (i : ℕ) where
 
 -- the sites below n that the first i places show to be forked
 abbrev pub forkedBelow : Bytes → ℕ → ℕ → ℕ
-forkedBelow t n i = maskBelow (λ p. anyBelow (repeatedAt (viewOf t) everywhere p) i) n
+forkedBelow t n i = maskBelow (λ p. anyBelow (sequenceRepeatedAt (viewOf t) everywhere p) i) n
 
 module _ (t : Bytes) (n i : ℕ) where
   -- at place i, a block of another site repeats nothing of this one
-  other-site : (p : ℕ) → (siteAt t i ≡ p → ⊥) → repeatedAt (viewOf t) everywhere p i ≡ false
+  other-site : (p : ℕ) → (siteAt t i ≡ p → ⊥) → sequenceRepeatedAt (viewOf t) everywhere p i ≡ false
   other-site p d = rw (ne-eqb (siteAt t i) p d, and-false (everywhere i))
 
   -- one place more: its site is put in, or no site is
-  pub forked-put : n ≤ 16 → (site : ℕ) → site ≡ siteAt t i → site < n → repeatedAt (viewOf t) everywhere (siteAt t i) i ≡ true
+  pub forked-put : n ≤ 16 → (site : ℕ) → site ≡ siteAt t i → site < n → sequenceRepeatedAt (viewOf t) everywhere (siteAt t i) i ≡ true
       → bitOr (forkedBelow t n i) (1 * 2 ^ site % 2 ^ 16) ≡ forkedBelow t n (i + 1)
-  forked-put few site e l y = some-put (repeatedAt (viewOf t) everywhere) 16 n i site few l (λ p m. by-test (eqb site p)
-      (λ z. let q = sym (eqb-true site p z) ∙ e in z ∙ sym (ap (λ (x : ℕ). repeatedAt (viewOf t) everywhere x i) q ∙ y))
+  forked-put few site e l y = some-put (sequenceRepeatedAt (viewOf t) everywhere) 16 n i site few l (λ p m. by-test (eqb site p)
+      (λ z. let q = sym (eqb-true site p z) ∙ e in z ∙ sym (ap (λ (x : ℕ). sequenceRepeatedAt (viewOf t) everywhere x i) q ∙ y))
       (λ z. z ∙ sym (other-site p (λ q. eqb-false site p z (e ∙ q)))))
 
-  pub forked-skip : repeatedAt (viewOf t) everywhere (siteAt t i) i ≡ false → forkedBelow t n i ≡ forkedBelow t n (i + 1)
-  forked-skip z = some-skip (repeatedAt (viewOf t) everywhere) n i (λ p m. by-test (eqb (siteAt t i) p)
-      (λ y. ap (λ (x : ℕ). repeatedAt (viewOf t) everywhere x i) (sym (eqb-true (siteAt t i) p y)) ∙ z)
+  pub forked-skip : sequenceRepeatedAt (viewOf t) everywhere (siteAt t i) i ≡ false → forkedBelow t n i ≡ forkedBelow t n (i + 1)
+  forked-skip z = some-skip (sequenceRepeatedAt (viewOf t) everywhere) n i (λ p m. by-test (eqb (siteAt t i) p)
+      (λ y. ap (λ (x : ℕ). sequenceRepeatedAt (viewOf t) everywhere x i) (sym (eqb-true (siteAt t i) p y)) ∙ z)
       (λ d. other-site p (eqb-false (siteAt t i) p d)))

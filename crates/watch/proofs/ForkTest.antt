@@ -9,14 +9,14 @@ use Rattle.base.specs.Search.{anyBelow}
 use Rattle.base.proofs.Tests.{and-left, and-right}
 use Rattle.base.proofs.Search.{any-true, any-true-at}
 use Rattle.table.specs.View.{View}
-use Rattle.watch.specs.Forks.{ofSite, ofSequence, repeatedAt, forkedIn}
+use Rattle.watch.specs.Forks.{ofSite, ofSequence, sequenceRepeatedAt, forkedIn}
 use Rattle.watch.specs.Promises.{Shares}
 
 module _ (v : View) (seen : ℕ → Bool) (p : ℕ) where
   shares : forkedIn v seen p ≡ true → Shares v seen p
   unfolding forkedIn
   shares e =
-      let w = any-true-at (repeatedAt v seen p) (v .held) e in
+      let w = any-true-at (sequenceRepeatedAt v seen p) (v .held) e in
       let i : ℕ = w .0 in
       let own : ofSite v seen p i ≡ true = and-left (ofSite v seen p i) (anyBelow (ofSequence v seen p (v .row i .sequence)) i) (w .2) in
       let u = any-true-at (ofSequence v seen p (v .row i .sequence)) i (and-right (ofSite v seen p i) (anyBelow (ofSequence v seen p (v .row i .sequence)) i) (w .2)) in
@@ -34,7 +34,7 @@ module _ (v : View) (seen : ℕ → Bool) (p : ℕ) where
   is-forked : Shares v seen p → forkedIn v seen p ≡ true
   unfolding forkedIn
   is-forked s =
-      any-true (repeatedAt v seen p) (v .held) (s .other) (s .held)
+      any-true (sequenceRepeatedAt v seen p) (v .held) (s .other) (s .held)
       (rw (s .otherOf, any-true (ofSequence v seen p (v .row (s .other) .sequence)) (s .other) (s .one) (s .different) (rw (s .oneOf, eq-eqb _ _ (s .sequence)))))
 
   pub forked-shares : (forkedIn v seen p ≡ true) ↔ Shares v seen p

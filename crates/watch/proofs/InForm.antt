@@ -10,23 +10,23 @@ use Rattle.table.specs.Layout.{setupOf, countOf, viewOf}
 use Rattle.table.specs.Form.{inForm}
 use Rattle.table.specs.Steps.{Place}
 use Rattle.table.proofs.Views.{RowForm, row-form}
-use Rattle.table.proofs.InForm.{formed-of, formed-places}
-use Rattle.watch.specs.Steps.{Ready}
+use Rattle.table.proofs.InForm.{table-form, formed-places}
+use Rattle.watch.specs.Steps.{Watchable}
 use Rattle.watch.proofs.AncestorTest.{RefersLower}
 
 module _ (t : Bytes) (e : inForm t ≡ true) where
   pub places-fit : countOf t ≤ maxPlaces
-  places-fit = formed-of t e .held .fits
+  places-fit = table-form t e .held .fits
 
   pub row-formed : (i : ℕ) → i < countOf t → RowForm (setupOf t) (viewOf t) i
-  row-formed i h = row-form (setupOf t) (viewOf t) i (formed-of t e .held .rows i h)
+  row-formed i h = row-form (setupOf t) (viewOf t) i (table-form t e .held .rows i h)
 
   pub refers-lower : RefersLower (viewOf t)
   refers-lower i h = row-formed i h .lower
 
-  pub ready : Ready t
+  pub ready : Watchable t
   ready =
-      let f = formed-of t e in
+      let f = table-form t e in
       record {
         sized = formed-places t e;
         few = sites-few (setupOf t .sites) (sites-lawful (setupOf t) (f .held .lawful));
@@ -34,4 +34,4 @@ module _ (t : Bytes) (e : inForm t ≡ true) where
       }
 
   pub held-place : (i : ℕ) → i < countOf t → Place t i
-  held-place i h = record { size = formed-of t e .size; place = omega (arith, places-fit) }
+  held-place i h = record { size = table-form t e .size; place = omega (arith, places-fit) }

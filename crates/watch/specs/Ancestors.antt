@@ -26,9 +26,9 @@ module _ (v : View) where
   isAncestor i a = reached (v .held) i a
 
   -- the same as a relation: the held places that place i refers to, and theirs
-  pub data Ancestor : ℕ → ℕ → Type 0 where
-    direct : {a i : ℕ} → a < v .held → v .row i .refersTo a ≡ true → Ancestor a i
-    further : {a c i : ℕ} → Ancestor a c → c < v .held → v .row i .refersTo c ≡ true → Ancestor a i
+  pub data PlaceAncestor : ℕ → ℕ → Type 0 where
+    direct : {a i : ℕ} → a < v .held → v .row i .refersTo a ≡ true → PlaceAncestor a i
+    further : {a c i : ℕ} → PlaceAncestor a c → c < v .held → v .row i .refersTo c ≡ true → PlaceAncestor a i
 
   abbrev pub ancestorMask : ℕ → ℕ
   ancestorMask i = maskBelow (isAncestor i) (v .held)

@@ -27,12 +27,12 @@ module _ (v : View) (seen : ℕ → Bool) where
   ofSequence p sequence i = ofSite p i && eqb (v .row i .sequence) sequence
 
   -- place i holds a block of site p, and a lower place holds one of the same sequence number
-  abbrev pub repeatedAt : ℕ → ℕ → Bool
-  repeatedAt p i = ofSite p i && anyBelow (ofSequence p (v .row i .sequence)) i
+  abbrev pub sequenceRepeatedAt : ℕ → ℕ → Bool
+  sequenceRepeatedAt p i = ofSite p i && anyBelow (ofSequence p (v .row i .sequence)) i
 
   -- "two held blocks of one sequence number", both of site p
   unfoldable pub forkedIn : ℕ → Bool
-  forkedIn p = anyBelow (repeatedAt p) (v .held)
+  forkedIn p = anyBelow (sequenceRepeatedAt p) (v .held)
 
 -- "the mask of sites with two held blocks of one sequence number"
 abbrev pub forkedMask : Setup → View → ℕ

@@ -11,7 +11,7 @@ use Rattle.table.specs.View.{View}
 use Rattle.table.specs.Layout.{setupOf, countOf, viewOf}
 use Rattle.table.specs.Form.{inForm}
 use Rattle.watch.specs.Forks.{everywhere, ofSite, forks}
-use Rattle.watch.specs.Ancestors.{Ancestor, ancestors}
+use Rattle.watch.specs.Ancestors.{PlaceAncestor, ancestors}
 
 -- two held blocks of site p, among the places looked at, share a sequence number
 pub record Shares (v : View) (seen : ℕ → Bool) (p : ℕ) : Type 0 where
@@ -39,7 +39,7 @@ pub record Promises : Type 0 where
   pub counted : (t : Bytes) → forks t .count ≡ countBelow (inMask (forks t .sites)) (setupOf t .sites)
   pub atMost : (t : Bytes) → (forks t .«at_most_f» ≡ true) ↔ ((inForm t ≡ true) × (forks t .count ≤ faults (setupOf t .sites)))
   -- the mask's bits are exactly the ancestors, and the count is how many they are
-  pub ancestor : (t : Bytes) (i : ℕ) → inForm t ≡ true → i < countOf t → (a : ℕ) → (inMask (ancestors t i .places) a ≡ true) ↔ Ancestor (viewOf t) a i
+  pub ancestor : (t : Bytes) (i : ℕ) → inForm t ≡ true → i < countOf t → (a : ℕ) → (inMask (ancestors t i .places) a ≡ true) ↔ PlaceAncestor (viewOf t) a i
   pub ancestorsCounted : (t : Bytes) (i : ℕ) → ancestors t i .count ≡ countBelow (inMask (ancestors t i .places)) (countOf t)
   -- itself left out
   pub itself : (t : Bytes) (i : ℕ) → inMask (ancestors t i .places) i ≡ false

@@ -10,7 +10,7 @@ use Rattle.table.specs.Layout.{setupOf, countOf, siteAt, sequenceAt, references
 use Rattle.table.specs.Steps.{Places}
 
 -- a table with its places, and sites that a mask of sixteen bits has room for
-pub record Ready (t : Bytes) : Type 0 where
+pub record Watchable (t : Bytes) : Type 0 where
   pub sized : Places t (countOf t)
   pub few : setupOf t .sites ≤ maxSites
   pub sites : (i : ℕ) → i < countOf t → siteAt t i < setupOf t .sites

@@ -6,8 +6,8 @@ ghost use Rattle.base.specs.Search.{anyBelow};
 ghost use Rattle.base.specs.Mask.{inMask};
 ghost use Rattle.table.specs.Layout.{setupOf, countOf, siteAt, viewOf};
 ghost use Rattle.table.specs.Steps.{Place, Places};
-ghost use Rattle.watch.specs.Forks.{everywhere, ofSite, ofSequence, repeatedAt, forkedIn, forkedMask};
-ghost use Rattle.watch.specs.Steps.{Ready, sequencePrint, sequencePrintsMet};
+ghost use Rattle.watch.specs.Forks.{everywhere, ofSite, ofSequence, sequenceRepeatedAt, forkedIn, forkedMask};
+ghost use Rattle.watch.specs.Steps.{Watchable, sequencePrint, sequencePrintsMet};
 
 // Every place is looked at.
 pub const EVERYWHERE: u64 = 0xffff_ffff_ffff_ffff;
@@ -52,7 +52,7 @@ fn any_of_sequence(table: &[u8], seen: u64, k: usize, site: u8, sequence: u16) -
 // Whether the place is looked at and holds a block of the site, and a lower one holds another of its sequence number.
 fn repeats(table: &[u8], seen: u64, i: usize, site: u8) -> bool
     requires { ⌜ Place (now table) i ⌝ }
-    ensures { λ r. ⌜ r ≡ repeatedAt (viewOf (now (table .entry))) (inMask seen) site i ⌝ }
+    ensures { λ r. ⌜ r ≡ sequenceRepeatedAt (viewOf (now (table .entry))) (inMask seen) site i ⌝ }
 {
     if !of_site(table, seen, i, site) {
         return false;
@@ -88,7 +88,7 @@ fn sequence_print(table: &[u8], i: usize) -> usize
 // places have. No place is looked at where its own print is not among them.
 fn is_fork(table: &[u8], i: usize, prints: u64) -> bool
     requires { ⌜ Place (now table) i × (prints ≡ sequencePrintsMet (now table) i) ⌝ }
-    ensures { λ r. ⌜ r ≡ repeatedAt (viewOf (now (table .entry))) everywhere (siteAt (now (table .entry)) i) i ⌝ }
+    ensures { λ r. ⌜ r ≡ sequenceRepeatedAt (viewOf (now (table .entry))) everywhere (siteAt (now (table .entry)) i) i ⌝ }
 {
     if !base::in_mask(prints, sequence_print(table, i)) {
         return false;
@@ -98,7 +98,7 @@ fn is_fork(table: &[u8], i: usize, prints: u64) -> bool
 
 // The mask of the sites that forked, in one pass: the prints met of each site are kept as masks, so that few blocks are compared with others.
 pub fn forked_mask(table: &[u8]) -> u16
-    requires { ⌜ Ready (now table) ⌝ }
+    requires { ⌜ Watchable (now table) ⌝ }
     ensures { λ r. ⌜ r ≡ forkedMask (setupOf (now (table .entry))) (viewOf (now (table .entry))) ⌝ }
 {
     let k = rows::count_of(table);

@@ -22,7 +22,7 @@ use Rattle.table.specs.Steps.{Place, Places, Indexed, newRow}
 use Rattle.table.proofs.InForm.{formed-places}
 use Rattle.table.proofs.AddedRow.{put-same}
 use Rattle.admission.specs.Admission.{rowFor, heldChecks}
-use Rattle.admission.specs.Steps.{Ready, firstMissing, placesListed, heldAnswer, entered}
+use Rattle.admission.specs.Steps.{LookedUp, firstMissing, placesListed, heldAnswer, entered}
 use Rattle.admission.proofs.HeldReferences.{listed}
 use Rattle.admission.proofs.enter.Statement.{statement}
 use Rattle.admission.proofs.enter.Tie as tie
@@ -37,7 +37,7 @@ module _ (t b : Bytes) (shape : Shaped b) (list : Bytes) (el : list ≡ referenc
   places : references ≡ placesListed t (countOf t) (referenceList b)
   places = er ∙ ap (placesListed t (countOf t)) el
 
-  ready : (index : Bytes) (none : ℕ) → Indexed t index → none ≡ firstMissing (viewOf t) (countOf t) list → Ready t index b references none
+  ready : (index : Bytes) (none : ℕ) → Indexed t index → none ≡ firstMissing (viewOf t) (countOf t) list → LookedUp t index b references none
   ready index none i e = record { indexed = i; shaped = shape; places = places; missing = e ∙ ap (firstMissing (viewOf t) (countOf t)) el }
 
   module _ (d requests : Bytes) (site sequence : ℕ) (ed : d ≡ sha256 b) (eq : requests ≡ requestList b) (es : site ≡ siteOf b) (en : sequence ≡ sequenceOf b) where

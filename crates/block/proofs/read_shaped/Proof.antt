@@ -7,7 +7,7 @@ use borrow.Author.Tests.{lt-ltb, le-ltb}
 use Rattle.base.specs.Search.{firstBelow, anyBelow}
 use Rattle.base.specs.Bytes.{Bytes}
 use Rattle.block.specs.Layout.{siteOf, sequenceOf, referenceCount, requestCount, referenceList, requestList}
-use Rattle.block.specs.Reading.{badRequestAt, repeatedAt, reading}
+use Rattle.block.specs.Reading.{badRequestAt, referenceRepeatedAt, reading}
 use Rattle.block.specs.Promises.{Shaped}
 use Rattle.block.specs.Steps.{firstBad, firstRepeated}
 use Rattle.block.specs.declared.Reading.the-variants.{Block, BadRequest, RepeatedReference}
@@ -20,15 +20,15 @@ module _ (b : Bytes) (s : Shaped b) where
   bad-is : (list : Bytes) (i : ℕ) → list ≡ requestList b → i ≡ firstBad list → i ≡ firstBelow (badRequestAt (requestList b)) (requestCount b)
   bad-is list i l e = e ∙ ap firstBad l ∙ ap (firstBelow (badRequestAt (requestList b))) (requests-counted b s)
 
-  repeated-is : (list : Bytes) (j : ℕ) → list ≡ referenceList b → j ≡ firstRepeated list → j ≡ firstBelow (repeatedAt (referenceList b)) (referenceCount b)
-  repeated-is list j l e = e ∙ ap firstRepeated l ∙ ap (firstBelow (repeatedAt (referenceList b))) (references-counted b s)
+  repeated-is : (list : Bytes) (j : ℕ) → list ≡ referenceList b → j ≡ firstRepeated list → j ≡ firstBelow (referenceRepeatedAt (referenceList b)) (referenceCount b)
+  repeated-is list j l e = e ∙ ap firstRepeated l ∙ ap (firstBelow (referenceRepeatedAt (referenceList b))) (references-counted b s)
 
   module _ (p r i : ℕ) (ep : p ≡ referenceCount b) (er : r ≡ requestCount b) (ei : i ≡ firstBelow (badRequestAt (requestList b)) (requestCount b)) where
     way-bad : i < r → BadRequest i ≡ reading b
     unfolding reading anyBelow
     way-bad l = rw (well-shaped b s, ← ei, lt-ltb i (requestCount b) (omega arith))
 
-    module _ (good : r ≤ i) (j : ℕ) (ej : j ≡ firstBelow (repeatedAt (referenceList b)) (referenceCount b)) where
+    module _ (good : r ≤ i) (j : ℕ) (ej : j ≡ firstBelow (referenceRepeatedAt (referenceList b)) (referenceCount b)) where
       way-repeated : j < p → RepeatedReference j ≡ reading b
       unfolding reading anyBelow
       way-repeated l = rw (well-shaped b s, ← ei, le-ltb i (requestCount b) (omega arith), ← ej, lt-ltb j (referenceCount b) (omega arith))
@@ -54,7 +54,7 @@ bad : (c : tie.After-first-bad) → c .first-bad .result ≡ firstBelow (badRequ
 bad c = bad-is _ (start c .pre) _ _ (c .before .request-list .ensures) (c .first-bad .ensures)
 
 repeated : (c : tie.After-first-repeated) → let b = start (searched c .before) .args .block .now in
-    c .first-repeated .result ≡ firstBelow (repeatedAt (referenceList b)) (referenceCount b)
+    c .first-repeated .result ≡ firstBelow (referenceRepeatedAt (referenceList b)) (referenceCount b)
 repeated c = repeated-is _ (start (searched c .before) .pre) _ _ (c .before .reference-list .ensures) (c .first-repeated .ensures)
 
 returns : tie.Need-returns

@@ -1,26 +1,26 @@
 -- `requested` meets its contract: each way out is a case of the test. Assumes nothing.
 use borrow.Author.Needs.{needs}
 use borrow.Author.Tests.{eq-eqb, ne-eqb}
-use Rattle.broadcast.specs.Process.{onlyIf, request}
+use Rattle.broadcast.specs.Process.{onlyIf, takeRequest}
 use Rattle.broadcast.proofs.requested.Statement.{statement}
 use Rattle.broadcast.proofs.requested.Tie as tie
 
 returns : tie.Need-returns
-unfolding request onlyIf
+unfolding takeRequest onlyIf
 returns c = rw (eq-eqb _ _ (c .if1 .taken))
 
 returns-2 : tie.Need-returns-2
-unfolding request onlyIf
+unfolding takeRequest onlyIf
 returns-2 c = rw (ne-eqb _ _ (c .before .if1 .left), ne-eqb _ _ (c .if2 .taken))
 
 returns-3 : tie.Need-returns-3
-unfolding request onlyIf
+unfolding takeRequest onlyIf
 returns-3 c =
     let e = c .before .before in
     rw (ne-eqb _ _ (e .before .if1 .left), eq-eqb _ _ (e .if2 .left), ne-eqb _ _ (c .if3 .taken))
 
 returns-4 : tie.Need-returns-4
-unfolding request onlyIf
+unfolding takeRequest onlyIf
 returns-4 c =
     let e = c .before .before .before in
     rw (ne-eqb _ _ (e .before .if1 .left), eq-eqb _ _ (e .if2 .left), eq-eqb _ _ (c .before .if3 .left)) (c .send-send .ensures)

@@ -21,14 +21,14 @@ use Rattle.block.specs.Reading.{badRequestAt}
 use Rattle.block.specs.Steps.{firstBad}
 use Rattle.table.specs.Layout.{setupOf, viewOf}
 use Rattle.table.specs.Form.{inForm}
-use Rattle.table.proofs.InForm.{formed-of, formed-places}
+use Rattle.table.proofs.InForm.{table-form, formed-places}
 use Rattle.build.specs.Building.{wellListed, nextBlock, buildingChecks, buildingFrom, builtFrom}
-use Rattle.build.specs.Steps.{Listed, nextAnswer, nextOutput}
+use Rattle.build.specs.Steps.{RequestList, nextAnswer, nextOutput}
 use Rattle.build.proofs.Causes.{well-listed}
 use Rattle.build.proofs.build_from.Statement.{statement}
 use Rattle.build.proofs.build_from.Tie as tie
 
-listed : (requests : Bytes) → wellListed requests ≡ true → Listed requests
+listed : (requests : Bytes) → wellListed requests ≡ true → RequestList requests
 listed requests e = let w = well-listed requests .0 e in record { fits = w .0; whole = omega (arith, w .1) }
 
 -- the test of check 6, by the first bad request
@@ -112,7 +112,7 @@ build-from-spec =
     (λ c κs. search needs)
     (λ c κs. search needs)
     (λ c. let d = c .before in way-refused _ _ _ _ _ 0 (omega arith) (λ z. omega arith) tt (sym (d .before .in-form .ensures) ∙ not-true _ (d .if1 .taken)) _ (c .refused .ensures))
-    (λ c κs. formed-of _ (formed c .1) .size)
+    (λ c κs. table-form _ (formed c .1) .size)
     (λ c κs. search needs)
     (λ c. let d = c .before in way-refused _ _ _ _ _ 1 (omega arith) (λ z. omega arith) (formed (d .before .before)) (rw (← d .before .sites-of .ensures) (le-ltb _ _ (d .if2 .taken))) _ (c .refused2 .ensures))
     (λ c κs. search needs)

@@ -5,6 +5,7 @@ use types.Run.{OneOf}
 use denote.Enum.Declared.{tagOf}
 use borrow.Author.Needs.{needs}
 use Rattle.base.specs.Bytes.{Bytes}
+use Rattle.answer.specs.Checks.{success}
 use Rattle.answer.specs.declared.Answer.{Answer}
 use Rattle.block.specs.Reading.{reading, answerOf}
 use Rattle.block.specs.declared.Fields.{Fields}
@@ -12,7 +13,7 @@ use Rattle.block.specs.declared.Reading.{Reading}
 use Rattle.block.specs.declared.Reading.the-variants.{Block}
 use Rattle.block.proofs.Reading.{the-type}
 use Rattle.block.proofs.LetElse.{when-refused, when-accepted}
-use Rattle.c_interface.specs.Calls.{done, noFields, blockReading}
+use Rattle.c_interface.specs.Calls.{noFields, blockReading}
 use Rattle.c_interface.specs.declared.BlockReading.{BlockReading}
 use Rattle.c_interface.proofs.gt_read_block.Statement.{statement}
 use Rattle.c_interface.proofs.gt_read_block.Tie as tie
@@ -22,7 +23,7 @@ way-refused : (b : Bytes) (r : Reading) (a : Answer) → r ≡ reading b → One
 unfolding blockReading
 way-refused b r a e k q = rw q (sym (when-refused _ _ b r e k))
 
-way-accepted : (b : Bytes) (r : Reading) (f : Fields) → r ≡ reading b → r ≡ Block f → _≡_ {A = BlockReading} (record { answer = done; fields = f }) (blockReading b)
+way-accepted : (b : Bytes) (r : Reading) (f : Fields) → r ≡ reading b → r ≡ Block f → _≡_ {A = BlockReading} (record { answer = success 0; fields = f }) (blockReading b)
 unfolding blockReading
 way-accepted b r f e q = sym (when-accepted _ _ b r e f q)
 

@@ -22,7 +22,7 @@ use Rattle.block.proofs.Reading.{the-type}
 use Rattle.block.proofs.Shape.{reference-list-length}
 use Rattle.block.proofs.LetElse.{when-refused, when-accepted}
 use Rattle.block.proofs.Acceptance.{AcceptedAs, reading-accepted}
-use Rattle.c_interface.specs.Calls.{noSuchEntry, putAnswer, putOutput, referenceAnswer, referenceOutput}
+use Rattle.c_interface.specs.Calls.{noSuchEntry, digestAnswer, putOutput, referenceAnswer, referenceOutput}
 use Rattle.c_interface.proofs.gt_reference.Statement.{statement}
 use Rattle.c_interface.proofs.gt_reference.Tie as tie
 
@@ -50,7 +50,7 @@ module _ (b o : Bytes) (i : ℕ) (r : Reading) (e : r ≡ reading b) where
       size : (d : Bytes) → d ≡ referenceAt list i → length d ≡ referenceSize
       size d ed = ap length ed ∙ length-take-le referenceSize (drop (referenceSize * i) list) (omega (arith, within, length-drop (referenceSize * i) list))
 
-      way-there : (d o′ : Bytes) (a : Answer) → d ≡ referenceAt list i → a ≡ putAnswer o → o′ ≡ putOutput d o
+      way-there : (d o′ : Bytes) (a : Answer) → d ≡ referenceAt list i → a ≡ digestAnswer o → o′ ≡ putOutput d o
           → (a ≡ referenceAnswer b i o) × (o′ ≡ referenceOutput b i o)
       unfolding referenceAnswer referenceOutput
       way-there d o′ a ed ea eo =

@@ -9,6 +9,7 @@ use lib.ListN.{length}
 use borrow.Author.Needs.{needs}
 use borrow.Author.Tests.{le-leb, lt-leb}
 use Rattle.base.specs.Bytes.{Bytes}
+use Rattle.answer.specs.Checks.{success}
 use Rattle.answer.specs.declared.Answer.{Answer}
 use Rattle.block.specs.Limits.{requestSize}
 use Rattle.block.specs.Layout.{requestList, requestAt}
@@ -22,7 +23,7 @@ use Rattle.block.proofs.Reading.{the-type}
 use Rattle.block.proofs.Shape.{request-list-length}
 use Rattle.block.proofs.LetElse.{when-refused, when-accepted}
 use Rattle.block.proofs.Acceptance.{AcceptedAs, reading-accepted}
-use Rattle.c_interface.specs.Calls.{done, noSuchEntry, withoutRequest, requested}
+use Rattle.c_interface.specs.Calls.{noSuchEntry, withoutRequest, requested}
 use Rattle.c_interface.specs.declared.Requested.{Requested}
 use Rattle.c_interface.proofs.gt_request.Statement.{statement}
 use Rattle.c_interface.proofs.gt_request.Tie as tie
@@ -47,7 +48,7 @@ module _ (b : Bytes) (i : ℕ) (r : Reading) (e : r ≡ reading b) where
       within : requestSize * i + requestSize ≤ length list
       within = omega (arith, ap (λ (x : Fields). x .requests) (read-as .fields), ap length l ∙ request-list-length b shape)
 
-      way-there : (x : Request) → x ≡ requestAt list i → _≡_ {A = Requested} (record { answer = done; slot = x .slot; number = x .number }) (requested b i)
+      way-there : (x : Request) → x ≡ requestAt list i → _≡_ {A = Requested} (record { answer = success 0; slot = x .slot; number = x .number }) (requested b i)
       unfolding requested
       way-there x ex =
           let there : x ≡ requestAt (requestList b) i = ex ∙ ap (λ (y : Bytes). requestAt y i) l in

@@ -5,16 +5,16 @@ use lib.ListN.{length}
 use borrow.Author.Needs.{needs}
 use borrow.Author.Tests.{lt-ltb, le-ltb}
 use Rattle.base.specs.Bytes.{Bytes, splice}
-use Rattle.answer.specs.declared.Answer.{Answer}
+use Rattle.answer.specs.Checks.{success, refused}
 use Rattle.block.specs.Limits.{referenceSize}
-use Rattle.c_interface.specs.Calls.{done, putAnswer, putOutput}
+use Rattle.c_interface.specs.Calls.{digestAnswer, putOutput}
 use Rattle.c_interface.proofs.put_digest.Statement.{statement}
 use Rattle.c_interface.proofs.put_digest.Tie as tie
 
-way-short : (d o : Bytes) → length o < referenceSize → (_≡_ {A = Answer} (record { refusal = 17; value = referenceSize }) (putAnswer o)) × (o ≡ putOutput d o)
+way-short : (d o : Bytes) → length o < referenceSize → (refused 17 referenceSize ≡ digestAnswer o) × (o ≡ putOutput d o)
 way-short d o h = (rw (lt-ltb (length o) referenceSize h), rw (lt-ltb (length o) referenceSize h))
 
-way-put : (d o e : Bytes) → referenceSize ≤ length o → e ≡ splice o 0 d → (done ≡ putAnswer o) × (e ≡ putOutput d o)
+way-put : (d o e : Bytes) → referenceSize ≤ length o → e ≡ splice o 0 d → (success 0 ≡ digestAnswer o) × (e ≡ putOutput d o)
 way-put d o e h s = (rw (le-ltb (length o) referenceSize h), rw (le-ltb (length o) referenceSize h) s)
 
 returns : tie.Need-returns

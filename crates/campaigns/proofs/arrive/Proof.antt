@@ -17,8 +17,8 @@ use Rattle.answer.specs.declared.Answer.{Answer}
 use Rattle.answer.specs.Checks.{refused, answerTo}
 use Rattle.shelf.specs.Layout.{Waiting, waitingIn, shelfBytes}
 use Rattle.shelf.specs.Rules.{campaignCount, maxCampaign, hasPlace}
-use Rattle.shelf.specs.Form.{inForm}
-use Rattle.shelf.proofs.InForm.{formed-of}
+use Rattle.shelf.specs.Form.{shelfInForm}
+use Rattle.shelf.proofs.InForm.{shelf-form}
 use Rattle.admission.specs.Admission.{admission, admitted}
 use Rattle.admission.proofs.Effect.{refused-table}
 use Rattle.campaigns.specs.Passes.{Try, outcomesOf, settled}
@@ -78,11 +78,11 @@ module _ (t s : Bytes) (c : ℕ) (b : Bytes) (verdict : ℕ) (o : List ℕ) wher
       room : leb outcomesSize (length o) ≡ true
       room = le-leb outcomesSize (length o) long
 
-      way2 : inForm s ≡ false → (r : Arrival) → r ≡ plain (refused 2 0) → Promised r t s o
+      way2 : shelfInForm s ≡ false → (r : Arrival) → r ≡ plain (refused 2 0) → Promised r t s o
       unfolding arrival answerTo
       way2 n = way-first (refused 2 0) (rw (up-to, room, n))
 
-      module _ (formed : inForm s ≡ true) (a : Answer) (t′ : Bytes) (ea : a ≡ admission sha256 t b verdict) (et : t′ ≡ admitted sha256 t b verdict) where
+      module _ (formed : shelfInForm s ≡ true) (a : Answer) (t′ : Bytes) (ea : a ≡ admission sha256 t b verdict) (et : t′ ≡ admitted sha256 t b verdict) where
         abbrev ws : List Waiting
         ws = waitingIn s
 
@@ -114,7 +114,7 @@ module _ (t s : Bytes) (c : ℕ) (b : Bytes) (verdict : ℕ) (o : List ℕ) wher
         way-refused n z r er =
             let e : all ≡ record { answer = a; table = t; waiting = ws; tries = [] } = rw (← ea, ne-eqb (a .refusal) 9 n, ne-eqb (a .refusal) 0 z) in
             by-list (record { answer = a; table = t; waiting = ws; tries = [] }) e r t′ s o (ap (λ (x : Arrival). x .answer) er) (ap (λ (x : Arrival). x .ended) er)
-            (et ∙ refused-table sha256 t b verdict (rw (← ea) z)) (formed-of s formed .laid .bytes) refl
+            (et ∙ refused-table sha256 t b verdict (rw (← ea) z)) (shelf-form s formed .laid .bytes) refl
 
         way-settled : a .refusal ≡ 0 → (n : ℕ) (t″ s″ : Bytes) (o″ : List ℕ) → n ≡ length (outcomesOf (settled sha256 t′ c ws .tries)) → t″ ≡ settled sha256 t′ c ws .table
             → s″ ≡ shelfBytes (settled sha256 t′ c ws .waiting) → o″ ≡ putAnswers o 0 (outcomesOf (settled sha256 t′ c ws .tries))
@@ -160,7 +160,7 @@ abbrev settled-of : tie.After-slice-known8 → tie.After-settle
 settled-of c = c .before .before .before .before .before .before
 
 -- the shelf is in form
-formed : (c : tie.Else3) → inForm (start-of (room-of c .before .before) .args .shelf .now) ≡ true
+formed : (c : tie.Else3) → shelfInForm (start-of (room-of c .before .before) .args .shelf .now) ≡ true
 formed c = sym (c .before .in-form .ensures) ∙ not-false _ (c .if3 .left)
 
 returns : tie.Need-returns
@@ -189,7 +189,7 @@ shelve-requires c κs =
     let d = shelved-of c in
     let q = start d .args in
     record {
-      laid = formed-of _ (formed (form-of d)) .laid;
+      laid = shelf-form _ (formed (form-of d)) .laid;
       short = nine-short sha256 (q .table .now) (q .block .now) (q .verdict) (number-of (sym (d .admit .ensures .0)) ∙ c .before .if4 .taken);
     }
 
@@ -245,7 +245,7 @@ arrive-spec =
     (λ c. search needs)
     (λ c. search needs)
     returns-5
-    (λ c κs. formed-of _ (formed (form-of (other-of (taken-of (settle-of c))))) .laid)
+    (λ c κs. shelf-form _ (formed (form-of (other-of (taken-of (settle-of c))))) .laid)
     (λ c. search needs)
     (λ c. search needs)
     (λ c. search needs)

@@ -11,18 +11,18 @@ use Rattle.answer.specs.Buffer.{putAnswers}
 use Rattle.shelf.specs.Layout.{waitingIn, shelfBytes}
 use Rattle.campaigns.specs.Passes.{outcomesOf, settled}
 use Rattle.campaigns.proofs.Turns.{Came, restOf}
-use Rattle.campaigns.proofs.LoopInvariants.{Settling, ahead, settles-on, settles-down}
+use Rattle.campaigns.proofs.LoopInvariants.{PassesInvariant, ahead, settles-on, settles-down}
 use Rattle.campaigns.proofs.settle.Statement.{statement}
 use Rattle.campaigns.proofs.settle.Tie as tie
 
 abbrev Inv-loop : tie.InvT-loop
-Inv-loop table₀ shelf₀ campaign outcomes₀ ended₀ again₀ table shelf outcomes ended again = Settling campaign table₀ shelf₀ outcomes₀ table shelf outcomes ended again
+Inv-loop table₀ shelf₀ campaign outcomes₀ ended₀ again₀ table shelf outcomes ended again = PassesInvariant campaign table₀ shelf₀ outcomes₀ table shelf outcomes ended again
 
 abbrev μ-loop : tie.MeasureT-loop
 μ-loop table₀ shelf₀ campaign outcomes₀ ended₀ again₀ table shelf outcomes ended again = ahead again (waitingIn shelf)
 
 -- what the end of the passes shows
-module _ (c : ℕ) (t₀ s₀ : Bytes) (o₀ : List ℕ) (t s : Bytes) (o : List ℕ) (ended : ℕ) (g : Settling c t₀ s₀ o₀ t s o ended false) where
+module _ (c : ℕ) (t₀ s₀ : Bytes) (o₀ : List ℕ) (t s : Bytes) (o : List ℕ) (ended : ℕ) (g : PassesInvariant c t₀ s₀ o₀ t s o ended false) where
   done : (ended ≡ length (outcomesOf (settled sha256 t₀ c (waitingIn s₀) .tries))) × ((t ≡ settled sha256 t₀ c (waitingIn s₀) .table)
       × ((s ≡ shelfBytes (settled sha256 t₀ c (waitingIn s₀) .waiting)) × (o ≡ putAnswers o₀ 0 (outcomesOf (settled sha256 t₀ c (waitingIn s₀) .tries)))))
   unfolding restOf

@@ -12,9 +12,9 @@ use Rattle.answer.specs.declared.Answer.{Answer}
 use Rattle.answer.specs.Checks.{refused}
 use Rattle.shelf.specs.Layout.{maxWaiting, Waiting, waitingIn, shelfBytes}
 use Rattle.shelf.specs.Rules.{hasPlace, waits}
-use Rattle.shelf.proofs.Layout.{laid-sized, laid-fits}
+use Rattle.shelf.proofs.ShelfLayout.{laid-sized, laid-fits}
 use Rattle.shelf.proofs.Rules.{place-free}
-use Rattle.campaigns.specs.Arriving.{behind, shelved}
+use Rattle.campaigns.specs.Arriving.{waitingLast, shelved}
 use Rattle.campaigns.specs.Steps.{Shelvable, shelvedAt}
 use Rattle.campaigns.proofs.shelve.Statement.{statement}
 use Rattle.campaigns.proofs.shelve.Tie as tie
@@ -36,7 +36,7 @@ module _ (s : Bytes) (c : ℕ) (b : Bytes) (a : Answer) (h : Shelvable s b) wher
     unfolding shelved
     way19 n r e = (rw (new, n) e, rw (new, n) (h .laid .bytes))
 
-    way9 : hasPlace c (waitingIn s) ≡ true → (s′ : Bytes) → s′ ≡ shelfBytes (behind (waitingIn s) c b) → Promised a s′
+    way9 : hasPlace c (waitingIn s) ≡ true → (s′ : Bytes) → s′ ≡ shelfBytes (waitingLast (waitingIn s) c b) → Promised a s′
     unfolding shelved
     way9 y s′ q = (rw (new, y), rw (new, y) q)
 

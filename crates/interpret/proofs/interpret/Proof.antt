@@ -7,8 +7,8 @@ use borrow.Author.Needs.{needs}
 use borrow.Author.Tests.{not-true, not-false}
 use Rattle.table.specs.Layout.{countOf, markAt}
 use Rattle.table.specs.Form.{inForm}
-use Rattle.table.proofs.InForm.{formed-of}
-use Rattle.interpret.specs.Steps.{Ready}
+use Rattle.table.proofs.InForm.{table-form}
+use Rattle.interpret.specs.Steps.{Interpretable}
 use Rattle.interpret.proofs.Call.{way2, way12, way13, way14, way15, way0, ready}
 use Rattle.interpret.proofs.interpret.Statement.{statement}
 use Rattle.interpret.proofs.interpret.Tie as tie
@@ -48,7 +48,7 @@ held c = rw (c .before .count-of .ensures) at (c .if3 .left)
 unmarked : (c : tie.Else4) → let s = start (second (third (c .before) .before) .before .before) in markAt (s .args .table .now) (s .args .place) ≢ 1
 unmarked c e = c .if4 .left (c .before .mark-at .ensures ∙ e)
 
-is-ready : (c : tie.Else3) → let s = start (second (c .before) .before .before) in Ready (s .args .table .now) (s .args .place) (s .args .records .now)
+is-ready : (c : tie.Else3) → let s = start (second (c .before) .before .before) in Interpretable (s .args .table .now) (s .args .place) (s .args .records .now)
 is-ready c = let e = second (c .before) in ready _ _ _ (formed (e .before)) (e .if2 .left) (held c)
 
 -- the same, where the part is made
@@ -106,7 +106,7 @@ interpret-spec =
     (λ c κs. search needs)
     (λ c. search needs)
     returns-2
-    (λ c κs. formed-of _ (formed (c .before .before)) .size)
+    (λ c κs. table-form _ (formed (c .before .before)) .size)
     (λ c κs. search needs)
     (λ c. search needs)
     returns-3

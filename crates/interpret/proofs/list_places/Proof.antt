@@ -7,12 +7,12 @@ use borrow.Author.Needs.{needs}
 use Rattle.base.specs.Mask.{inMask}
 use Rattle.block.specs.Limits.{maxReferences}
 use Rattle.table.specs.View.{maxPlaces}
-use Rattle.interpret.proofs.Places.{Put, put-start, put-here, put-past, passing-few, room}
+use Rattle.interpret.proofs.Places.{ListedBelow, put-start, put-here, put-past, passing-few, room}
 use Rattle.interpret.proofs.list_places.Statement.{statement}
 use Rattle.interpret.proofs.list_places.Tie as tie
 
 abbrev Inv-loop : tie.InvT-loop
-Inv-loop references place list₀ count₀ j₀ list count j = (j ≤ place) × Put (inMask references) j list count
+Inv-loop references place list₀ count₀ j₀ list count j = (j ≤ place) × ListedBelow (inMask references) j list count
 
 abbrev μ-loop : tie.MeasureT-loop
 μ-loop references place list₀ count₀ j₀ list count j = place - j

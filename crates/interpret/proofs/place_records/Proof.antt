@@ -7,7 +7,7 @@ use lib.ListN.{length, take}
 use lib.Seq.{length-take-le, take-all}
 use borrow.Author.Needs.{needs}
 use Rattle.base.specs.List.{listBelow}
-use Rattle.base.specs.Bytes.{Bytes, joined}
+use Rattle.base.specs.Bytes.{Bytes, concat}
 use Rattle.setup.specs.Setup.{slotCount}
 use Rattle.table.specs.Layout.{setupOf, viewOf}
 use Rattle.records.specs.Layout.{recordSize, flatten, partSize, numbersOf}
@@ -25,7 +25,7 @@ numbersIn t i buffer slot = flatten (recordFor (setupOf t) (viewOf t) buffer i s
 
 abbrev Inv-loop : tie.InvT-loop
 Inv-loop table place records references list count parent out₀ slot₀ out slot =
-    (slot ≤ slotCount) × (length out ≡ partSize) × (take (recordSize * slot) out ≡ joined (listBelow (numbersIn table place records) slot))
+    (slot ≤ slotCount) × (length out ≡ partSize) × (take (recordSize * slot) out ≡ concat (listBelow (numbersIn table place records) slot))
 
 abbrev μ-loop : tie.MeasureT-loop
 μ-loop table place records references list count parent out₀ slot₀ out slot = slotCount - slot
@@ -53,7 +53,7 @@ are-listed : (c : tie.After-list-places Inv-loop μ-loop) → let s = start (ref
 are-listed c = rw (references c .references-at .ensures) at (c .list-places .ensures .1)
 
 loop-holds : tie.Need-loop-holds Inv-loop μ-loop
-unfolding joined listBelow
+unfolding concat listBelow
 loop-holds c = (omega arith, refl, refl)
 
 loop-again : tie.Need-loop-again Inv-loop μ-loop

@@ -1,7 +1,7 @@
 -- `blocks_answer` meets its contract: one law for each way out. Assumes nothing.
 use native.Mathlib.Omega.{arith}
 use borrow.Author.Needs.{needs}
-use Rattle.table.proofs.InForm.{formed-of}
+use Rattle.table.proofs.InForm.{table-form}
 use Rattle.join.proofs.Ways.{way24, way25, way0}
 use Rattle.join.proofs.blocks_answer.Statement.{statement}
 use Rattle.join.proofs.blocks_answer.Tie as tie
@@ -17,7 +17,7 @@ first-clash-requires : tie.Need-first-clash-requires
 first-clash-requires c κs = start (c .before) .pre
 
 count-of-requires : tie.Need-count-of-requires
-count-of-requires c κs = formed-of _ (start-of c .pre .0 .leftFormed) .size
+count-of-requires c κs = table-form _ (start-of c .pre .0 .leftFormed) .size
 
 -- a refusal has another number than 0
 returns : tie.Need-returns

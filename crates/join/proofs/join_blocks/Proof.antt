@@ -12,14 +12,14 @@ start c = c .before .before .before .before .before .before .before
 
 place-all-requires : tie.Need-place-all-requires
 place-all-requires c κs =
-    let p = start c .pre .unretired .isWhole in
+    let p = start c .pre .unretired .buffersSized in
     (record { leftFormed = p .rightFormed; rightFormed = p .leftFormed }, search needs)
 
 abbrev there-of : tie.After-places → tie.After-place-all
 there-of c = c .before .before .before
 
 abbrev formed : (s : tie.Start) → BothFormed (s .args .left .now) (s .args .right .now)
-formed s = record { leftFormed = s .pre .unretired .isWhole .leftFormed; rightFormed = s .pre .unretired .isWhole .rightFormed }
+formed s = record { leftFormed = s .pre .unretired .buffersSized .leftFormed; rightFormed = s .pre .unretired .buffersSized .rightFormed }
 
 -- ---- their checks
 

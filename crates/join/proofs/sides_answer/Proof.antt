@@ -6,7 +6,7 @@ use borrow.Author.Needs.{needs}
 use borrow.Author.Tests.{not-true, not-false}
 use Rattle.table.specs.Layout.{tableSize}
 use Rattle.table.specs.Form.{inForm}
-use Rattle.table.proofs.InForm.{formed-of}
+use Rattle.table.proofs.InForm.{table-form}
 use Rattle.join.specs.Join.{neitherRetired}
 use Rattle.join.specs.Promises.{BothFormed}
 use Rattle.join.proofs.Ways.{way2, way2-right, way12-left, way12-right, way12, way31, way23, way-on}
@@ -75,7 +75,7 @@ abbrev three-of : tie.Else5 → tie.Else3
 three-of c = c .before .before
 
 lengths : (c : tie.Else5) → let a = start-at (three-of c .before) .args in (length (a .left .now) ≡ tableSize) × (length (a .right .now) ≡ tableSize)
-lengths c = let f = formed (three-of c .before) in (formed-of _ (f .leftFormed) .size, formed-of _ (f .rightFormed) .size)
+lengths c = let f = formed (three-of c .before) in (table-form _ (f .leftFormed) .size, table-form _ (f .rightFormed) .size)
 
 returns-6 : tie.Need-returns-6
 returns-6 c =

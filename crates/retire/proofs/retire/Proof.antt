@@ -8,7 +8,7 @@ use borrow.Author.Tests.{not-true, not-false}
 use Rattle.table.specs.Layout.{countOf}
 use Rattle.table.specs.Form.{inForm}
 use Rattle.table.specs.Steps.{LastPlace}
-use Rattle.table.proofs.InForm.{formed-of, last-place}
+use Rattle.table.proofs.InForm.{table-form, last-place}
 use Rattle.records.specs.Moving.{movedParts}
 use Rattle.retire.proofs.Ways.{out2, out12, out13, out29, out0}
 use Rattle.retire.proofs.retire.Statement.{statement}
@@ -92,7 +92,7 @@ retire-spec =
     (λ c κs. search needs)
     (λ c. search needs)
     returns-2
-    (λ c κs. formed-of _ (formed (c .before .before)) .size)
+    (λ c κs. table-form _ (formed (c .before .before)) .size)
     (λ c κs. search needs)
     (λ c. search needs)
     returns-3

@@ -6,13 +6,13 @@ use borrow.Author.Needs.{needs}
 use Rattle.base.proofs.Parts.{rest-part}
 use Rattle.run.specs.Run.{Site}
 use Rattle.run.proofs.FrontCall.{first-whole}
-use Rattle.run.proofs.ReplayInvariant.{Running, starts, finished, fits, goes-on}
+use Rattle.run.proofs.ReplayInvariant.{ReplayInvariant, starts, finished, fits, goes-on}
 use Rattle.run.proofs.replay.Statement.{statement}
 use Rattle.run.proofs.replay.Tie as tie
 
 abbrev Inv-loop : tie.InvT-loop
 Inv-loop table₀ records₀ calls answers₀ count₀ at₀ size₀ table records answers count at size =
-    Running calls (record { table = table₀; records = records₀ }) answers₀ (record { table = table; records = records }) answers count at size
+    ReplayInvariant calls (record { table = table₀; records = records₀ }) answers₀ (record { table = table; records = records }) answers count at size
 
 abbrev μ-loop : tie.MeasureT-loop
 μ-loop table₀ records₀ calls answers₀ count₀ at₀ size₀ table records answers count at size = length calls - at

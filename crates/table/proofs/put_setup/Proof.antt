@@ -6,7 +6,7 @@ use native.Mathlib.Omega.{arith}
 use lib.ListN.{length, drop, replicate, length-replicate}
 use borrow.Author.Needs.{needs}
 use Rattle.base.specs.List.{listBelow}
-use Rattle.base.specs.Bytes.{Bytes, joined, splice}
+use Rattle.base.specs.Bytes.{Bytes, concat, splice}
 use Rattle.base.proofs.Splice.{splice-append, length-splice}
 use Rattle.setup.specs.Setup.{slotCount}
 use Rattle.table.specs.Layout.{ownersOffset, tableSize, layout}
@@ -22,7 +22,7 @@ module _ (sites : ℕ) (owners t₀ t₁ : Bytes) (eight : length owners ≡ slo
   first-size = ap length e₁ ∙ length-splice t₀ 0 (sites ∷ []) (omega (arith, size t₀ e₀)) ∙ size t₀ e₀
 
   empty : (t₂ : Bytes) → t₂ ≡ splice t₁ ownersOffset owners → t₂ ≡ emptyTable (record { sites = sites; owners = owners })
-  unfolding emptyTable layout joined listBelow splice
+  unfolding emptyTable layout concat listBelow splice
   empty t₂ e₂ =
       let nine : 0 + length (sites ∷ owners) ≡ suc slotCount = omega (arith, eight) in
       e₂ ∙ ap (λ (t : Bytes). splice t ownersOffset owners) (e₁ ∙ ap (λ (t : Bytes). splice t 0 (sites ∷ [])) e₀)

@@ -8,7 +8,7 @@ use borrow.Author.Tests.{not-true, not-false}
 use Rattle.table.specs.Layout.{countOf}
 use Rattle.table.specs.Form.{inForm}
 use Rattle.table.specs.Steps.{LastPlace}
-use Rattle.table.proofs.InForm.{formed-of, last-place}
+use Rattle.table.proofs.InForm.{table-form, last-place}
 use Rattle.take_back.proofs.Ways.{out2, out32, out33, out0}
 use Rattle.take_back.proofs.take_back.Statement.{statement}
 use Rattle.take_back.proofs.take_back.Tie as tie
@@ -68,7 +68,7 @@ take-back-spec =
     (λ c κs. search needs)
     (λ c. search needs)
     returns
-    (λ c κs. formed-of _ (formed (c .before)) .size)
+    (λ c κs. table-form _ (formed (c .before)) .size)
     (λ c κs. search needs)
     (λ c. search needs)
     returns-2

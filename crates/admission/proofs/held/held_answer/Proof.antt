@@ -21,7 +21,7 @@ use Rattle.table.specs.Steps.{rowOf}
 use Rattle.table.proofs.Views.{same-refl, rule-reads}
 use Rattle.table.proofs.InForm.{formed-places}
 use Rattle.admission.specs.Admission.{missing, rowFor, heldChecks}
-use Rattle.admission.specs.Steps.{Ready, heldAnswer}
+use Rattle.admission.specs.Steps.{LookedUp, heldAnswer}
 use Rattle.admission.proofs.HeldReferences.{first-missing, listed}
 use Rattle.admission.proofs.held.held_answer.Statement.{statement}
 use Rattle.admission.proofs.held.held_answer.Tie as tie
@@ -32,7 +32,7 @@ record Behind (t b : Bytes) (k : ℕ) (rule : Bool) : Type 0 where
   way11 : rule ≡ true → maxPlaces ≤ k → refused 11 0 ≡ heldAnswer t b
   way0 : rule ≡ true → k < maxPlaces → success k ≡ heldAnswer t b
 
-module _ (t index b d : Bytes) (references none k place : ℕ) (ready : Ready t index b references none) (ed : d ≡ sha256 b) (ek : k ≡ countOf t) (ep : place ≡ placeOf (viewOf t) (countOf t) d) where
+module _ (t index b d : Bytes) (references none k place : ℕ) (ready : LookedUp t index b references none) (ed : d ≡ sha256 b) (ek : k ≡ countOf t) (ep : place ≡ placeOf (viewOf t) (countOf t) d) where
   at-place : place ≡ placeOf (viewOf t) (countOf t) (sha256 b)
   at-place = ep ∙ ap (placeOf (viewOf t) (countOf t)) ed
 

@@ -11,22 +11,22 @@ use Rattle.base.specs.Bytes.{Bytes}
 use Rattle.base.proofs.Search.{first-none, first-past, first-hit, first-end}
 use Rattle.block.specs.Limits.{referenceSize}
 use Rattle.block.specs.Layout.{referenceAt}
-use Rattle.block.specs.Reading.{repeatedAt}
+use Rattle.block.specs.Reading.{referenceRepeatedAt}
 use Rattle.block.specs.Steps.{firstSame}
 use Rattle.block.proofs.references.first_repeated.Statement.{statement}
 use Rattle.block.proofs.references.first_repeated.Tie as tie
 
 -- what a search for reference i among those before it shows
-found : (list key : Bytes) (i j : ℕ) → key ≡ referenceAt list i → j ≡ firstSame list i key → j < i → repeatedAt list i ≡ true
+found : (list key : Bytes) (i j : ℕ) → key ≡ referenceAt list i → j ≡ firstSame list i key → j < i → referenceRepeatedAt list i ≡ true
 unfolding anyBelow
 found list key i j e s h = lt-ltb _ i (rw (s, e) at h)
 
-unfound : (list key : Bytes) (i j : ℕ) → key ≡ referenceAt list i → j ≡ firstSame list i key → i ≤ j → repeatedAt list i ≡ false
+unfound : (list key : Bytes) (i j : ℕ) → key ≡ referenceAt list i → j ≡ firstSame list i key → i ≤ j → referenceRepeatedAt list i ≡ false
 unfolding anyBelow
 unfound list key i j e s h = le-ltb _ i (rw (s, e) at h)
 
 abbrev Inv-loop : tie.InvT-loop
-Inv-loop list k i₀ i = (i ≤ k) × (k ≡ length list / referenceSize) × (firstBelow (repeatedAt list) i ≡ i)
+Inv-loop list k i₀ i = (i ≤ k) × (k ≡ length list / referenceSize) × (firstBelow (referenceRepeatedAt list) i ≡ i)
 
 abbrev μ-loop : tie.MeasureT-loop
 μ-loop list k i₀ i = k - i
@@ -39,7 +39,7 @@ returns c =
     let m = c .before .before in
     let l = m .before .before in
     let list = l .before .before .args .list .now in
-    sym (first-hit (repeatedAt list) (l .loop .i) (length list / referenceSize) (omega arith) (l .loop .inv .2)
+    sym (first-hit (referenceRepeatedAt list) (l .loop .i) (length list / referenceSize) (omega arith) (l .loop .inv .2)
     (found list _ (l .loop .i) _ (m .reference .ensures) (c .before .first-same .ensures) (c .if1 .taken)))
 
 loop-again : tie.Need-loop-again Inv-loop μ-loop
@@ -49,7 +49,7 @@ loop-again c =
     let list = l .before .before .args .list .now in (
       omega arith,
       search needs,
-      first-past (repeatedAt list) (l .loop .i) (l .loop .inv .2)
+      first-past (referenceRepeatedAt list) (l .loop .i) (l .loop .inv .2)
           (unfound list _ (l .loop .i) _ (m .reference .ensures) (c .before .first-same .ensures) (c .if1 .left)),
     )
 

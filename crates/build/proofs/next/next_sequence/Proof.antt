@@ -7,14 +7,14 @@ use borrow.Author.Needs.{needs}
 use Rattle.base.specs.Mask.{inMask}
 use Rattle.table.specs.Layout.{countOf, viewOf}
 use Rattle.build.specs.Building.{greatestBelow, sequenceAfter, nextSequence}
-use Rattle.build.specs.Steps.{Ready}
+use Rattle.build.specs.Steps.{Buildable}
 use Rattle.build.proofs.Greatest.{greatest-grows, greatest-keeps}
 use Rattle.build.proofs.next.next_sequence.Statement.{statement}
 use Rattle.build.proofs.next.next_sequence.Tie as tie
 
 abbrev Inv-loop : tie.InvT-loop
 Inv-loop table seen site k next₀ i₀ next i =
-    (i ≤ k) × (k ≡ countOf table) × Ready table seen site × (next ≡ greatestBelow (sequenceAfter (inMask seen) (viewOf table) site) i)
+    (i ≤ k) × (k ≡ countOf table) × Buildable table seen site × (next ≡ greatestBelow (sequenceAfter (inMask seen) (viewOf table) site) i)
 
 abbrev μ-loop : tie.MeasureT-loop
 μ-loop table seen site k next₀ i₀ next i = k - i

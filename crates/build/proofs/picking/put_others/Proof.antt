@@ -10,14 +10,14 @@ use Rattle.table.specs.Layout.{countOf, viewOf}
 use Rattle.table.specs.Steps.{Places}
 use Rattle.build.specs.Building.{isOther}
 use Rattle.build.specs.Steps.{Room, referredMask}
-use Rattle.build.proofs.Putting.{Put, put-start, put-past, put-here, put-room}
+use Rattle.build.proofs.Putting.{PutBelow, put-start, put-past, put-here, put-room}
 use Rattle.build.proofs.picking.put_others.Statement.{statement}
 use Rattle.build.proofs.picking.put_others.Tie as tie
 
 abbrev Inv-loop : tie.InvT-loop
 Inv-loop table seen site count list₀ k referred end₀ i₀ list end i =
     (i ≤ k) × (k ≡ countOf table) × Places table (countOf table) × (referred ≡ referredMask table seen site) × Room list₀ count
-    × Put table (isOther (inMask seen) (viewOf table) site) count list₀ i list end
+    × PutBelow table (isOther (inMask seen) (viewOf table) site) count list₀ i list end
 
 abbrev μ-loop : tie.MeasureT-loop
 μ-loop table seen site count list₀ k referred end₀ i₀ list end i = k - i

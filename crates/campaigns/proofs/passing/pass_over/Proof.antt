@@ -10,23 +10,23 @@ use Rattle.base.specs.Bytes.{Bytes}
 use Rattle.sha256.specs.Sha256.{sha256}
 use Rattle.answer.specs.Buffer.{putAnswers}
 use Rattle.shelf.specs.Layout.{waitingIn, shelfBytes}
-use Rattle.shelf.proofs.Layout.{laid-size, laid-count}
+use Rattle.shelf.proofs.ShelfLayout.{laid-size, laid-count}
 use Rattle.campaigns.specs.Passes.{outcomesOf, admits, pass}
 use Rattle.campaigns.specs.declared.Pass.{Pass}
 use Rattle.campaigns.proofs.Turns.{Result, leftOf, left-none}
-use Rattle.campaigns.proofs.LoopInvariants.{Going, goes-on, goes-down}
+use Rattle.campaigns.proofs.LoopInvariants.{PassInvariant, goes-on, goes-down}
 use Rattle.campaigns.proofs.passing.pass_over.Statement.{statement}
 use Rattle.campaigns.proofs.passing.pass_over.Tie as tie
 
 abbrev Inv-loop : tie.InvT-loop
-Inv-loop table₀ shelf₀ campaign outcomes₀ ended p₀ at₀ table shelf outcomes p at = Going campaign table₀ shelf₀ outcomes₀ p₀ table shelf outcomes p at
+Inv-loop table₀ shelf₀ campaign outcomes₀ ended p₀ at₀ table shelf outcomes p at = PassInvariant campaign table₀ shelf₀ outcomes₀ p₀ table shelf outcomes p at
 
 abbrev μ-loop : tie.MeasureT-loop
 μ-loop table₀ shelf₀ campaign outcomes₀ ended p₀ at₀ table shelf outcomes p at = length (waitingIn shelf) - at
 
 -- what the end of the pass shows
 module _ (c : ℕ) (t₀ s₀ : Bytes) (o₀ : List ℕ) (ended : ℕ) (t s : Bytes) (o : List ℕ) (p : Pass) (at : ℕ)
-    (g : Going c t₀ s₀ o₀ (record { at = 0; admitted = false; ended = ended }) t s o p at) (over : length (waitingIn s) ≤ at) where
+    (g : PassInvariant c t₀ s₀ o₀ (record { at = 0; admitted = false; ended = ended }) t s o p at) (over : length (waitingIn s) ≤ at) where
   whole : record { table = t; waiting = waitingIn s; outcomes = record { numbers = o; count = p .ended }; admitted = p .admitted }
       ≡ leftOf sha256 c t₀ (waitingIn s₀) o₀ (record { at = 0; admitted = false; ended = ended })
   whole = sym (left-none sha256 c t (waitingIn s) o p (rw (← g .stands) over)) ∙ g .left

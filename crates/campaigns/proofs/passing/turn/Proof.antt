@@ -18,16 +18,16 @@ use Rattle.answer.specs.declared.Answer.{Answer}
 use Rattle.shelf.specs.Layout.{Waiting, campaignAt, blockAt, waitingAt, waitingIn, shelfBytes}
 use Rattle.shelf.specs.Rules.{isFor}
 use Rattle.shelf.specs.Steps.{noWaiting, without}
-use Rattle.shelf.proofs.Layout.{laid-size, laid-entry, laid-entry-of}
+use Rattle.shelf.proofs.ShelfLayout.{laid-size, laid-entry, laid-entry-of}
 use Rattle.admission.specs.Admission.{admission, admitted}
 use Rattle.admission.proofs.Effect.{refused-table}
 use Rattle.campaigns.specs.Passes.{outcome}
-use Rattle.campaigns.specs.Steps.{Standing, turned}
+use Rattle.campaigns.specs.Steps.{AtEntry, turned}
 use Rattle.campaigns.specs.declared.Pass.{Pass}
 use Rattle.campaigns.proofs.passing.turn.Statement.{statement}
 use Rattle.campaigns.proofs.passing.turn.Tie as tie
 
-module _ (t s : Bytes) (o : List ℕ) (c : ℕ) (p : Pass) (h : Standing s p) where
+module _ (t s : Bytes) (o : List ℕ) (c : ℕ) (p : Pass) (h : AtEntry s p) where
   abbrev ws : List Waiting
   ws = waitingIn s
 

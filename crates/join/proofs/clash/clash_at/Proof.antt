@@ -5,7 +5,7 @@ use Prim.Native.Nat.{_<_}
 use native.Mathlib.Omega.{arith}
 use borrow.Author.Needs.{needs}
 use Rattle.table.specs.Layout.{countOf, digestAt, viewOf}
-use Rattle.table.proofs.InForm.{formed-of}
+use Rattle.table.proofs.InForm.{table-form}
 use Rattle.join.specs.Join.{sameBlock, placeIn}
 use Rattle.join.proofs.ClashByPlaces.{none-there, one-there}
 use Rattle.join.proofs.clash.clash_at.Statement.{statement}
@@ -25,7 +25,7 @@ shared-slice-read-wide : tie.Need-shared-slice-read-wide
 shared-slice-read-wide c =
     let s = start c in
     let h = s .pre .1 .size in
-    let l = formed-of _ (s .pre .0 .leftFormed) .held .fits in
+    let l = table-form _ (s .pre .0 .leftFormed) .held .fits in
     let b = s .pre .3 in
     search needs
 
@@ -59,7 +59,7 @@ clash-at-spec =
     (tie.spec
     shared-slice-read-wide
     (λ c κs. search needs)
-    (λ c κs. formed-of _ (start-of c .pre .0 .rightFormed) .size)
+    (λ c κs. table-form _ (start-of c .pre .0 .rightFormed) .size)
     returns
     same-block-requires
     returns-2)

@@ -6,16 +6,16 @@ use borrow.Author.Needs.{needs}
 use Rattle.base.specs.Search.{firstBelow}
 use Rattle.base.proofs.Search.{first-none, first-past, first-hit, first-end}
 use Rattle.table.specs.Layout.{countOf, viewOf}
-use Rattle.table.proofs.InForm.{formed-of}
+use Rattle.table.proofs.InForm.{table-form}
 use Rattle.join.specs.Join.{clashAt}
 use Rattle.join.specs.Promises.{BothFormed}
-use Rattle.join.specs.Steps.{Held}
+use Rattle.join.specs.Steps.{PlacesFound}
 use Rattle.join.proofs.clash.first_clash.Statement.{statement}
 use Rattle.join.proofs.clash.first_clash.Tie as tie
 
 abbrev Inv-loop : tie.InvT-loop
 Inv-loop left right in-right in-left count i₀ i =
-    BothFormed left right × Held right left in-right × Held left right in-left × (count ≡ countOf left) × (i ≤ count)
+    BothFormed left right × PlacesFound right left in-right × PlacesFound left right in-left × (count ≡ countOf left) × (i ≤ count)
     × (firstBelow (clashAt (viewOf left) (viewOf right)) i ≡ i)
 
 abbrev μ-loop : tie.MeasureT-loop
@@ -53,7 +53,7 @@ first-clash-spec =
     (tie.spec
     Inv-loop
     μ-loop
-    (λ c κs. formed-of _ (start c .pre .0 .leftFormed) .size)
+    (λ c κs. table-form _ (start c .pre .0 .leftFormed) .size)
     loop-holds
     clash-at-requires
     returns

@@ -8,9 +8,9 @@ use borrow.Author.Tests.{not-true, not-false}
 use Rattle.base.specs.Search.{allBelow}
 use Rattle.setup.specs.Setup.{slotCount}
 use Rattle.table.specs.View.{maxPlaces}
-use Rattle.table.specs.Layout.{siteAt, sequenceAt, referencesAt, requestAt, viewOf}
+use Rattle.table.specs.Layout.{siteAt, sequenceAt, referencesAt, countedRequestAt, viewOf}
 use Rattle.table.specs.Steps.{Place}
-use Rattle.table.proofs.InForm.{formed-of}
+use Rattle.table.proofs.InForm.{table-form}
 use Rattle.join.specs.Join.{refersWithin}
 use Rattle.join.specs.Steps.{withinBy}
 use Rattle.join.proofs.ClashByPlaces.{within-is, other-site, other-sequence, other-request, other-reference, last-test}
@@ -18,10 +18,10 @@ use Rattle.join.proofs.clash.same_block.Statement.{statement}
 use Rattle.join.proofs.clash.same_block.Tie as tie
 
 left-place : (s : tie.Start) → Place (s .args .left .now) (s .args .i)
-left-place s = let f = formed-of _ (s .pre .formed .leftFormed) in record { size = f .size; place = omega (arith, f .held .fits, s .pre .first) }
+left-place s = let f = table-form _ (s .pre .formed .leftFormed) in record { size = f .size; place = omega (arith, f .held .fits, s .pre .first) }
 
 right-place : (s : tie.Start) → Place (s .args .right .now) (s .args .j)
-right-place s = let f = formed-of _ (s .pre .formed .rightFormed) in record { size = f .size; place = omega (arith, f .held .fits, s .pre .second) }
+right-place s = let f = table-form _ (s .pre .formed .rightFormed) in record { size = f .size; place = omega (arith, f .held .fits, s .pre .second) }
 
 -- ---- sites
 
@@ -76,7 +76,7 @@ returns-3 c =
     (sym (c .before .same-requests .ensures) ∙ not-true _ (c .if3 .taken))
 
 same-requests : (c : tie.Else3) → let a = start-at (c .before .before) .args in
-    allBelow (λ slot. eqb (requestAt (a .left .now) (a .i) slot) (requestAt (a .right .now) (a .j) slot)) slotCount ≡ true
+    allBelow (λ slot. eqb (countedRequestAt (a .left .now) (a .i) slot) (countedRequestAt (a .right .now) (a .j) slot)) slotCount ≡ true
 same-requests c = sym (c .before .same-requests .ensures) ∙ not-false _ (c .if3 .left)
 
 -- ---- references

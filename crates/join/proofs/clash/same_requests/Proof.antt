@@ -10,13 +10,13 @@ use Rattle.base.specs.Bytes.{Bytes}
 use Rattle.base.proofs.Tests.{one-more}
 use Rattle.base.proofs.Search.{all-true, all-false}
 use Rattle.setup.specs.Setup.{slotCount}
-use Rattle.table.specs.Layout.{requestAt}
+use Rattle.table.specs.Layout.{countedRequestAt}
 use Rattle.table.specs.Steps.{Place}
 use Rattle.join.proofs.clash.same_requests.Statement.{statement}
 use Rattle.join.proofs.clash.same_requests.Tie as tie
 
 abbrev test : Bytes → ℕ → Bytes → ℕ → ℕ → Bool
-test table i other j slot = eqb (requestAt table i slot) (requestAt other j slot)
+test table i other j slot = eqb (countedRequestAt table i slot) (countedRequestAt other j slot)
 
 abbrev Inv-loop : tie.InvT-loop
 Inv-loop table i other j slot₀ slot = (slot ≤ slotCount) × Place table i × Place other j × ((s : ℕ) → s < slot → test table i other j s ≡ true)

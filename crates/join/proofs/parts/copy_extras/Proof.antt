@@ -8,7 +8,7 @@ use borrow.Author.Needs.{needs}
 use Rattle.base.specs.Bytes.{splice}
 use Rattle.table.specs.View.{maxPlaces}
 use Rattle.table.specs.Layout.{countOf, viewOf}
-use Rattle.table.proofs.InForm.{formed-of}
+use Rattle.table.proofs.InForm.{table-form}
 use Rattle.records.specs.Layout.{bufferSize, partStart}
 use Rattle.join.specs.Join.{handedBack}
 use Rattle.join.specs.Steps.{Sides, Joinable, Numbered, extrasBelow}
@@ -32,7 +32,7 @@ loop-holds : tie.Need-loop-holds Inv-loop μ-loop
 unfolding extrasBelow
 loop-holds c =
     let p = start (c .before .before) .pre in
-    (p .0, p .1, p .2, c .before .count-of .ensures, c .count-of2 .ensures, omega arith, omega (arith, c .count-of2 .ensures, formed-of _ (p .0 .formed .rightFormed) .held .fits), p .3, refl)
+    (p .0, p .1, p .2, c .before .count-of .ensures, c .count-of2 .ensures, omega arith, omega (arith, c .count-of2 .ensures, table-form _ (p .0 .formed .rightFormed) .held .fits), p .3, refl)
 
 -- a turn
 abbrev loop-of : tie.After-wide Inv-loop μ-loop → tie.At-loop Inv-loop μ-loop
@@ -92,8 +92,8 @@ copy-extras-spec =
     (tie.spec
     Inv-loop
     μ-loop
-    (λ c κs. formed-of _ (start c .pre .0 .formed .leftFormed) .size)
-    (λ c κs. formed-of _ (start (c .before) .pre .0 .formed .rightFormed) .size)
+    (λ c κs. table-form _ (start c .pre .0 .formed .leftFormed) .size)
+    (λ c κs. table-form _ (start (c .before) .pre .0 .formed .rightFormed) .size)
     loop-holds
     (λ c. let inv = c .before .before .loop .inv in let h = inv .2 .size in let l = inv .6 in search needs)
     (λ c κs. search needs)

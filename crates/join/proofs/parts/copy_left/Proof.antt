@@ -6,17 +6,17 @@ use lib.ListN.{length}
 use borrow.Author.Needs.{needs}
 use Rattle.table.specs.View.{maxPlaces}
 use Rattle.table.specs.Layout.{countOf, viewOf}
-use Rattle.table.proofs.InForm.{formed-of}
+use Rattle.table.proofs.InForm.{table-form}
 use Rattle.records.specs.Layout.{bufferSize}
 use Rattle.join.specs.Join.{copiedBelow}
-use Rattle.join.specs.Steps.{Sides, Joinable, Held}
+use Rattle.join.specs.Steps.{Sides, Joinable, PlacesFound}
 use Rattle.join.proofs.PartSteps.{copy-length, copy-more}
 use Rattle.join.proofs.parts.copy_left.Statement.{statement}
 use Rattle.join.proofs.parts.copy_left.Tie as tie
 
 abbrev Inv-loop : tie.InvT-loop
 Inv-loop left right left-records right-records in-right third₀ count i₀ third i =
-    Joinable left right × Sides left right left-records right-records × Held right left in-right × (count ≡ countOf left) × (i ≤ count) × (count ≤ maxPlaces)
+    Joinable left right × Sides left right left-records right-records × PlacesFound right left in-right × (count ≡ countOf left) × (i ≤ count) × (count ≤ maxPlaces)
     × (length third ≡ bufferSize) × (third ≡ copiedBelow (viewOf left) (viewOf right) left-records right-records left third₀ i)
 
 abbrev μ-loop : tie.MeasureT-loop
@@ -30,7 +30,7 @@ loop-holds : tie.Need-loop-holds Inv-loop μ-loop
 unfolding copiedBelow
 loop-holds c =
     let p = start (c .before) .pre in
-    (p .0, p .1, p .2, c .count-of .ensures, omega arith, omega (arith, c .count-of .ensures, formed-of _ (p .0 .formed .leftFormed) .held .fits), p .3, refl)
+    (p .0, p .1, p .2, c .count-of .ensures, omega arith, omega (arith, c .count-of .ensures, table-form _ (p .0 .formed .leftFormed) .held .fits), p .3, refl)
 
 -- a turn
 abbrev loop-of : tie.After-wide Inv-loop μ-loop → tie.At-loop Inv-loop μ-loop
@@ -78,7 +78,7 @@ copy-left-spec =
     (tie.spec
     Inv-loop
     μ-loop
-    (λ c κs. formed-of _ (start c .pre .0 .formed .leftFormed) .size)
+    (λ c κs. table-form _ (start c .pre .0 .formed .leftFormed) .size)
     loop-holds
     (λ c. let inv = c .before .before .loop .inv in let h = inv .2 .size in let l = inv .5 in search needs)
     (λ c κs. search needs)

@@ -6,7 +6,7 @@ use native.Mathlib.Omega.{arith}
 use borrow.Author.Needs.{needs}
 use Rattle.table.specs.View.{maxPlaces}
 use Rattle.table.specs.Layout.{countOf}
-use Rattle.table.proofs.InForm.{formed-of}
+use Rattle.table.proofs.InForm.{table-form}
 use Rattle.join.specs.Promises.{BothFormed, placeBehind}
 use Rattle.join.proofs.PlaceLists.{NumberedBelow, number-start, number-held, number-extra}
 use Rattle.join.proofs.places.number_extras.Statement.{statement}
@@ -31,8 +31,8 @@ loop-holds c =
       c .count-of2 .ensures,
       omega arith,
       number-start _ _ _ _ (s .pre .1) (c .before .count-of .ensures),
-      formed-of _ (s .pre .0 .leftFormed) .held .fits,
-      omega (arith, c .count-of2 .ensures, formed-of _ (s .pre .0 .rightFormed) .held .fits),
+      table-form _ (s .pre .0 .leftFormed) .held .fits,
+      omega (arith, c .count-of2 .ensures, table-form _ (s .pre .0 .rightFormed) .held .fits),
     )
 
 -- a turn
@@ -80,8 +80,8 @@ number-extras-spec =
     (tie.spec
     Inv-loop
     μ-loop
-    (λ c κs. formed-of _ (start c .pre .0 .leftFormed) .size)
-    (λ c κs. formed-of _ (start (c .before) .pre .0 .rightFormed) .size)
+    (λ c κs. table-form _ (start c .pre .0 .leftFormed) .size)
+    (λ c κs. table-form _ (start (c .before) .pre .0 .rightFormed) .size)
     loop-holds
     (λ c. let inv = c .before .before .loop .inv in let h = inv .4 .size in let l = inv .6 in search needs)
     (λ c κs. search needs)

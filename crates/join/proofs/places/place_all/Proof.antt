@@ -6,7 +6,7 @@ use borrow.Author.Needs.{needs}
 use Rattle.table.specs.Layout.{countOf, viewOf}
 use Rattle.table.specs.Rules.{placeOf}
 use Rattle.table.specs.Steps.{indexOf}
-use Rattle.table.proofs.InForm.{formed-of}
+use Rattle.table.proofs.InForm.{table-form}
 use Rattle.join.specs.Promises.{BothFormed}
 use Rattle.join.proofs.PlaceLists.{HeldBelow, held-next, found-few}
 use Rattle.join.proofs.places.place_all.Statement.{statement}
@@ -35,7 +35,7 @@ loop-of c = c .before .before .before
 digest-at-requires : tie.Need-digest-at-requires Inv-loop μ-loop
 digest-at-requires c κs =
     let inv = c .before .before .loop .inv in
-    let f = formed-of _ (inv .0 .rightFormed) in
+    let f = table-form _ (inv .0 .rightFormed) in
     record { size = f .size; place = omega (arith, f .held .fits, inv .2) }
 
 find-requires : tie.Need-find-requires Inv-loop μ-loop
@@ -51,7 +51,7 @@ slice-write-places : tie.Need-slice-write-places Inv-loop μ-loop
 slice-write-places c =
     let inv = loop-of (c .before) .loop .inv in
     let h = inv .4 .size in
-    let l = formed-of _ (inv .0 .rightFormed) .held .fits in
+    let l = table-form _ (inv .0 .rightFormed) .held .fits in
     search needs
 
 loop-again : tie.Need-loop-again Inv-loop μ-loop
@@ -59,7 +59,7 @@ loop-again c =
     let at = loop-of (c .before) in
     let l = at .loop in
     let a = start (at .before .before .before) .args in
-    let few = formed-of _ (l .inv .0 .rightFormed) .held .fits in (
+    let few = table-form _ (l .inv .0 .rightFormed) .held .fits in (
       l .inv .0,
       l .inv .1,
       l .inv .2,
@@ -80,7 +80,7 @@ place-all-spec =
     Inv-loop
     μ-loop
     (λ c κs. start c .pre .0 .leftFormed)
-    (λ c κs. formed-of _ (start (c .before) .pre .0 .rightFormed) .size)
+    (λ c κs. table-form _ (start (c .before) .pre .0 .rightFormed) .size)
     loop-holds
     (λ c. search needs)
     digest-at-requires

@@ -7,7 +7,7 @@ use borrow.Author.Needs.{needs}
 use Rattle.base.specs.Bytes.{Bytes}
 use Rattle.table.specs.View.{maxPlaces}
 use Rattle.table.specs.Layout.{countOf, viewOf}
-use Rattle.table.proofs.InForm.{formed-of}
+use Rattle.table.proofs.InForm.{table-form}
 use Rattle.join.specs.Join.{joinPlace, joinBelow}
 use Rattle.join.specs.Steps.{Joinable, Numbered}
 use Rattle.join.proofs.TableInvariant.{below-size}
@@ -28,7 +28,7 @@ loop-holds : tie.Need-loop-holds Inv-loop μ-loop
 unfolding joinBelow
 loop-holds c =
     let p = start (c .before) .pre in
-    (p .0, p .1, c .count-of .ensures, omega arith, omega (arith, c .count-of .ensures, formed-of _ (p .0 .formed .rightFormed) .held .fits), refl)
+    (p .0, p .1, c .count-of .ensures, omega arith, omega (arith, c .count-of .ensures, table-form _ (p .0 .formed .rightFormed) .held .fits), refl)
 
 -- a turn
 join-place-requires : tie.Need-join-place-requires Inv-loop μ-loop
@@ -68,7 +68,7 @@ join-rows-spec =
     (tie.spec
     Inv-loop
     μ-loop
-    (λ c κs. formed-of _ (start c .pre .0 .formed .rightFormed) .size)
+    (λ c κs. table-form _ (start c .pre .0 .formed .rightFormed) .size)
     loop-holds
     join-place-requires
     (λ c. search needs)

@@ -5,9 +5,9 @@ use Prim.Native.Nat.{ℕ, _+_, _-_, _*_, _≤_}
 use native.Mathlib.Omega.{arith}
 use borrow.Author.Needs.{needs}
 use lib.ListN.{length, replicate}
-use Rattle.base.specs.Bytes.{Bytes, joined}
+use Rattle.base.specs.Bytes.{Bytes, concat}
 use Rattle.base.specs.List.{listBelow}
-use Rattle.base.proofs.Parts.{joined-list-more}
+use Rattle.base.proofs.Parts.{concat-list-more}
 use Rattle.setup.specs.Setup.{slotCount}
 use Rattle.report.specs.Text.{deliveryText}
 use Rattle.report.specs.Listing.{delivery, deliveryLines}
@@ -22,7 +22,7 @@ abbrev slotText : List ℕ → ℕ → ℕ → ℕ → ℕ → ℕ → Bytes
 slotText records arrival place site sequence slot = deliveryText (delivery records arrival place site sequence slot)
 
 abbrev lowerText : List ℕ → ℕ → ℕ → ℕ → ℕ → ℕ → Bytes
-lowerText records arrival place site sequence k = joined (listBelow (slotText records arrival place site sequence) k)
+lowerText records arrival place site sequence k = concat (listBelow (slotText records arrival place site sequence) k)
 
 abbrev Inv-loop : tie.InvT-loop
 Inv-loop records arrival place site sequence bytes₀ length₀ slot₀ bytes end slot =
@@ -32,7 +32,7 @@ abbrev μ-loop : tie.MeasureT-loop
 μ-loop records arrival place site sequence bytes₀ length₀ slot₀ bytes end slot = slotCount - slot
 
 loop-holds : tie.Need-loop-holds Inv-loop μ-loop
-unfolding joined listBelow
+unfolding concat listBelow
 loop-holds c = (put-nothing (replicate linesSize 0) 0, omega arith, omega arith, search needs)
 
 abbrev turn : tie.After-delivered-in Inv-loop μ-loop → tie.At-loop Inv-loop μ-loop
@@ -47,9 +47,9 @@ loop-again c =
     let of : ℕ → Bytes = slotText (a .records .now) (a .arrival) (a .place) (a .site) (a .sequence) in
     let one : Put (l .bytes) (l .length) (of (l .slot)) (p .last .0) (p .result) =
     rw (← d .delivered-in .ensures) (record { ends = p .ensures .0 .0; holds = p .ensures .1 }) in
-    let all : Front (joined (listBelow of (l .slot + 1))) (p .last .0) (p .result) =
-    rw (joined-list-more of (l .slot)) (put-behind (replicate linesSize 0) 0 (joined (listBelow of (l .slot))) (of (l .slot)) (l .bytes) (p .last .0) (l .length) (p .result) (omega arith) (l .inv .0) one) in
-    (all, omega arith, omega arith, put-keeps (replicate linesSize 0) 0 (joined (listBelow of (l .slot + 1))) (p .last .0) (p .result) all (omega arith))
+    let all : Front (concat (listBelow of (l .slot + 1))) (p .last .0) (p .result) =
+    rw (concat-list-more of (l .slot)) (put-behind (replicate linesSize 0) 0 (concat (listBelow of (l .slot))) (of (l .slot)) (l .bytes) (p .last .0) (l .length) (p .result) (omega arith) (l .inv .0) one) in
+    (all, omega arith, omega arith, put-keeps (replicate linesSize 0) 0 (concat (listBelow of (l .slot + 1))) (p .last .0) (p .result) all (omega arith))
 
 returns : tie.Need-returns Inv-loop μ-loop
 unfolding deliveryLines

@@ -8,11 +8,10 @@ use borrow.Author.Needs.{needs}
 use lib.ListN.{length}
 use Rattle.base.specs.Bytes.{Bytes}
 use Rattle.answer.proofs.Checks.{number-of}
-use Rattle.answer.specs.declared.Answer.{Answer}
 use Rattle.table.specs.Fresh.{freshAnswer}
 use Rattle.report.specs.Text.{names, setupLine}
 use Rattle.report.specs.Arrivals.{setupSize, setupIn}
-use Rattle.report.specs.Framing.{outcome, setupStep, handed}
+use Rattle.report.specs.Framing.{outcomeOf, setupStep, handed}
 use Rattle.report.specs.declared.Expected.the-variants.{End}
 use Rattle.report.proofs.Setups.{short-unlawful, unlawful-refused, refused-kept}
 use Rattle.report.proofs.Ways.{setup-refused, setup-made}
@@ -27,8 +26,8 @@ module _ (table piece : Bytes) (short : length piece < setupSize) where
   refuses : freshAnswer (setupIn piece) table .refusal ≢ 0
   refuses e = omega (arith, one)
 
-  short-refused : setupStep table piece ≡ outcome End 0 (names ++ setupLine 1)
-  short-refused = setup-refused table piece refuses ∙ ap (λ (r : ℕ). outcome End 0 (names ++ setupLine r)) one
+  short-refused : setupStep table piece ≡ outcomeOf End 0 (names ++ setupLine 1)
+  short-refused = setup-refused table piece refuses ∙ ap (λ (r : ℕ). outcomeOf End 0 (names ++ setupLine r)) one
 
 -- ---- the places of the walk
 

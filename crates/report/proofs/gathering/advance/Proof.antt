@@ -8,7 +8,7 @@ use lib.Seq.{length-take-le}
 use Rattle.base.specs.Bytes.{Bytes, splice}
 use Rattle.sha256.specs.Sha256.{sha256}
 use Rattle.report.specs.Framing.{wanted, siteStepped, linesSize}
-use Rattle.report.specs.Gathering.{siteWith}
+use Rattle.report.specs.Gathering.{lentSite}
 use Rattle.report.proofs.LinesOut.{handed-fits}
 use Rattle.report.proofs.GatheringStep.{piece-cut, step-advances, step-lines}
 use Rattle.report.proofs.gathering.advance.Statement.{statement}
@@ -59,7 +59,7 @@ returns c =
     let q = s .step in
     let p = cut s .piece-end in
     let unread = a .unread .now in
-    let x = siteWith (a .table .now) (a .records .now) in
+    let x = lentSite (a .table .now) (a .records .now) in
     let used = a .done .used in
     let end : p .result ≡ used + min (wanted (a .done .state)) (length unread - used) =
     p .ensures ∙ ap (λ (n : ℕ). used + min n (length unread - used)) (cut s .before .wanted .ensures .0) in

@@ -7,7 +7,7 @@ use native.Mathlib.Omega.{arith}
 use lib.ListN.{length}
 use Rattle.base.specs.Bytes.{Bytes, splice}
 use Rattle.run.specs.Run.{Site}
-use Rattle.report.specs.Gathering.{siteWith, Gathering, isDue, gatheredOf}
+use Rattle.report.specs.Gathering.{lentSite, Gathering, isDue, gatheredOf}
 use Rattle.report.specs.declared.Gathered.{Gathered}
 use Rattle.report.proofs.Termination.{work}
 use Rattle.report.proofs.GatheringStep.{soFar, Leads, leads-start, leads-end, leads-less, leads-next, same-size, has-room}
@@ -27,7 +27,7 @@ module _ (output table : Bytes) (records : List ℕ) (out : Bytes) (done : Gathe
 
 abbrev Inv-loop : tie.InvT-loop
 Inv-loop table₀ records₀ unread is-ended output₀ done₀ table records output done =
-    Leads unread is-ended output₀ (done₀ .state) (siteWith table₀ records₀) table records output done
+    Leads unread is-ended output₀ (done₀ .state) (lentSite table₀ records₀) table records output done
     × (length table ≡ length table₀) × (length records ≡ length records₀)
 
 abbrev μ-loop : tie.MeasureT-loop
@@ -41,13 +41,13 @@ start-at c = c .before .before .before .before
 loop-holds : tie.Need-loop-holds Inv-loop μ-loop
 loop-holds c =
     let a = start-at c .args in
-    (leads-start (a .unread .now) (a .is-ended) (a .output .now) (a .state) (siteWith (a .table .now) (a .records .now)), refl, refl)
+    (leads-start (a .unread .now) (a .is-ended) (a .output .now) (a .state) (lentSite (a .table .now) (a .records .now)), refl, refl)
 
 abbrev start : tie.At-loop Inv-loop μ-loop → tie.Start Inv-loop μ-loop
 start c = start-at (c .before)
 
 abbrev site : tie.At-loop Inv-loop μ-loop → Site
-site c = siteWith (start c .args .table .now) (start c .args .records .now)
+site c = lentSite (start c .args .table .now) (start c .args .records .now)
 
 abbrev asked : tie.After-advance-arg3 Inv-loop μ-loop → tie.Then1 Inv-loop μ-loop
 asked c = c .before .before .before

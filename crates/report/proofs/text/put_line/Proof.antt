@@ -4,9 +4,9 @@ use mathlib.Core.List.{List, [], _∷_, _++_}
 use Prim.Native.Nat.{ℕ, _+_, _-_, _*_, _≤_}
 use native.Mathlib.Omega.{arith}
 use lib.ListN.{length, getD}
-use Rattle.base.specs.Bytes.{Bytes, joined}
+use Rattle.base.specs.Bytes.{Bytes, concat}
 use Rattle.base.specs.List.{listBelow}
-use Rattle.base.proofs.Parts.{joined-list-more}
+use Rattle.base.proofs.Parts.{concat-list-more}
 use Rattle.report.specs.Text.{fieldText, fieldCount, ending, line}
 use Rattle.report.specs.Framing.{fieldSize}
 use Rattle.report.specs.declared.Field.{Field}
@@ -20,7 +20,7 @@ abbrev fieldIn : List Field → ℕ → Bytes
 fieldIn fields i = fieldText (getD fields i (Number 0)) ++ (ending i ∷ [])
 
 abbrev firstFields : List Field → ℕ → Bytes
-firstFields fields k = joined (listBelow (fieldIn fields) k)
+firstFields fields k = concat (listBelow (fieldIn fields) k)
 
 abbrev Inv-loop : tie.InvT-loop
 Inv-loop out₀ at fields end₀ i₀ out end i =
@@ -30,7 +30,7 @@ abbrev μ-loop : tie.MeasureT-loop
 μ-loop out₀ at fields end₀ i₀ out end i = fieldCount - i
 
 loop-holds : tie.Need-loop-holds Inv-loop μ-loop
-unfolding joined listBelow
+unfolding concat listBelow
 loop-holds c = (put-nothing (c .before .args .out .now) (c .before .args .at), omega arith, omega arith, refl)
 
 abbrev turn : tie.After-ending Inv-loop μ-loop → tie.At-loop Inv-loop μ-loop
@@ -45,7 +45,7 @@ loop-again c =
     let one : Put (l .out) (l .end) (fieldIn (a .t3) (l .i)) (f .last .0) (f .result) =
     rw (← e .ending .ensures) (record { ends = f .ensures .0 .0; holds = f .ensures .1 }) in
     let all : Put (a .out .now) (a .at) (firstFields (a .t3) (l .i + 1)) (f .last .0) (f .result) =
-    rw (joined-list-more (fieldIn (a .t3)) (l .i)) (put-behind (a .out .now) (a .at) (firstFields (a .t3) (l .i)) (fieldIn (a .t3) (l .i)) (l .out) (f .last .0) (l .end) (f .result) (omega arith) (l .inv .0) one) in
+    rw (concat-list-more (fieldIn (a .t3)) (l .i)) (put-behind (a .out .now) (a .at) (firstFields (a .t3) (l .i)) (fieldIn (a .t3) (l .i)) (l .out) (f .last .0) (l .end) (f .result) (omega arith) (l .inv .0) one) in
     (all, omega arith, omega arith, put-keeps (a .out .now) (a .at) (firstFields (a .t3) (l .i + 1)) (f .last .0) (f .result) all (omega arith))
 
 returns : tie.Need-returns Inv-loop μ-loop

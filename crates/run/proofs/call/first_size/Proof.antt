@@ -18,7 +18,7 @@ noTakingBack c = c .before
 abbrev admits : tie.Else7 → tie.Else6
 admits c = c .before
 
-abbrev header : tie.After-word-at → tie.Else7
+abbrev header : tie.After-low-first-at → tie.Else7
 header c = c .before
 
 returns-6 : tie.Need-returns-6
@@ -30,7 +30,7 @@ returns-6 c =
 returns-9 : tie.Need-returns-9
 returns-9 c =
     let h = header (c .before) in
-    let e = c .before .word-at .ensures in
+    let e = c .before .low-first-at .ensures in
     ap (λ (n : ℕ). 10 + n) e ∙ way-admission _ (admits h .if6 .left) (h .if7 .left) (omega (arith, c .if8 .left))
 
 pub first-size-spec : {M : Type 1} → statement M
@@ -50,6 +50,6 @@ first-size-spec =
     (λ c. way-cut _ (c .before .if6 .left) (c .if7 .taken))
     (λ c κs. search needs)
     (λ c. search needs)
-    (λ c. let h = header (c .before) in way-cut-block _ (admits h .if6 .left) (h .if7 .left) (let e = c .before .word-at .ensures in omega (arith, c .if8 .taken)))
+    (λ c. let h = header (c .before) in way-cut-block _ (admits h .if6 .left) (h .if7 .left) (let e = c .before .low-first-at .ensures in omega (arith, c .if8 .taken)))
     (λ c. search needs)
     returns-9)

@@ -11,12 +11,12 @@ use Rattle.base.specs.Count.{sumBelow}
 use Rattle.base.proofs.Sum.{sum-more}
 use Rattle.shelf.specs.Layout.{waitingIn}
 use Rattle.shelf.specs.Rules.{campaignCount, reserved, lack}
-use Rattle.shelf.specs.Steps.{Sized}
+use Rattle.shelf.specs.Steps.{ShelfSized}
 use Rattle.shelf.proofs.share.others_lack.Statement.{statement}
 use Rattle.shelf.proofs.share.others_lack.Tie as tie
 
 abbrev Inv-loop : tie.InvT-loop
-Inv-loop shelf campaign sum₀ c₀ sum c = (c ≤ campaignCount) × Sized shelf × (sum ≤ reserved * c) × (sum ≡ sumBelow (λ d. cond (eqb d campaign) 0 (lack d (waitingIn shelf))) c)
+Inv-loop shelf campaign sum₀ c₀ sum c = (c ≤ campaignCount) × ShelfSized shelf × (sum ≤ reserved * c) × (sum ≡ sumBelow (λ d. cond (eqb d campaign) 0 (lack d (waitingIn shelf))) c)
 
 abbrev μ-loop : tie.MeasureT-loop
 μ-loop shelf campaign sum₀ c₀ sum c = campaignCount - c

@@ -7,16 +7,16 @@ use lib.ListN.{drop}
 use borrow.Author.Needs.{needs}
 use borrow.Author.Tests.{eq-eqb, ne-eqb}
 use Rattle.base.specs.List.{countIn}
-use Rattle.shelf.specs.Layout.{countOf, waitingIn}
+use Rattle.shelf.specs.Layout.{waitingCount, waitingIn}
 use Rattle.shelf.specs.Rules.{holds}
-use Rattle.shelf.specs.Steps.{Sized}
+use Rattle.shelf.specs.Steps.{ShelfSized}
 use Rattle.shelf.proofs.Turns.{waiting-end, holds-turn}
 use Rattle.shelf.proofs.share.places_held.Statement.{statement}
 use Rattle.shelf.proofs.share.places_held.Tie as tie
 
 abbrev Inv-loop : tie.InvT-loop
 Inv-loop shelf campaign k held₀ i₀ held i =
-    (i ≤ k) × (k ≡ countOf shelf) × Sized shelf × (held ≤ i) × (held + holds campaign (drop i (waitingIn shelf)) ≡ holds campaign (waitingIn shelf))
+    (i ≤ k) × (k ≡ waitingCount shelf) × ShelfSized shelf × (held ≤ i) × (held + holds campaign (drop i (waitingIn shelf)) ≡ holds campaign (waitingIn shelf))
 
 abbrev μ-loop : tie.MeasureT-loop
 μ-loop shelf campaign k held₀ i₀ held i = k - i

@@ -13,14 +13,14 @@ use Rattle.base.proofs.Search.{all-true, all-false}
 use Rattle.base.proofs.Sum.{sum-more}
 use Rattle.shelf.specs.Layout.{maxWaiting, waitingIn}
 use Rattle.shelf.specs.Rules.{campaignCount, reserved, maxShare, holds, lack, shared}
-use Rattle.shelf.specs.Steps.{Sized}
+use Rattle.shelf.specs.Steps.{ShelfSized}
 use Rattle.shelf.proofs.Turns.{length-waiting}
 use Rattle.shelf.proofs.share.shared.Statement.{statement}
 use Rattle.shelf.proofs.share.shared.Tie as tie
 
 abbrev Inv-loop : tie.InvT-loop
 Inv-loop shelf sum₀ c₀ sum c =
-    (c ≤ campaignCount) × Sized shelf × (sum ≤ reserved * c) × (sum ≡ sumBelow (λ d. lack d (waitingIn shelf)) c) × ((j : ℕ) → j < c → leb (holds j (waitingIn shelf)) maxShare ≡ true)
+    (c ≤ campaignCount) × ShelfSized shelf × (sum ≤ reserved * c) × (sum ≡ sumBelow (λ d. lack d (waitingIn shelf)) c) × ((j : ℕ) → j < c → leb (holds j (waitingIn shelf)) maxShare ≡ true)
 
 abbrev μ-loop : tie.MeasureT-loop
 μ-loop shelf sum₀ c₀ sum c = campaignCount - c

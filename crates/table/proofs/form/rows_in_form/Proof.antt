@@ -24,7 +24,7 @@ use Rattle.base.proofs.Prints.{group-mask, group-more}
 use Rattle.setup.specs.Setup.{maxSites}
 use Rattle.table.specs.Layout.{setupOf, viewOf, siteAt, markAt}
 use Rattle.table.specs.Rules.{rowInForm}
-use Rattle.table.specs.Steps.{Places, Met, marksBelow, siteBelow, sitesBelow, groupCount, groupAt, printAt}
+use Rattle.table.specs.Steps.{Places, RowContext, marksBelow, siteBelow, sitesBelow, groupCount, groupAt, printAt}
 use Rattle.table.proofs.Prints.{group-lt, print-lt}
 use Rattle.table.proofs.form.rows_in_form.Statement.{statement}
 use Rattle.table.proofs.form.rows_in_form.Tie as tie
@@ -87,7 +87,7 @@ entered : (c : tie.Else1 Inv-loop μ-loop) → c .before .wide2 .result < maxSit
 entered c = omega (arith, c .if1 .left, count (loop (c .before)), start (loop (c .before)) .pre .1)
 
 met : (g : tie.After-group-at Inv-loop μ-loop) → let c = g .before in let l = loop (c .before) in
-    Met (start l .args .table .now) (l .loop .i) (l .loop .marked) (getD (l .loop .of-site) (c .before .wide2 .result) 0)
+    RowContext (start l .args .table .now) (l .loop .i) (l .loop .marked) (getD (l .loop .of-site) (c .before .wide2 .result) 0)
     (getD (l .loop .of-group) (g .group-at .result) 0)
 met g =
     let c = g .before in

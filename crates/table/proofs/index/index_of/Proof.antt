@@ -8,7 +8,7 @@ use Rattle.base.specs.Bytes.{Bytes}
 use Rattle.base.specs.List.{listBelow}
 use Rattle.table.specs.Layout.{countOf}
 use Rattle.table.specs.Steps.{Places, lastOf, byteCount, indexBelow}
-use Rattle.table.proofs.InForm.{formed-of, formed-places}
+use Rattle.table.proofs.InForm.{table-form, formed-places}
 use Rattle.table.proofs.DigestIndex.{index-more}
 use Rattle.table.proofs.index.index_of.Statement.{statement}
 use Rattle.table.proofs.index.index_of.Tie as tie
@@ -50,7 +50,7 @@ index-of-spec =
     (tie.spec
     Inv-loop
     μ-loop
-    (λ c κs. formed-of _ (c .before .pre) .size)
+    (λ c κs. table-form _ (c .before .pre) .size)
     loop-holds
     (λ c. search needs)
     (λ c. search needs)

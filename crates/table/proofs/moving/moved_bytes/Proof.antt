@@ -28,7 +28,7 @@ returns c =
     let s = r .before .before in
     moved-is (s .args .table .now) (s .args .i) (r .references-at .result) (r .references-at .ensures) (r .references-at .ok) _ _ _ _
     (lent (s .args .table .now) (s .args .i)) (lent-length (s .args .table .now) (s .args .i) (omega (arith, s .pre .size, s .pre .place)))
-    (q .put .ensures) (w .word-bytes .ensures) (p .put2 .ensures)
+    (q .put .ensures) (w .low-first-bytes .ensures) (p .put2 .ensures)
 
 pub moved-bytes-spec : {M : Type 1} → statement M
 moved-bytes-spec =

@@ -8,7 +8,7 @@ use Rattle.table.proofs.rows.references_at.Statement.{statement}
 use Rattle.table.proofs.rows.references_at.Tie as tie
 
 returns : tie.Need-returns
-returns c = rw (part-size (rowStart (c .before .before .before .args .i) + referencesOffset) wordSize) at (c .word-of .ensures)
+returns c = rw (part-size (rowStart (c .before .before .before .args .i) + referencesOffset) wordSize) at (c .low-first .ensures)
 
 pub references-at-spec : {M : Type 1} → statement M
 references-at-spec =

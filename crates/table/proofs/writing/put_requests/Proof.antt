@@ -6,9 +6,9 @@ use native.Mathlib.Omega.{arith}
 use lib.ListN.{length}
 use borrow.Author.Needs.{needs}
 use Rattle.base.specs.List.{listBelow}
-use Rattle.base.specs.Bytes.{Bytes, joined, splice}
+use Rattle.base.specs.Bytes.{Bytes, concat, splice}
 use Rattle.base.specs.Number.{pair}
-use Rattle.base.proofs.Parts.{length-joined-list, joined-list-more}
+use Rattle.base.proofs.Parts.{length-joined-list, concat-list-more}
 use Rattle.base.proofs.Splice.{splice-nothing, splice-append, length-splice}
 use Rattle.setup.specs.Setup.{slotCount}
 use Rattle.block.specs.Layout.{requestsIn, countedRequest}
@@ -17,7 +17,7 @@ use Rattle.table.proofs.writing.put_requests.Tie as tie
 
 -- the pairs of the slots below k
 abbrev pairs : Bytes → ℕ → Bytes
-pairs list k = joined (listBelow (λ slot. pair (countedRequest (requestsIn list) slot)) k)
+pairs list k = concat (listBelow (λ slot. pair (countedRequest (requestsIn list) slot)) k)
 
 pairs-length : (list : Bytes) (k : ℕ) → length (pairs list k) ≡ 2 * k
 pairs-length list k = length-joined-list 2 (λ slot. pair (countedRequest (requestsIn list) slot)) k (λ i. refl)
@@ -31,7 +31,7 @@ module _ (t₀ t t′ : Bytes) (at slot x : ℕ) (list : Bytes) (fits : at + 2 *
       ∙ ap (λ (n : ℕ). splice (splice t₀ at (pairs list slot)) (at + n) (pair x)) (sym (pairs-length list slot))
       ∙ splice-append t₀ at (pairs list slot) (omega arith) (pair x)
       ∙ ap (λ (n : ℕ). splice t₀ at (pairs list slot ++ pair n)) f
-      ∙ ap (splice t₀ at) (sym (joined-list-more (λ slot. pair (countedRequest (requestsIn list) slot)) slot))
+      ∙ ap (splice t₀ at) (sym (concat-list-more (λ slot. pair (countedRequest (requestsIn list) slot)) slot))
 
   same-length : length t ≡ length t₀ → t′ ≡ splice t (at + 2 * slot) (pair x) → length t′ ≡ length t₀
   same-length l g = ap length g ∙ length-splice t (at + 2 * slot) (pair x) (omega arith) ∙ l
@@ -43,7 +43,7 @@ abbrev μ-loop : tie.MeasureT-loop
 μ-loop table₀ at list slot₀ table slot = slotCount - slot
 
 loop-holds : tie.Need-loop-holds Inv-loop μ-loop
-unfolding joined listBelow
+unfolding concat listBelow
 loop-holds c = (omega arith, search needs, refl, sym (splice-nothing _ (c .before .before .args .at)))
 
 loop-again : tie.Need-loop-again Inv-loop μ-loop

@@ -16,7 +16,7 @@ returns c =
     let lent1 = word .before .before in let front = lent1 .before .before in
     let known = front .before .before .before in let s = known .before .before in
     carried-written (s .args .table .now) _ _ _ (s .args .row .now) _ _ _ (s .args .at) (s .args .references) (omega (arith, s .pre .0)) (s .pre .1)
-    refl (front .put .ensures) (word .word-bytes .ensures) (mask .put2 .ensures)
+    refl (front .put .ensures) (word .low-first-bytes .ensures) (mask .put2 .ensures)
     (rest-part (s .args .row .now) requestsOffset) (rest .put3 .ensures)
 
 pub write-carried-spec : {M : Type 1} → statement M

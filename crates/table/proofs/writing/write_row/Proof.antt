@@ -16,7 +16,7 @@ returns c =
     let a = start .args in
     row-written (a .table .now) (a .at) (a .digest .now) (a .site) (a .sequence) (a .references) (a .requests .now)
     (search needs) (search needs) (start .fits .references .fits) _ _ _ _ _ _
-    (first .put .ensures) (second .put2 .ensures) (word .word-bytes .ensures) (third .put3 .ensures) (asked .put-requests .ensures) (fourth .put4 .ensures)
+    (first .put .ensures) (second .put2 .ensures) (word .low-first-bytes .ensures) (third .put3 .ensures) (asked .put-requests .ensures) (fourth .put4 .ensures)
 
 pub write-row-spec : {M : Type 1} → statement M
 write-row-spec =

@@ -9,13 +9,13 @@ use Rattle.base.proofs.Tests.{one-more}
 use Rattle.base.proofs.Search.{any-true, any-false}
 use Rattle.table.specs.Layout.{countOf, viewOf}
 use Rattle.table.specs.Steps.{Places}
-use Rattle.watch.specs.Forks.{repeatedAt, forkedIn}
+use Rattle.watch.specs.Forks.{sequenceRepeatedAt, forkedIn}
 use Rattle.watch.proofs.sites.forked.Statement.{statement}
 use Rattle.watch.proofs.sites.forked.Tie as tie
 
 abbrev Inv-loop : tie.InvT-loop
 Inv-loop table seen site k i₀ i =
-    (i ≤ k) × (k ≡ countOf table) × Places table (countOf table) × ((j : ℕ) → j < i → repeatedAt (viewOf table) (inMask seen) site j ≡ false)
+    (i ≤ k) × (k ≡ countOf table) × Places table (countOf table) × ((j : ℕ) → j < i → sequenceRepeatedAt (viewOf table) (inMask seen) site j ≡ false)
 
 abbrev μ-loop : tie.MeasureT-loop
 μ-loop table seen site k i₀ i = k - i
@@ -28,7 +28,7 @@ unfolding forkedIn
 returns c =
     let l = c .before .before .before .loop in
     let a = start (c .before .before .before) .args in
-    sym (any-true (repeatedAt (viewOf (a .table .now)) (inMask (a .seen)) (a .site)) (countOf (a .table .now)) (l .i) (omega arith)
+    sym (any-true (sequenceRepeatedAt (viewOf (a .table .now)) (inMask (a .seen)) (a .site)) (countOf (a .table .now)) (l .i) (omega arith)
     (sym (c .before .repeats .ensures) ∙ c .if1 .taken))
 
 loop-again : tie.Need-loop-again Inv-loop μ-loop
@@ -38,7 +38,7 @@ loop-again c =
       omega arith,
       search needs,
       search needs,
-      one-more (λ j. repeatedAt (viewOf (a .table .now)) (inMask (a .seen)) (a .site) j ≡ false) (l .i)
+      one-more (λ j. sequenceRepeatedAt (viewOf (a .table .now)) (inMask (a .seen)) (a .site) j ≡ false) (l .i)
           (sym (c .before .repeats .ensures) ∙ c .if1 .left) (l .inv .3),
     )
 
@@ -47,7 +47,7 @@ unfolding forkedIn
 returns-2 c =
     let l = c .before .loop in
     let a = start (c .before) .args in
-    sym (any-false (repeatedAt (viewOf (a .table .now)) (inMask (a .seen)) (a .site)) (countOf (a .table .now)) (λ j h. l .inv .3 j (omega arith)))
+    sym (any-false (sequenceRepeatedAt (viewOf (a .table .now)) (inMask (a .seen)) (a .site)) (countOf (a .table .now)) (λ j h. l .inv .3 j (omega arith)))
 
 pub forked-spec : {M : Type 1} → statement M
 forked-spec =

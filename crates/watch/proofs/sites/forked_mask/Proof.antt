@@ -15,15 +15,15 @@ use Rattle.base.proofs.Sets.{some-none}
 use Rattle.base.proofs.Prints.{group-mask, group-more}
 use Rattle.setup.specs.Setup.{maxSites}
 use Rattle.table.specs.Layout.{setupOf, countOf, siteAt, viewOf}
-use Rattle.watch.specs.Forks.{everywhere, repeatedAt, forkedIn}
-use Rattle.watch.specs.Steps.{Ready, sequencePrint, sequencePrintsMet}
+use Rattle.watch.specs.Forks.{everywhere, sequenceRepeatedAt, forkedIn}
+use Rattle.watch.specs.Steps.{Watchable, sequencePrint, sequencePrintsMet}
 use Rattle.watch.proofs.ForkPass.{print-lt, forkedBelow, forked-put, forked-skip}
 use Rattle.watch.proofs.sites.forked_mask.Statement.{statement}
 use Rattle.watch.proofs.sites.forked_mask.Tie as tie
 
 abbrev Inv-loop : tie.InvT-loop
 Inv-loop table k mask₀ ofSite₀ i₀ mask ofSite i =
-    (i ≤ k) × (k ≡ countOf table) × Ready table × (mask ≡ forkedBelow table (setupOf table .sites) i)
+    (i ≤ k) × (k ≡ countOf table) × Watchable table × (mask ≡ forkedBelow table (setupOf table .sites) i)
     × (ofSite ≡ groupsBelow (siteAt table) (sequencePrint table) maxSites i)
 
 abbrev μ-loop : tie.MeasureT-loop
@@ -31,7 +31,7 @@ abbrev μ-loop : tie.MeasureT-loop
 
 loop-holds : tie.Need-loop-holds Inv-loop μ-loop
 unfolding maskBelow listBelow anyBelow firstBelow
-loop-holds c = let t = c .before .before .args .table .now in (omega arith, c .count-of .ensures, search needs, some-none (repeatedAt (viewOf t) everywhere) (setupOf t .sites), refl)
+loop-holds c = let t = c .before .before .args .table .now in (omega arith, c .count-of .ensures, search needs, some-none (sequenceRepeatedAt (viewOf t) everywhere) (setupOf t .sites), refl)
 
 abbrev loop : tie.After-wide Inv-loop μ-loop → tie.At-loop Inv-loop μ-loop
 loop c = c .before .before .before

@@ -7,7 +7,7 @@ use borrow.Author.Needs.{needs}
 use borrow.Author.Tests.{not-true}
 use Rattle.base.specs.Mask.{inMask}
 use Rattle.table.specs.Layout.{viewOf}
-use Rattle.watch.specs.Forks.{everywhere, repeatedAt}
+use Rattle.watch.specs.Forks.{everywhere, sequenceRepeatedAt}
 use Rattle.watch.proofs.FullMask.{everywhere-mask}
 use Rattle.watch.proofs.ForkPass.{print-lt, new-sequence}
 use Rattle.watch.proofs.sites.is_fork.Statement.{statement}
@@ -28,8 +28,8 @@ returns-2 c =
     let s = start (met .before) in
     let v = viewOf (s .args .table .now) in
     c .repeats .ensures
-    ∙ ap (λ (seen : ℕ → Bool). repeatedAt v seen (c .before .site-at .result) (s .args .i)) everywhere-mask
-    ∙ ap (λ (site : ℕ). repeatedAt v everywhere site (s .args .i)) (c .before .site-at .ensures)
+    ∙ ap (λ (seen : ℕ → Bool). sequenceRepeatedAt v seen (c .before .site-at .result) (s .args .i)) everywhere-mask
+    ∙ ap (λ (site : ℕ). sequenceRepeatedAt v everywhere site (s .args .i)) (c .before .site-at .ensures)
 
 pub is-fork-spec : {M : Type 1} → statement M
 is-fork-spec =

@@ -7,23 +7,23 @@ use Prim.Native.Nat.{ℕ, suc, _+_, _-_, _*_, _^_, _≤_, _<_}
 use native.Mathlib.Omega.{arith}
 use lib.ListN.{length, getD, take, drop, length-drop, take-append-drop, drop-of-length-le}
 use lib.Seq.{drop-drop, drop-cons, length-take-le}
-use Rattle.base.specs.Bytes.{Bytes, AllBytes, partAt, joined}
+use Rattle.base.specs.Bytes.{Bytes, AllBytes, partAt, concat}
 use Rattle.base.specs.Mask.{maskBelow, inMask}
 use Rattle.base.specs.Number.{pair}
-use Rattle.base.specs.LowFirst.{wordSize, word, wordBytes}
+use Rattle.base.specs.LowFirst.{wordSize, lowFirst, lowFirstBytes}
 use Rattle.base.proofs.Bytes.{bytes-take, bytes-drop}
 use Rattle.base.proofs.List.{list-same}
 use Rattle.base.proofs.Sets.{mask-members}
-use Rattle.base.proofs.Parts.{part-and-rest, parts-list, joined-parts}
+use Rattle.base.proofs.Parts.{part-and-rest, parts-list, concat-parts}
 use Rattle.base.proofs.Number.{part-of-number}
-use Rattle.base.proofs.LowFirst.{word-below, bytes-of-word}
+use Rattle.base.proofs.LowFirst.{low-first-below, bytes-of-low-first}
 use Rattle.setup.specs.Setup.{slotCount}
 use Rattle.block.specs.Limits.{referenceSize}
 use Rattle.table.specs.View.{maxPlaces}
 use Rattle.table.specs.Layout.{siteOffset, sequenceOffset, referencesOffset, requestsOffset, markOffset, rowSize, rowStart}
 use Rattle.table.specs.Layout.{setupOf, rowAt, viewOf, rowBytes, layout}
 use Rattle.table.specs.Form.{inForm}
-use Rattle.table.proofs.InForm.{formed-of}
+use Rattle.table.proofs.InForm.{table-form}
 use Rattle.table.proofs.Canonical.{canonical-laid}
 use Rattle.table.proofs.RowBytes.{rowIn, rowPart, row-in, requestPair, requestPairs, referenceMask, requestsOn, afterDigest, row-bytes-same}
 
@@ -39,12 +39,12 @@ module _ (b : Bytes) (whole : length b ≡ rowSize) (all : AllBytes b) where
   references-bytes : AllBytes references
   references-bytes = bytes-take wordSize (drop referencesOffset b) (bytes-drop referencesOffset b all)
 
-  references-below : word references < 2 ^ maxPlaces
-  references-below = subst (λ (n : ℕ). word references < 2 ^ (8 * n)) references-length (word-below references references-bytes)
+  references-below : lowFirst references < 2 ^ maxPlaces
+  references-below = subst (λ (n : ℕ). lowFirst references < 2 ^ (8 * n)) references-length (low-first-below references references-bytes)
 
-  references-back : wordBytes wordSize (maskBelow (inMask (word references)) maxPlaces) ≡ references
+  references-back : lowFirstBytes wordSize (maskBelow (inMask (lowFirst references)) maxPlaces) ≡ references
   references-back =
-      ap₂ wordBytes (sym references-length) (mask-members maxPlaces (word references) references-below) ∙ bytes-of-word references references-bytes
+      ap₂ lowFirstBytes (sym references-length) (mask-members maxPlaces (lowFirst references) references-below) ∙ bytes-of-low-first references references-bytes
 
   -- the pair of a slot, from its number
   pair-back : (slot : ℕ) → slot < slotCount → pair (rowIn b .request slot) ≡ partAt 2 (drop requestsOffset b) slot
@@ -52,10 +52,10 @@ module _ (b : Bytes) (whole : length b ≡ rowSize) (all : AllBytes b) where
       part-of-number b (requestsOffset + 2 * slot) (omega arith) (all (requestsOffset + 2 * slot + 1))
       ∙ ap (take 2) (sym (drop-drop (2 * slot) requestsOffset b))
 
-  requests-back : joined (requestPairs (rowIn b)) ≡ take (2 * slotCount) (drop requestsOffset b)
+  requests-back : concat (requestPairs (rowIn b)) ≡ take (2 * slotCount) (drop requestsOffset b)
   requests-back =
-      ap joined (list-same (requestPair (rowIn b)) (partAt 2 (drop requestsOffset b)) slotCount pair-back ∙ sym (parts-list slotCount 2 (drop requestsOffset b)))
-      ∙ joined-parts slotCount 2 (drop requestsOffset b)
+      ap concat (list-same (requestPair (rowIn b)) (partAt 2 (drop requestsOffset b)) slotCount pair-back ∙ sym (parts-list slotCount 2 (drop requestsOffset b)))
+      ∙ concat-parts slotCount 2 (drop requestsOffset b)
 
   mark-back : rowIn b .mark ∷ [] ≡ drop markOffset b
   mark-back = sym (drop-cons b markOffset 0 (omega arith) ∙ ap (λ (x : Bytes). getD b markOffset 0 ∷ x) (drop-of-length-le b {i = rowSize} (omega arith)))
@@ -88,4 +88,4 @@ module _ (t : Bytes) (all : AllBytes t) where
       (bytes-take rowSize (drop (rowStart i) t) (bytes-drop (rowStart i) t all))
 
 pub laid : (t : Bytes) → AllBytes t → inForm t ≡ true → t ≡ layout (setupOf t) (viewOf t)
-laid t all e = let f = formed-of t e in canonical-laid t f (λ i h. row-laid t all i (omega (arith, f .size, f .held .fits)))
+laid t all e = let f = table-form t e in canonical-laid t f (λ i h. row-laid t all i (omega (arith, f .size, f .held .fits)))
