@@ -1,17 +1,7 @@
 // Admission with SHA-256: setups, the parent rule, and a table that fills up.
 use crate::line::Line;
-use answer::Answer;
+use crate::line::show_answer;
 use setup::SLOTS;
-
-fn show_answer(name: &[u8], answer: Answer) {
-    Line::new()
-        .text(name)
-        .text(b": refusal ")
-        .number(base::wide(answer.refusal))
-        .text(b" value ")
-        .number(answer.value)
-        .show();
-}
 
 fn show_admitted(table: &mut [u8], name: &[u8], block: &[u8], verdict: u8) {
     show_answer(name, admission::admit(table, block, verdict));

@@ -1,6 +1,6 @@
 // Campaigns in which sites build their own blocks, what the watch says of them, and what building refuses.
 use crate::campaigns::show;
-use crate::campaigns::show_answer;
+use crate::line::show_answer;
 use block::MAX_REQUEST_LIST_SIZE;
 use setup::SLOTS;
 

@@ -1,7 +1,7 @@
 // Campaigns written down as text, run through the calls with SHA-256: what each call is answered, and what each block makes in slot 0.
 use crate::line::Line;
+use crate::line::show_answer;
 use crate::watching;
-use answer::Answer;
 use block::HEADER_SIZE;
 use block::MAX_BLOCK_SIZE;
 use block::MAX_REFERENCES;
@@ -26,9 +26,6 @@ const ARRIVES: u8 = b'a';
 // The block is admitted, and not interpreted.
 const ADMITTED: u8 = b'd';
 
-// The place whose number stands for the site is interpreted.
-const INTERPRETED: u8 = b'i';
-
 // The watch is asked for the ancestors of the place whose number stands for the site.
 const ASKED: u8 = b'p';
 
@@ -37,9 +34,6 @@ const WATCHED: u8 = b'f';
 
 // The site builds its next block with these requests, and the block arrives where it was built.
 const BUILT: u8 = b'b';
-
-// Place 0 is retired.
-const RETIRED: u8 = b'r';
 
 fn digit(character: u8) -> u8 {
     if character < b'0' {
@@ -158,18 +152,8 @@ pub fn wide(x: u16) -> usize {
     x as usize
 }
 
-pub fn show_answer(call: &[u8], answer: Answer) {
-    Line::new()
-        .text(call)
-        .text(b": refusal ")
-        .number(base::wide(answer.refusal))
-        .text(b" value ")
-        .number(answer.value)
-        .show();
-}
-
 // What the block at a place made in slot 0.
-pub fn show_made(place: usize, records: &[u16]) {
+fn show_made(place: usize, records: &[u16]) {
     if records.len() != BUFFER_SIZE {
         return;
     }
@@ -335,10 +319,6 @@ fn take_step(
     if entry.len() < ENTRY_SIZE {
         return named;
     }
-    if entry[0] == INTERPRETED {
-        show_interpreted(table, records, base::wide(digit(entry[1])));
-        return named;
-    }
     if entry[0] == ASKED {
         watching::show_ancestors(table, base::wide(digit(entry[1])));
         return named;
@@ -349,10 +329,6 @@ fn take_step(
     }
     if entry[0] == BUILT {
         build(table, records, entry);
-        return named;
-    }
-    if entry[0] == RETIRED {
-        show_answer(b"retire", retire::retire(table, records));
         return named;
     }
     bring(table, records, digests, named, entry[0], entry);
@@ -368,17 +344,12 @@ fn run(table: &mut [u8], records: &mut [u16], digests: &mut [u8], campaign: &[u8
     }
 }
 
-// Runs a campaign on a table and its records.
-pub fn run_on(table: &mut [u8], records: &mut [u16], campaign: &[u8]) {
-    let mut digests = [0u8; DIGESTS_SIZE];
-    run(table, records, &mut digests, campaign);
-}
-
 // Runs a campaign of n sites in which site 0 owns every slot.
 pub fn show(name: &[u8], sites: u8, campaign: &[u8]) {
     Line::new().text(name).show();
     let fresh = table::fresh(sites, [0; SLOTS]);
     let mut table = fresh.table;
     let mut records = [0u16; BUFFER_SIZE];
-    run_on(&mut table, &mut records, campaign);
+    let mut digests = [0u8; DIGESTS_SIZE];
+    run(&mut table, &mut records, &mut digests, campaign);
 }

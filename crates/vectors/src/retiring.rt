@@ -1,171 +1,10 @@
-// Retiring with SHA-256: what it answers and leaves, what calls answer afterwards, building at the last sequence number, and a campaign of 240
-// blocks that goes on by it.
-use crate::campaigns::run_on;
-use crate::campaigns::show;
-use crate::campaigns::show_made;
+// A campaign of 240 blocks that goes on by retiring, with SHA-256.
 use crate::campaigns::wide;
 use crate::line::Line;
 use block::MAX_BLOCK_SIZE;
 use records::BUFFER_SIZE;
 use setup::SLOTS;
 use table::MAX_PLACES;
-use table::TABLE_SIZE;
-
-// How many bytes stand before the rows, and how many a row has: bytes are shown and set here by the written layout's numbers, not by the table's own.
-const FRONT_SIZE: usize = 11;
-
-const ROW_SIZE: usize = 60;
-
-// Runs a campaign as `show` does, with a record buffer of one number too few.
-fn show_short(name: &[u8], sites: u8, campaign: &[u8]) {
-    Line::new().text(name).show();
-    let fresh = table::fresh(sites, [0; SLOTS]);
-    let mut table = fresh.table;
-    let mut records = [0u16; BUFFER_SIZE - 1];
-    run_on(&mut table, &mut records, campaign);
-}
-
-// No table of three sites is in form. Of four sites place 0 is not there at first, and then it is not interpreted.
-fn show_order() {
-    show_short(b"n 3, retiring with 20479 numbers", 3, b"r00..0");
-    show(b"n 3, retiring with 20480 numbers", 3, b"r00..0");
-    show_short(
-        b"n 4, retiring with 20479 numbers",
-        4,
-        b"r00..0 d00*.0 r00..0",
-    );
-    show(
-        b"n 4, retiring with 20480 numbers",
-        4,
-        b"r00..0 d00*.0 r00..0",
-    );
-}
-
-// Block 2 is after the fork, block 1; both are interpreted before place 0 is.
-fn show_not_interpreted() {
-    show(
-        b"n 4, place 0 is not interpreted, and then it is",
-        4,
-        b"d00*.0 d00+.0 i10..0 d01..11 i20..0 r00..0 i00..0 r00..0",
-    );
-}
-
-// Block 2 of site 2 refers to place 0.
-fn show_referrer() {
-    show(
-        b"n 4, a block that refers to place 0 is not interpreted, and then it is",
-        4,
-        b"a00*.0 a01..10 d20..10 r00..0 i20..0 r00..0",
-    );
-}
-
-// Site 0 has no later block; site 1 has; site 0 has another of the same sequence number; it has a later one; that one is interpreted.
-fn show_no_later() {
-    show(
-        b"n 4, no later block of the same site, and then there is",
-        4,
-        b"a00*.0 r00..0 a10..0 a11..11 r00..0 a00+.0 r00..0 d01..13 r00..0 i40..0 r00..0",
-    );
-}
-
-// Block 1, held, is brought again; a block of site 1 refers to the retired one, which is then admitted again and interpreted. Place 0 does not
-// refer to it again, place 2 does.
-fn show_afterwards() {
-    show(
-        b"n 4, a retired block is referred to, and admitted again",
-        4,
-        b"a00*.0 a01..10 r00..0 d01..10 d10..10 d00*.0 d10..10 i20..0 i10..0 i20..0 p00..0 p20..0",
-    );
-}
-
-// Blocks 0 and 1 are a fork of site 0.
-fn show_fork_retired() {
-    show(
-        b"n 4, a block of a fork is retired",
-        4,
-        b"a00+.0 a00*.0 a01..10 f00..0 b00..0 r00..0 f00..0 b00..0",
-    );
-}
-
-// All bytes of a row.
-fn show_row(table: &[u8], place: usize) {
-    if table.len() != TABLE_SIZE {
-        return;
-    }
-    if MAX_PLACES <= place {
-        return;
-    }
-    let at = FRONT_SIZE + ROW_SIZE * place;
-    Line::new()
-        .text(b"row ")
-        .number(place)
-        .text(b" ")
-        .hexadecimal(&table[at..at + ROW_SIZE])
-        .show();
-}
-
-// The bytes before the rows: n, the owners, whether something has been retired, and the count.
-fn show_front(table: &[u8]) {
-    if table.len() != TABLE_SIZE {
-        return;
-    }
-    Line::new()
-        .text(b"table ")
-        .hexadecimal(&table[0..FRONT_SIZE])
-        .show();
-}
-
-fn show_table(table: &[u8]) {
-    show_front(table);
-    show_row(table, 0);
-    show_row(table, 1);
-    show_row(table, 2);
-    show_row(table, 3);
-}
-
-fn show_parts(records: &[u16]) {
-    show_made(0, records);
-    show_made(1, records);
-    show_made(2, records);
-    show_made(3, records);
-}
-
-// Blocks 1 and 2 refer to block 0, and block 3, which requests 43 in slot 1 and is not interpreted, to those two. Where nothing was written
-// the buffer has 7. The second retiring is refused and changes nothing.
-fn show_left() {
-    Line::new().text(b"n 4, what is left").show();
-    let fresh = table::fresh(4, [0; SLOTS]);
-    let mut table = fresh.table;
-    let mut records = [7u16; BUFFER_SIZE];
-    run_on(
-        &mut table,
-        &mut records,
-        b"a00*.0 a01..10 a20..10 d02.+212 r00..0 r00..0",
-    );
-    show_table(&table);
-    show_parts(&records);
-}
-
-// A table of n 4 and owner 0 that has retired something and holds one block, which is interpreted: site 0's of sequence number 65,534. Any 32
-// bytes may stand as its digest, here zeros. Set are n, byte 9, the count, and of the row its sequence number and its last byte.
-fn late_table() -> [u8; TABLE_SIZE] {
-    let mut table = [0u8; TABLE_SIZE];
-    table[0] = 4;
-    table[9] = 1;
-    table[10] = 1;
-    table[FRONT_SIZE + 33] = 255;
-    table[FRONT_SIZE + 34] = 254;
-    table[FRONT_SIZE + 59] = 1;
-    table
-}
-
-// Site 0 builds its last block, and then none; site 1 builds its first.
-fn show_last_sequence() {
-    Line::new().text(b"n 4, the last sequence number").show();
-    let mut table = late_table();
-    let mut records = [0u16; BUFFER_SIZE];
-    run_on(&mut table, &mut records, b"b00..0 b00..0 b10..0");
-}
 
 // Retires as long as place 0 can be retired; how many retirings passed.
 fn retire_all(table: &mut [u8], records: &mut [u16]) -> usize {
@@ -267,7 +106,7 @@ fn run_campaign(table: &mut [u8], records: &mut [u16]) {
 }
 
 // The 7 at place 59 is of its own block: no block that stood there before a retiring had it.
-fn show_going_on() {
+pub fn show_all() {
     Line::new().text(b"n 4, 60 rounds").show();
     let fresh = table::fresh(4, [0, 1, 2, 3, 0, 1, 2, 3]);
     let mut table = fresh.table;
@@ -278,20 +117,4 @@ fn show_going_on() {
     let last = records::record_in(&records, 59, 7).sent;
     show_number(b"place 59 has in slot 0: ", wide(first.delivered));
     show_number(b"place 59 has in slot 7: ", wide(last.delivered));
-}
-
-fn show_refusals() {
-    show_order();
-    show_not_interpreted();
-    show_referrer();
-    show_no_later();
-}
-
-pub fn show_all() {
-    show_refusals();
-    show_left();
-    show_afterwards();
-    show_fork_retired();
-    show_last_sequence();
-    show_going_on();
 }

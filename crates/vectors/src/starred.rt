@@ -1,7 +1,7 @@
 // The starred cases of document 01's "Small skies to try", with SHA-256: what each block makes in slot 0, and what an interpretation of the
 // empty table is answered. The starred case of a parent that is missing stands with the admissions.
 use crate::campaigns::show;
-use crate::campaigns::show_answer;
+use crate::line::show_answer;
 use records::BUFFER_SIZE;
 use setup::SLOTS;
 
