@@ -1,14 +1,14 @@
--- Numbers of any count of bytes, the low byte first. Assumes nothing.
+-- A number as any count of bytes, the low byte first. Assumes nothing.
 use mathlib.Core.List.{[], _∷_}
 use Prim.Native.Nat.{ℕ, zero, suc, _+_, _*_, _/_, _%_}
 use lib.ListN.{take, drop}
 use Rattle.base.specs.Bytes.{Bytes}
 
--- the bytes of a 64-bit number
+-- how many bytes a 64-bit number has
 abbrev pub wordSize : ℕ
 wordSize = 8
 
--- the number of the bytes
+-- the number that the bytes stand for
 unfoldable pub word : Bytes → ℕ
 word [] = 0
 word (x ∷ b) = x + 256 * word b
@@ -17,7 +17,7 @@ word (x ∷ b) = x + 256 * word b
 abbrev pub wordAt : Bytes → ℕ → ℕ
 wordAt b at = word (take wordSize (drop at b))
 
--- the k bytes of a number
+-- the lowest k bytes of a number
 unfoldable pub wordBytes : ℕ → ℕ → Bytes
 wordBytes zero x = []
 wordBytes (suc k) x = x % 256 ∷ wordBytes k (x / 256)
