@@ -1,5 +1,5 @@
--- What a listing shows, and the theorem of two sites: two listings of one setup never show two numbers for one slot while at most f sites
--- forked, told first by what is shown and then by the lines of their texts; proofs/Agreed.antt shows it.
+-- What the theorem of two sites says of two listings: two listings of one setup never show two numbers for one slot while at most f sites forked. It
+-- is told first of the deliveries that are shown, and then of the lines of the texts; proofs/Agreed.antt shows it.
 use mathlib.Core.Path.{_≡_}
 use mathlib.Core.Bool.{true}
 use mathlib.Core.List.{List, _++_, List·Memᴰ}
