@@ -1,5 +1,5 @@
-// Retiring with SHA-256: what it answers and leaves, what calls answer afterwards, building at the last sequence number, and a campaign of 240
-// blocks that goes on by it.
+// Retiring with SHA-256: what it answers and leaves, what calls answer afterwards, building at the last sequence number, and a campaign of 240 blocks
+// that goes on by retiring. campaigns.rt says how a campaign is written.
 use crate::campaigns::run_on;
 use crate::campaigns::show;
 use crate::campaigns::show_made;
@@ -11,7 +11,7 @@ use setup::SLOTS;
 use table::MAX_PLACES;
 use table::TABLE_SIZE;
 
-// How many bytes stand before the rows, and how many a row has: bytes are shown and set here by the written layout's numbers, not by the table's own.
+// How many bytes stand before the rows of a table, and how many a row has. The numbers are those of docs/FORMATS.md, and not taken from crates/table.
 const FRONT_SIZE: usize = 11;
 
 const ROW_SIZE: usize = 60;
@@ -25,7 +25,8 @@ fn show_short(name: &[u8], sites: u8, campaign: &[u8]) {
     run_on(&mut table, &mut records, campaign);
 }
 
-// No table of three sites is in form. Of four sites place 0 is not there at first, and then it is not interpreted.
+// The order of the checks. A table of three sites is not in form. In a table of four sites no block is held at first, and then place 0 is not
+// interpreted.
 fn show_order() {
     show_short(b"n 3, retiring with 20479 numbers", 3, b"r00..0");
     show(b"n 3, retiring with 20480 numbers", 3, b"r00..0");
@@ -41,7 +42,7 @@ fn show_order() {
     );
 }
 
-// Block 2 is after the fork, block 1; both are interpreted before place 0 is.
+// Block 1 forks with block 0, and block 2 follows block 1; both are interpreted before block 0 is.
 fn show_not_interpreted() {
     show(
         b"n 4, place 0 is not interpreted, and then it is",
@@ -59,7 +60,7 @@ fn show_referrer() {
     );
 }
 
-// Site 0 has no later block; site 1 has; site 0 has another of the same sequence number; it has a later one; that one is interpreted.
+// Site 0 has no later block; only site 1 has; site 0 has another block of the same sequence number; it has a later block; that block is interpreted.
 fn show_no_later() {
     show(
         b"n 4, no later block of the same site, and then there is",
@@ -68,8 +69,8 @@ fn show_no_later() {
     );
 }
 
-// Block 1, held, is brought again; a block of site 1 refers to the retired one, which is then admitted again and interpreted. Place 0 does not
-// refer to it again, place 2 does.
+// After block 0 is retired, block 1, which is held, comes again; a block of site 1 refers to block 0 and is refused; then block 0 is admitted again
+// and interpreted. Block 1, at place 0, does not refer to it again; site 1's block, at place 2, does.
 fn show_afterwards() {
     show(
         b"n 4, a retired block is referred to, and admitted again",
@@ -78,7 +79,7 @@ fn show_afterwards() {
     );
 }
 
-// Blocks 0 and 1 are a fork of site 0.
+// Blocks 0 and 1 are a fork of site 0, which the watch names until block 0 is retired.
 fn show_fork_retired() {
     show(
         b"n 4, a block of a fork is retired",
@@ -130,8 +131,8 @@ fn show_parts(records: &[u16]) {
     show_made(3, records);
 }
 
-// Blocks 1 and 2 refer to block 0, and block 3, which requests 43 in slot 1 and is not interpreted, to those two. Where nothing was written
-// the buffer has 7. The second retiring is refused and changes nothing.
+// Blocks 1 and 2 refer to block 0, and block 3, which requests 43 in slot 1 and is not interpreted, to blocks 1 and 2. Where nothing was written the
+// buffer has 7. The second retiring is refused and changes nothing.
 fn show_left() {
     Line::new().text(b"n 4, what is left").show();
     let fresh = table::fresh(4, [0; SLOTS]);
@@ -159,7 +160,7 @@ fn late_table() -> [u8; TABLE_SIZE] {
     table
 }
 
-// Site 0 builds its last block, and then none; site 1 builds its first.
+// Site 0 builds its last block, and then is refused with 30; site 1 builds its first.
 fn show_last_sequence() {
     Line::new().text(b"n 4, the last sequence number").show();
     let mut table = late_table();
@@ -167,7 +168,7 @@ fn show_last_sequence() {
     run_on(&mut table, &mut records, b"b00..0 b00..0 b10..0");
 }
 
-// Retires as long as place 0 can be retired; how many retirings passed.
+// Retires as long as place 0 can be retired, and answers how many blocks were retired.
 fn retire_all(table: &mut [u8], records: &mut [u16]) -> usize {
     let mut passed = 0;
     while passed < MAX_PLACES {
@@ -184,7 +185,8 @@ fn show_number(name: &[u8], number: usize) {
     Line::new().text(name).number(number).show();
 }
 
-// Admits a block, and where the table is full retires before that; its place. A refusal would show in the numbers at the end.
+// Admits a block, where the table is full after retiring all that can be retired, and answers with its place. A refusal would show in the numbers at
+// the end.
 fn admit(table: &mut [u8], records: &mut [u16], block: &[u8]) -> usize {
     let answer = admission::admit(table, block, 1);
     if answer.refusal != 11 {
@@ -208,7 +210,7 @@ fn made_delivery(place: usize, slot: usize, records: &[u16]) -> u16 {
     records::delivered_in(records, place, slot)
 }
 
-// What the block at a place delivers in a slot, if anything.
+// Shows what the block at a place delivers in a slot, if anything.
 fn show_delivery(place: usize, slot: usize, records: &[u16]) {
     let delivery = made_delivery(place, slot, records);
     if delivery == 0 {
@@ -240,14 +242,14 @@ fn bring_front(table: &mut [u8], records: &mut [u16], room: &[u8], length: usize
     bring(table, records, &room[0..length]);
 }
 
-// Four sites build in turn, each by the rule from the one table.
+// One turn of a campaign in which four sites build in turn from one table: the site of this turn builds a block, which is brought to that table.
 fn take_turn(table: &mut [u8], records: &mut [u16], turn: usize, requests: &[u8]) {
     let mut room = [0u8; MAX_BLOCK_SIZE];
     let answer = build::build(table, (turn % 4) as u8, requests, &mut room);
     bring_front(table, records, &room, answer.value);
 }
 
-// The turns from one on up to another, of which the last has requests.
+// All turns from `from` to `last`; only the last has requests.
 fn take_turns(table: &mut [u8], records: &mut [u16], from: usize, last: usize, requests: &[u8]) {
     let mut turn = from;
     while turn < last {
@@ -257,8 +259,8 @@ fn take_turns(table: &mut [u8], records: &mut [u16], from: usize, last: usize, r
     take_turn(table, records, turn, requests);
 }
 
-// 60 rounds. Site 0 requests 42 in round 0, site 1 requests 1610 in round 40, and site 3 requests 7 in round 45, by a block with which the
-// table is full: the number is delivered after a retiring.
+// A campaign of 60 rounds. Site 0 requests 42 in round 0, site 1 requests 1610 in round 40, and site 3 requests 7 in round 45, by a block with which
+// the table is full: its number is delivered after a retiring.
 fn run_campaign(table: &mut [u8], records: &mut [u16]) {
     take_turns(table, records, 0, 0, &[0, 0, 42]);
     take_turns(table, records, 1, 161, &[5, 6, 74]);
@@ -266,7 +268,8 @@ fn run_campaign(table: &mut [u8], records: &mut [u16]) {
     take_turns(table, records, 184, 239, &[]);
 }
 
-// The 7 at place 59 is of its own block: no block that stood there before a retiring had it.
+// Shows that campaign, and what is delivered at place 59 after it. The 7 is the work of the block that stands there: no block that stood at place 59
+// before a retiring had it.
 fn show_going_on() {
     Line::new().text(b"n 4, 60 rounds").show();
     let fresh = table::fresh(4, [0, 1, 2, 3, 0, 1, 2, 3]);
