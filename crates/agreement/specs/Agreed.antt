@@ -28,7 +28,7 @@ module _ (s : Setup) (buffer₁ buffer₂ : List ℕ) (arrivals₁ arrivals₂ :
       ++ ledgerOf sha256 s buffer₂ (callsOf (started s buffer₂) arrivals₂) .blocks
 
   pub record Agreed : Type 0 where
-    -- every block that is admitted is interpreted, so no line needs 12 to 15
+    -- no interpretation is refused where the record buffer has the right length, so no line of the listing has refusal 12 to 15
     pub settled : length buffer₁ ≡ bufferSize → Settled (started s buffer₁) arrivals₁
     -- where at most f sites forked, the lines of the two listings have one number for a slot
     pub oneNumber : NoCollision sha256 blocks → countBelow (forked blocks) (s .sites) ≤ faults (s .sites)
