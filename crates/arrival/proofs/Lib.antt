@@ -1,6 +1,6 @@
--- The promise of arrival, from the ground up: chains of blocks; the one number of a slot whose owner has not forked; what a full site hears;
--- ECHO, READY and delivery; every list of calls. Then full sites: what the building rule gives a list of blocks, that building keeps to it,
--- and every list of calls.
+-- The promise of arrival, from the ground up: chains of blocks; the one number of a slot whose owner has not forked; what a full site hears; ECHO,
+-- READY and delivery; the promise for every list of calls. Then full sites: what the building rule gives a list of blocks, that building keeps to the
+-- rule, and full sites for every list of calls.
 pub mod Chains
 pub mod Numbers
 pub mod Hearing

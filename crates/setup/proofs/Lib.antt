@@ -1,2 +1,2 @@
--- All that proofs use of the setup.
+-- The laws of a setup's numbers, which are all that other proofs use of them.
 pub mod Thresholds

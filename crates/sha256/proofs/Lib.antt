@@ -1,4 +1,4 @@
--- What the definition is held against, and what the proof of `digest` is made of.
+-- What the definition of SHA-256 is held against, and what the proof of `digest` is made of.
 mod Hashing
 mod Padded
 pub mod Promises
