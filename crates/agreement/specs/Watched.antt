@@ -30,6 +30,7 @@ module _ (digest : Bytes → Bytes) where
     -- that have
     pub namedForked : (p : ℕ) → inMask (forks (x .table) .sites) p ≡ true → forked (l .blocks) p ≡ true
     pub forkedSites : l .retired ≡ [] → (p : ℕ) → inMask (forks (x .table) .sites) p ≡ forked (l .blocks) p
-    -- each place that the watch names holds an ancestor, in the ledger, of the block at place i; where nothing was retired, it names all of them
+    -- each place that the watch names holds an ancestor, in the ledger, of the block at place i; where nothing was retired, it names a place of each
+    -- ancestor
     pub namedAncestor : (i : ℕ) → i < l .held → (b : Bytes) → NamedAncestor l x i b → AncestorIn digest (l .blocks) b (l .block i)
     pub ancestorPlaces : l .retired ≡ [] → (i : ℕ) → i < l .held → (b : Bytes) → NamedAncestor l x i b ↔ AncestorIn digest (l .blocks) b (l .block i)

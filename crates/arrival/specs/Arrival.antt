@@ -53,7 +53,7 @@ module _ (digest : Bytes → Bytes) where
   entryIn s blocks slot b k = getD (meaning s (historyOf digest blocks b)) (recordSize * slot + k) 0
 
   module _ (s : Setup) (blocks : List Bytes) (slot v : ℕ) where
-    -- the premises of the promise, with `last` as the block that is above all others
+    -- the premises of the promise, with `last` as the block above the second block of each site of the set
     pub record Premises (last : Bytes) : Type 0 where
       -- "Let at least n - f sites be full, the owner among them": the set below has n - f full sites
       pub ownerFull : Full digest blocks (ownerOf s slot)

@@ -29,7 +29,7 @@ greatestBelow f zero = 0
 greatestBelow f (suc k) = max (f k) (greatestBelow f k)
 
 module _ (seen : ℕ → Bool) (v : View) (p : ℕ) where
-  -- one more than the sequence number of the block at place i, 0 if that is not a block of the site that is looked at
+  -- one more than the sequence number of the block at place i; 0 if place i is not looked at or holds a block of another site
   abbrev pub sequenceAfter : ℕ → ℕ
   sequenceAfter i = cond (ofSite v seen p i) (v .row i .sequence + 1) 0
 

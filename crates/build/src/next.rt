@@ -7,7 +7,7 @@ ghost use Rattle.table.specs.Layout.{countOf, viewOf};
 ghost use Rattle.build.specs.Building.{sequenceAfter, nextSequence};
 ghost use Rattle.build.specs.Steps.{Ready};
 
-// One more than the sequence number of the block at place i; 0 if that is not a block of the site that is looked at.
+// One more than the sequence number of the block at place i; 0 if place i is not looked at or holds a block of another site.
 fn sequence_after(table: &[u8], seen: u64, site: u8, i: usize) -> u32
     requires { ⌜ Ready (now table) seen site × (i < countOf (now table)) ⌝ }
     ensures { λ r. ⌜ r ≡ sequenceAfter (inMask seen) (viewOf (now (table .entry))) site i ⌝ }

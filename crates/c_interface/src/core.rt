@@ -1,4 +1,4 @@
-// The core, for C programs that keep a campaign. Each call is the function of the same name in its crate, with that function's contract.
+// The core, for C programs that keep a campaign. Each call is the one function that its body calls, with the same contract.
 use answer::Answer;
 use campaigns::Arrival;
 use watch::AncestorPlaces;

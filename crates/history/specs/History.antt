@@ -12,7 +12,7 @@ use Rattle.records.specs.Layout.{numbersOf}
 use Rattle.interpret.specs.Slot.{Direct, interpretSlot}
 
 infixr 20 _and_
--- a block, and the histories of the blocks that it refers to, in its order
+-- a block, and the histories of the blocks that it refers to, in the order of its references
 mutual
   pub data History : Type 0 where
     node : Bytes → Histories → History

@@ -42,7 +42,7 @@ pub record Causes (t : Bytes) (buffer : List ℕ) (i : ℕ) : Type 0 where
   pub none : (interpretation t buffer i .refusal ≡ 0) ↔ (Open t buffer i × (((j : ℕ) × Unready t i j) → ⊥))
   -- "lowest such place"
   pub lowest : interpretation t buffer i .refusal ≡ 15 → First (Unready t i) (interpretation t buffer i .value)
-  -- beside any other number the value is 0
+  -- beside any number but 15 the value is 0
   pub noValue : interpretation t buffer i .refusal ≢ 15 → interpretation t buffer i .value ≡ 0
 
 pub record Promises : Type 0 where

@@ -30,7 +30,7 @@ pub record Ready (t : Bytes) (i : ℕ) (buffer : List ℕ) : Type 0 where
   pub sites : (j : ℕ) → j < i → siteAt t j < maxSites
   pub fewReferences : countBelow (rowAt t i .refersTo) maxPlaces ≤ maxReferences
 
--- the places below i that place i refers to, lower ones first
+-- the places below i that place i refers to, lower places first
 abbrev pub referredBy : Bytes → ℕ → List ℕ
 referredBy t i = passing (rowAt t i .refersTo) i
 

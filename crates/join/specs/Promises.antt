@@ -97,7 +97,8 @@ pub record Shape (left right t : Bytes) : Type 0 where
   pub firstRefers : (p q : ℕ) → p < countOf left → q < maxPlaces → rowAt t p .refersTo q ≡ rowAt left p .refersTo q
   -- "then the right's blocks not in the left, in their order"
   pub behind : (j : ℕ) → j < countOf right → isExtra (viewOf left) (viewOf right) j ≡ true → SameFields t (placeBehind left right j) right j
-  -- "references renumbered": such a block refers to a place of the result exactly if it refers, in the right, to the block that stands there
+  -- "references renumbered": such a block of the right refers to a place of the result exactly if it refers, in the right, to the block that stands
+  -- at that place
   pub behindRefers : (j q : ℕ) → j < countOf right → isExtra (viewOf left) (viewOf right) j ≡ true → q < countOf t
       → rowAt t (placeBehind left right j) .refersTo q ≡ refersBy (viewOf right) j (digestAt t q)
   -- "A block interpreted in either is interpreted in the result", and no other is
@@ -110,7 +111,7 @@ pub record Copies (left right : Bytes) (leftRecords rightRecords third : List �
   -- an interpreted place has the part that was handed back for its block
   pub handed : (p : ℕ) → p < countOf t → interpreted (rowAt t p) ≡ true
       → partOf b p ≡ partFor (viewOf left) (viewOf right) leftRecords rightRecords (digestAt t p)
-  -- "whose rest stays": the part of every other place
+  -- "whose rest stays": the part of a place stays that is not interpreted, or where no block is held
   pub rest : (p : ℕ) → p < maxPlaces → (p < countOf t → interpreted (rowAt t p) ≡ false) → partOf b p ≡ partOf third p
 
 -- ---- a call

@@ -85,7 +85,7 @@ pub fn put_part(records: &mut [u16], place: usize, part: &[u16])
     numbers::put(records, PART_SIZE * place, part);
 }
 
-// Moves the parts of the places from 1 up to the count each one place lower; all numbers from the last of these places on stay.
+// Moves the parts of the places 1 to count - 1 each one place lower; all numbers from place count - 1 on stay.
 pub fn move_parts(records: &mut [u16], count: usize)
     requires { ⌜ (length (now records) ≡ bufferSize) × (0 < count) × (count ≤ maxPlaces) ⌝ }
     ensures { λ _. ⌜ now (records .exit) ≡ movedParts (now (records .entry)) count ⌝ }

@@ -113,7 +113,7 @@ module _ (digest : Bytes → Bytes) where
 
   -- ---- the lines of several steps, joined
 
-  -- the lines of n steps on an input, from a state and a site on
+  -- the lines of so many steps on an input, from the state s and the site x on
   unfoldable pub run : ℕ → State → Site → Bytes → Bytes
   run zero s x input = []
   run (suc turns) s x input =

@@ -46,7 +46,8 @@ pub fn quiet(expected: Expected, arrivals: u64) -> Stepped
     stepped(expected, arrivals, text::none())
 }
 
-// The step on a setup: makes the table the empty one of the setup and writes the line of names, or writes the refusal too and is at the end.
+// The step on a setup: makes the table the empty table of the setup, and writes the line of names; or writes the refusal's line too and ends the
+// listing.
 pub fn setup_step(table: &mut [u8], piece: &[u8]) -> Stepped
     ensures { λ r. ⌜ r ≡ handed (setupStep (now (table .entry)) (now (piece .entry))) ⌝ }
     ensures { λ _. ⌜ now (table .exit) ≡ freshIn (setupIn (now (piece .entry))) (now (table .entry)) ⌝ }

@@ -1,4 +1,4 @@
-// Whether place 0 of a table may be retired, or stays for one of three reasons: refusal 29.
+// Check 29: whether place 0 of a table may be retired.
 use table::rows;
 ghost use mathlib.Core.Path.{_≡_};
 ghost use Prim.Native.Nat.{_<_};

@@ -13,7 +13,7 @@ ghost use Rattle.table.specs.Layout.{rowsOffset, tableSize};
 ghost use Rattle.table.specs.Writing.{movedBytes, movedRows, moveDown};
 ghost use Rattle.table.specs.Steps.{Place, LastPlace};
 
-// The bytes that the row of place i has one place lower. Its references move down by one too, and one to place 0 vanishes.
+// The bytes that the row of place i has one place lower. Its references move down by one too, and a reference to place 0 vanishes.
 fn moved_bytes(table: &[u8], i: usize) -> [u8; ROW_SIZE]
     requires { ⌜ Place (now table) i ⌝ }
     ensures { λ r. ⌜ r ≡ movedBytes (now (table .entry)) i ⌝ }

@@ -31,7 +31,7 @@ pub record Causes (t : Bytes) : Type 0 where
 
 -- ---- admissions undone by takings back
 
--- k takings back, one after the other, all succeed and lead from the table t to the table t′, which is equal in every byte
+-- k takings back, one after the other, all succeed and lead from the table t to a table that equals t′ in every byte
 unfoldable pub UndoneBy : ℕ → Bytes → Bytes → Type 0
 UndoneBy zero t t′ = t ≡ t′
 UndoneBy (suc k) t t′ = (takingBack t ≡ success 0) × UndoneBy k (takenBack t) t′

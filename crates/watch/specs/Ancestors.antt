@@ -21,7 +21,7 @@ module _ (v : View) where
   reached zero i a = false
   reached (suc k) i a = v .row i .refersTo a || anyBelow (λ c. v .row i .refersTo c && reached k c a) (v .held)
 
-  -- place a is an ancestor of place i: as many references as places are held reach every ancestor
+  -- place a is an ancestor of place i. Every ancestor is reached by at most as many references as blocks are held
   abbrev pub isAncestor : ℕ → ℕ → Bool
   isAncestor i a = reached (v .held) i a
 
