@@ -1,5 +1,5 @@
--- Each refusal of a block comes under its cause and under no other, with the value that document 01 names, and there is none where every check
--- holds. Assumes nothing.
+-- Each refusal of admission comes under its cause and under no other, with the value that document 01 names, and a block is admitted where every
+-- check holds. Assumes nothing.
 use mathlib.Core.Path.{_≡_, refl, sym, ap, _∙_, subst}
 use mathlib.Core.Bool.{Bool, true, false}
 use mathlib.Core.Logic.{_↔_, _⊎_, inl, inr, Iff·rfl, Iff·trans, Iff·and}

@@ -1,5 +1,5 @@
--- An admitted block stands at the next place, and its row shows what its bytes say; and a table in form is in form after a call, for its
--- row is in form. A refusal leaves the table. Assumes nothing.
+-- An admitted block stands at the next place, and its row shows what its bytes say; and a table in form is in form after an admission, since the row
+-- that is put is in form. A refusal leaves the table. Assumes nothing.
 use mathlib.Core.Path.{_≡_, sym, ap, _∙_}
 use mathlib.Core.Bool.{Bool, true, false, _&&_}
 use mathlib.Core.Logic.{_≢_}

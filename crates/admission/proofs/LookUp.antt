@@ -1,5 +1,5 @@
--- The mask of the places that the first references of a list name, and the first of these that is missing, one reference after the other. In a
--- table in form a reference has one place at most. Assumes nothing.
+-- The turns of the loop that looks up the references of a list: the mask of the places that hold the references passed, and the first of these
+-- references that is missing. In a table in form a reference has one place at most. Assumes nothing.
 use mathlib.Core.Path.{_≡_, sym, ap, _∙_}
 use mathlib.Core.Bool.{Bool, true, false, not}
 use Prim.Native.Nat.{ℕ, _+_, _*_, _%_, _^_, _≤_, _<_}

@@ -1,5 +1,5 @@
--- Document 01, "The table" and rows 2 to 11 of "What is turned down": what admission answers, and what it leaves. The checks are made over
--- a view, so that a ledger makes the same ones; `digest` is SHA-256 in every contract.
+-- Document 01, "The table" and rows 2 to 11 of "What is turned down": what admission answers, and what it leaves. The checks are made over a view, so
+-- that the ledger of crates/run makes the same checks; `digest` is SHA-256 in every contract.
 use mathlib.Core.Bool.{Bool, cond, not, _&&_}
 use mathlib.Core.List.{List, [], _∷_}
 use Prim.Native.Nat.{ℕ}
@@ -16,11 +16,11 @@ use Rattle.table.specs.Layout.{setupOf, countOf, viewOf, withRow}
 use Rattle.table.specs.Rules.{hasDigest, placeOf, parentRule}
 use Rattle.table.specs.Form.{inForm}
 
--- the digest is among the block's references
+-- the digest d is among the references of the block b
 abbrev pub lists : Bytes → Bytes → Bool
 lists b d = anyBelow (λ i. sameBytes (referenceAt (referenceList b) i) d) (referenceCount b)
 
--- reference i of the block is not held
+-- reference i of the block b is not held
 abbrev pub missing : View → Bytes → ℕ → Bool
 missing v b i = not (anyBelow (hasDigest v (referenceAt (referenceList b) i)) (v .held))
 
@@ -32,14 +32,14 @@ module _ (digest : Bytes → Bytes) where
         digest = digest b;
         site = siteOf b;
         sequence = sequenceOf b;
-        -- the places held whose digests it lists
+        -- the held places whose digests are among the block's references
         refersTo = λ j. ltb j (v .held) && lists b (v .row j .digest);
-        -- the first request of each slot
+        -- the counted request of each slot
         request = requestFor b;
         mark = 0;
       }
 
-  -- 8: digest held, with its place; 9: reference not held, with the index of the first such; 10: parent rule broken; 11: 64 held
+  -- 8: digest held, with its place; 9: reference not held, with the index of the first such reference; 10: parent rule broken; 11: 64 held
   abbrev pub heldChecks : View → Bytes → List Check
   heldChecks v b =
       check 8 (not (anyBelow (hasDigest v (digest b)) (v .held))) (placeOf v (v .held) (digest b))
@@ -48,7 +48,7 @@ module _ (digest : Bytes → Bytes) where
       ∷ check 11 (ltb (v .held) maxPlaces) 0
       ∷ []
 
-  -- 2: table not in form; 3: no block; 4: site not below n; 5: link verdict not 1; then the reader's 6 and 7, and what is held
+  -- 2: table not in form; 3: no block; 4: site not below n; 5: link verdict not 1; then the reader's 6 and 7, and the checks 8 to 11 on what is held
   abbrev pub admissionChecks : Bool → Setup → View → Bytes → ℕ → List Check
   admissionChecks formed s v b verdict =
       check 2 formed 0
@@ -58,10 +58,10 @@ module _ (digest : Bytes → Bytes) where
       ∷ check (answerOf (reading b) .refusal) (eqb (answerOf (reading b) .refusal) 0) (answerOf (reading b) .value)
       ∷ heldChecks v b
 
-  -- a success returns the place
+  -- the answer of an admission; a success returns the block's place
   unfoldable pub admission : Bytes → Bytes → ℕ → Answer
   admission t b verdict = answerTo (admissionChecks (inForm t) (setupOf t) (viewOf t) b verdict) (countOf t)
 
-  -- the block at the next place, or the table as it was
+  -- the table after an admission: with the block at the next place, or by a refusal as it was
   unfoldable pub admitted : Bytes → Bytes → ℕ → Bytes
   admitted t b verdict = cond (eqb (admission t b verdict .refusal) 0) (withRow t (rowFor (viewOf t) b)) t

@@ -17,7 +17,7 @@ use Rattle.table.specs.Form.{inForm}
 use Rattle.table.specs.Promises.{Grown}
 use Rattle.admission.specs.Admission.{rowFor, admission, admitted}
 
--- checks 2 and 3 hold, then 4, then 5
+-- Whole: checks 2 and 3 hold. OfSite: check 4 holds too. Vouched: check 5 holds too
 pub record BlockShaped (t b : Bytes) : Type 0 where
   pub formed : inForm t ≡ true
   pub shape : Shaped b
@@ -30,18 +30,18 @@ pub record Vouched (t b : Bytes) (verdict : ℕ) : Type 0 where
   pub ofSite : OfSite t b
   pub link : verdict ≡ 1
 
--- checks 2 to 7 hold; what is accepted has passed 3
+-- checks 2 to 7 hold; a block that the reader accepts has passed checks 3, 6 and 7
 pub record Readable (t b : Bytes) (verdict : ℕ) : Type 0 where
   pub formed : inForm t ≡ true
   pub site : siteOf b < setupOf t .sites
   pub link : verdict ≡ 1
   pub accepted : reading b ≡ Block (fieldsOf b)
 
--- this place holds the digest
+-- this place holds the block of digest d
 abbrev pub HeldAt : Bytes → Bytes → ℕ → Type 0
 HeldAt t d place = (place < countOf t) × (digestAt t place ≡ d)
 
--- some place holds the digest
+-- some place holds the block of digest d
 abbrev pub DigestHeld : Bytes → Bytes → Type 0
 DigestHeld t d = (place : ℕ) × HeldAt t d place
 
@@ -54,11 +54,11 @@ abbrev pub ReferenceMissing : Bytes → Bytes → Type 0
 ReferenceMissing t b = (i : ℕ) × MissingAt t b i
 
 module _ (digest : Bytes → Bytes) where
-  -- the parent rule for the block at the next place
+  -- the block b, put at the next place of t, keeps the parent rule
   abbrev pub ParentRule : Bytes → Bytes → Type 0
   ParentRule t b = parentRule (viewOf t) (countOf t) (rowFor digest (viewOf t) b) ≡ true
 
-  -- a block that passes checks 2 to 8, to 9, to 10
+  -- New: checks 2 to 8 hold. Linked: check 9 holds too. Parented: check 10 holds too
   pub record New (t b : Bytes) (verdict : ℕ) : Type 0 where
     pub readable : Readable t b verdict
     pub new : DigestHeld t (digest b) → ⊥
@@ -81,7 +81,7 @@ module _ (digest : Bytes → Bytes) where
       pub three : (answer .refusal ≡ 3) ↔ ((inForm t ≡ true) × (Shaped b → ⊥))
       pub four : (answer .refusal ≡ 4) ↔ (BlockShaped t b × (setupOf t .sites ≤ siteOf b))
       pub five : (answer .refusal ≡ 5) ↔ (OfSite t b × (verdict ≢ 1))
-      -- the reader's own, with its index
+      -- 6 and 7 are those of reading the block, with the index that reading gives
       pub six : (answer .refusal ≡ 6) ↔ (Vouched t b verdict × (answerOf (reading b) .refusal ≡ 6))
       pub seven : (answer .refusal ≡ 7) ↔ (Vouched t b verdict × (answerOf (reading b) .refusal ≡ 7))
       pub index : (answer .refusal ≡ 6) ⊎ (answer .refusal ≡ 7) → answer .value ≡ answerOf (reading b) .value
@@ -94,14 +94,14 @@ module _ (digest : Bytes → Bytes) where
       pub ten : (answer .refusal ≡ 10) ↔ (Linked t b verdict × (ParentRule t b → ⊥))
       pub eleven : (answer .refusal ≡ 11) ↔ (Parented t b verdict × (countOf t ≡ maxPlaces))
       pub none : (answer .refusal ≡ 0) ↔ (Parented t b verdict × (countOf t < maxPlaces))
-      -- "with the place from admission"
+      -- a success has refusal 0, "with the place from admission"
       pub place : answer .refusal ≡ 0 → answer .value ≡ countOf t
-      -- beside any other refusal the value is 0
+      -- beside a refusal that is none of 6, 7, 8 and 9 the value is 0
       pub noValue : answer .refusal ≢ 0 → answer .refusal ≢ 6 → answer .refusal ≢ 7 → answer .refusal ≢ 8 → answer .refusal ≢ 9 → answer .value ≡ 0
 
   pub record Promises : Type 0 where
     pub causes : (t b : Bytes) (verdict : ℕ) → Causes t b verdict
     -- an admitted block stands at the next place, and its row shows what its bytes say
     pub shown : (t b : Bytes) (verdict : ℕ) → admission digest t b verdict .refusal ≡ 0 → Grown t (admitted digest t b verdict) (rowFor digest (viewOf t) b)
-    -- form is kept
+    -- a table in form is in form after any admission, refused or not
     pub kept : (t b : Bytes) (verdict : ℕ) → inForm t ≡ true → inForm (admitted digest t b verdict) ≡ true

@@ -19,7 +19,8 @@ use Rattle.table.specs.Rules.{hasDigest}
 use Rattle.table.specs.Steps.{Indexed}
 use Rattle.admission.specs.Admission.{rowFor, heldChecks}
 
--- the searches over a list of references by its own length
+-- searches over a reference list, which has as many references as its length gives: whether the digest d is among them, the index of the first that
+-- no place below k holds, and the mask of the places below k whose digests are among them
 abbrev pub among : Bytes → Bytes → Bool
 among list d = anyBelow (λ i. sameBytes (referenceAt list i) d) (length list / referenceSize)
 
@@ -29,14 +30,15 @@ firstMissing v k list = firstBelow (λ i. not (anyBelow (hasDigest v (referenceA
 abbrev pub placesListed : Bytes → ℕ → Bytes → ℕ
 placesListed t k list = maskBelow (λ j. among list (digestAt t j)) k
 
--- a table with its index and a block that checks 2 to 7 let pass, the mask of the places that the block refers to, and its first missing reference
+-- a table in form with its index, a block that passes check 3, the mask of the places that the block refers to, and the index of its first missing
+-- reference
 pub record LookedUp (t index b : Bytes) (references none : ℕ) : Type 0 where
   pub indexed : Indexed t index
   pub shaped : Shaped b
   pub places : references ≡ placesListed t (countOf t) (referenceList b)
   pub missing : none ≡ firstMissing (viewOf t) (countOf t) (referenceList b)
 
--- checks 8 to 11, and the table after them
+-- what checks 8 to 11 answer, and the table after them
 unfoldable pub heldAnswer : Bytes → Bytes → Answer
 heldAnswer t b = answerTo (heldChecks sha256 (viewOf t) b) (countOf t)
 

@@ -1,4 +1,4 @@
-// What a block's references and digest are among the blocks that are held.
+// The search for a block's references and its digest among the blocks that are held.
 use answer::Answer;
 ghost use mathlib.Core.Path.{_≡_};
 ghost use mathlib.Core.Bool.{cond};
@@ -8,14 +8,15 @@ ghost use Rattle.table.specs.Layout.{countOf, viewOf};
 ghost use Rattle.table.specs.Steps.{Indexed};
 ghost use Rattle.admission.specs.Steps.{LookedUp, firstMissing, placesListed, heldAnswer};
 
-// A list's references among the blocks that are held: their places, as a mask, and the index of the first that no place holds, or as many as
-// there are.
+// What is found for a list of references: the mask of the places that hold them, and the index of the first reference that no place holds, or the
+// number of references if all are held.
 pub struct Found {
     pub places: u64,
     pub missing: usize,
 }
 
-// Reference i is held: the first missing one is `next`, as far as is known, if none before i was missing, and else the one that was.
+// The index of the first missing reference, as far as is known, once reference i is found to be held: `next` if no reference before i was missing,
+// and else `missing` as it was.
 fn first_missing(missing: usize, i: usize, next: usize) -> usize
     ensures { λ r. ⌜ r ≡ cond (eqb missing i) next missing ⌝ }
 {
@@ -25,7 +26,7 @@ fn first_missing(missing: usize, i: usize, next: usize) -> usize
     missing
 }
 
-// Looks up each reference of the list.
+// Looks up each reference of the list in the table, by the table's index.
 pub fn look_up(table: &[u8], index: &[u8], list: &[u8]) -> Found
     requires { ⌜ Indexed (now table) (now index) ⌝ }
     ensures { λ r. ⌜ r .places ≡ placesListed (now (table .entry)) (countOf (now (table .entry))) (now (list .entry)) ⌝ }
@@ -48,7 +49,7 @@ pub fn look_up(table: &[u8], index: &[u8], list: &[u8]) -> Found
     Found { places, missing }
 }
 
-// Checks 8, 9, 10 and 11, of a block with this digest, these places referred to and this first missing reference.
+// Checks 8, 9, 10 and 11 of a block that has this digest, refers to these places, and has its first missing reference at this index.
 pub fn held_answer(
     table: &[u8],
     index: &[u8],

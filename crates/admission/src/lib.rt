@@ -13,7 +13,7 @@ ghost use Rattle.table.specs.Form.{inForm};
 ghost use Rattle.admission.specs.Admission.{admission, admitted};
 ghost use Rattle.admission.specs.Steps.{heldAnswer, entered};
 
-// Checks 8 to 11 of a block that the reader accepts, and the block put at the next place where they hold.
+// Makes checks 8 to 11 of a block that the reader accepts, and puts the block at the next place if they hold.
 fn enter(table: &mut [u8], block: &[u8], fields: block::Fields) -> Answer
     requires { ⌜ (inForm (now table) ≡ true) × Shaped (now block) × (fields ≡ fieldsOf (now block)) ⌝ }
     ensures { λ r. ⌜ r ≡ heldAnswer (now (table .entry)) (now (block .entry)) ⌝ }

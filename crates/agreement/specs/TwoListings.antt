@@ -1,5 +1,5 @@
--- What a listing shows, and the theorem of two sites: two listings of one setup never show two numbers for one slot while at most f sites
--- forked, told first by what is shown and then by the lines of their texts; proofs/TwoListings.antt shows it.
+-- What the theorem of two sites says of two listings: two listings of one setup never show two numbers for one slot while at most f sites forked. It
+-- is told first of the deliveries that are shown, and then of the lines of the texts; proofs/Agreed.antt shows it.
 use mathlib.Core.Path.{_≡_}
 use mathlib.Core.Bool.{true}
 use mathlib.Core.List.{List, _++_, List·Memᴰ}
@@ -28,7 +28,7 @@ module _ (s : Setup) (buffer₁ buffer₂ : List ℕ) (arrivals₁ arrivals₂ :
       ++ ledgerOf sha256 s buffer₂ (arrivalCalls (started s buffer₂) arrivals₂) .blocks
 
   pub record TwoListings : Type 0 where
-    -- every block that is admitted is interpreted, so no line needs 12 to 15
+    -- no interpretation is refused where the record buffer has the right length, so no line of the listing has refusal 12 to 15
     pub settled : length buffer₁ ≡ bufferSize → NoneRefused (started s buffer₁) arrivals₁
     -- where at most f sites forked, the lines of the two listings have one number for a slot
     pub oneNumber : NoCollision sha256 blocksOfArrivals → countBelow (forked blocksOfArrivals) (s .sites) ≤ faults (s .sites)

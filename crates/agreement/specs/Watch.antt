@@ -21,13 +21,16 @@ pub record NamedAncestor (l : Ledger) (x : Site) (i : ℕ) (b : Bytes) : Type 0 
   pub holds : l .block place ≡ b
 
 module _ (digest : Bytes → Bytes) where
+  -- what the watch says of the site x, told by its ledger l
   pub record WatchKeeps (l : Ledger) (x : Site) : Type 0 where
-    -- it refuses no place that is held
+    -- the watch refuses neither the table nor a place that is held
     pub formed : forks (x .table) .refusal ≡ 0
     pub answered : (i : ℕ) → i < l .held → ancestors (x .table) i .refusal ≡ 0
-    -- the sites that it names have two different blocks of one sequence number in the ledger; where nothing was retired, they are all that have
+    -- each site that the watch names has two different blocks of one sequence number in the ledger; where nothing was retired, it names all sites
+    -- that have
     pub namedForked : (p : ℕ) → inMask (forks (x .table) .sites) p ≡ true → forked (l .blocks) p ≡ true
     pub forkedSites : l .retired ≡ [] → (p : ℕ) → inMask (forks (x .table) .sites) p ≡ forked (l .blocks) p
-    -- the places that it names hold ancestors of the place's block in the ledger; where nothing was retired, they hold all of them
+    -- each place that the watch names holds an ancestor, in the ledger, of the block at place i; where nothing was retired, it names a place of each
+    -- ancestor
     pub namedAncestor : (i : ℕ) → i < l .held → (b : Bytes) → NamedAncestor l x i b → AncestorIn digest (l .blocks) b (l .block i)
     pub ancestorPlaces : l .retired ≡ [] → (i : ℕ) → i < l .held → (b : Bytes) → NamedAncestor l x i b ↔ AncestorIn digest (l .blocks) b (l .block i)

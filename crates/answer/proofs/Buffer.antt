@@ -1,4 +1,4 @@
--- Answers put into a buffer, then others behind them. Assumes nothing.
+-- A list of answers put into a buffer, and a further list put behind it. Assumes nothing.
 use mathlib.Core.Path.{_≡_, ap, _∙_}
 use mathlib.Core.List.{List, [], _∷_, _++_}
 use Prim.Native.Nat.{ℕ, suc, _+_}

@@ -1,5 +1,5 @@
--- A list of checks, one step at a time: where the first holds the rest decide, and where it does not it decides itself. Then what single tests
--- in a check say. Assumes nothing.
+-- A list of checks, one check at a time: where the first holds the others decide, and where it does not it decides itself. Then what single tests in
+-- a check say. Assumes nothing.
 use mathlib.Core.Path.{_≡_, refl, sym, ap, _∙_}
 use mathlib.Core.Bool.{Bool, true, false, cond, not, _&&_, _||_}
 use mathlib.Core.Logic.{_↔_, _≢_, _⊎_, inl, inr}

@@ -1,5 +1,5 @@
--- The one law of answers: for checks with different numbers the answer has the number of check k exactly if all checks before it hold and it does
--- not, with its value. Assumes nothing.
+-- The one law of answers: where checks have different numbers, the answer has the number of check k exactly if all checks before check k hold and
+-- check k does not, and then it has the value of check k. Assumes nothing.
 use mathlib.Core.Path.{_≡_, refl, sym, ap, _∙_}
 use mathlib.Core.Bool.{true, false, not}
 use mathlib.Core.Logic.{_↔_, _≢_}

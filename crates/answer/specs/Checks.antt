@@ -4,7 +4,7 @@ use mathlib.Core.List.{List, [], _∷_}
 use Prim.Native.Nat.{ℕ}
 use Rattle.answer.specs.declared.Answer.{Answer}
 
--- the refusal's number, whether the check holds, and the value that is returned where it does not
+-- a check: its refusal's number, whether it holds, and the value that is returned where it does not
 pub record Check : Type 0 where
   pub number : ℕ
   pub holds : Bool
@@ -20,7 +20,7 @@ success value = record { refusal = 0; value = value }
 abbrev pub refused : ℕ → ℕ → Answer
 refused number value = record { refusal = number; value = value }
 
--- the answer of a call whose success returns this value
+-- the answer of a call that makes these checks, and whose success returns this value
 unfoldable pub answerTo : List Check → ℕ → Answer
 answerTo [] value = success value
 answerTo (c ∷ cs) value = cond (c .holds) (answerTo cs value) (refused (c .number) (c .value))

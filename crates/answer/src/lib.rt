@@ -1,6 +1,6 @@
-// What a call answers: a refusal's number, 0 for none, and a value; and answers in a lent buffer of numbers, two for each. Promises: where the
-// checks of a call have different numbers, the answer has the number of one of them exactly if all checks before it hold and it does not, with
-// its value (specs/Promises.antt). Assumes nothing.
+// What a call answers: a refusal's number, 0 for none, and a value; and answers in a lent buffer, two numbers for each. Promises: where the checks of
+// a call have different numbers, the answer has a check's number exactly if all checks before that one hold and that one does not, and then the
+// answer has that check's value (specs/Promises.antt). Assumes nothing.
 ghost use mathlib.Core.Path.{_≡_};
 ghost use Rattle.answer.specs.Buffer.{putAnswer};
 ghost use Rattle.answer.specs.Checks.{success as Checks·success, refused as Checks·refused};
@@ -12,14 +12,14 @@ pub struct Answer {
     pub value: usize,
 }
 
-// No refusal.
+// The answer of a call that is not refused.
 pub fn success(value: usize) -> Answer
     ensures { λ r. ⌜ r ≡ Checks·success value ⌝ }
 {
     Answer { refusal: 0, value }
 }
 
-// A refusal of this number.
+// The answer of a call that is refused with this number.
 pub fn refused(number: u8, value: usize) -> Answer
     ensures { λ r. ⌜ r ≡ Checks·refused number value ⌝ }
 {
@@ -29,7 +29,7 @@ pub fn refused(number: u8, value: usize) -> Answer
     }
 }
 
-// Puts refusal and value of answer i, where they fit.
+// Puts refusal and value of answer i at the indexes 2 * i and 2 * i + 1 of the buffer, which stays as it was where they do not fit.
 pub fn put_answer(answers: &mut [u64], i: usize, answer: Answer)
     ensures { λ _. ⌜ now (answers .exit) ≡ putAnswer (now (answers .entry)) i answer ⌝ }
 {

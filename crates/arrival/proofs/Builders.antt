@@ -1,5 +1,5 @@
--- A list of blocks in which those of one site keep to what the building rule says of them: the chain of each refers to every ancestor of it,
--- whoever built that one. So the site is full, where its blocks were built and wherever else they are held. Assumes nothing.
+-- A list of blocks in which the blocks of one site are as the building rule makes them: the chain of each refers to every ancestor of it, whoever
+-- built that ancestor. So the site is full, by the blocks of its own ledger and of any other that holds its blocks. Assumes nothing.
 use mathlib.Core.Path.{_≡_, sym, ap, _∙_, subst}
 use mathlib.Core.Logic.{_⊎_, _≢_, inl, inr}
 use mathlib.Core.List.{List, [], _∷_, List·Memᴰ, List·Memᴰ·tail, List·Memᴰ·not-nil, List·Memᴰ·cases-cons, Memᴰ·cast}

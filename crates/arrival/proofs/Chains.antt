@@ -1,5 +1,5 @@
--- The chain of a block: its blocks are held, of one site and of rising sequence numbers; it refers to each but the block itself; and what is
--- above a block is above its chain. Assumes nothing.
+-- The chain of a block: its blocks are held, of one site, and of rising sequence numbers; the chain refers directly to each of its blocks but the
+-- block itself; and a block that is above another is above that one's chain. Assumes nothing.
 use mathlib.Core.Path.{_≡_, refl, sym, _∙_, subst}
 use mathlib.Core.Logic.{_⊎_, inl, inr}
 use mathlib.Core.List.{List, List·Memᴰ}

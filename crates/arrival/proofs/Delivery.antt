@@ -1,5 +1,5 @@
--- Every site of the set has sent its ECHO in its first block, its READY in its second, and the last block has delivered; all of them the
--- owner's number. Assumes nothing.
+-- Every site of the set has sent its ECHO by its first block and its READY by its second, and by the last block a number is delivered; all of these
+-- are the owner's number. Assumes nothing.
 use mathlib.Core.Path.{_≡_, sym, ap, _∙_, subst}
 use mathlib.Core.Logic.{_≢_}
 use mathlib.Core.Bool.{true}

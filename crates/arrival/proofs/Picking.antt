@@ -1,5 +1,6 @@
--- A block that building wrote from a table keeps to what Builders asks of it: the site's held blocks have lower sequence numbers; and what it
--- refers to is closed, since the rule picks in place order and a place refers only to lower ones. Assumes nothing.
+-- A block that building wrote from a table is as proofs/Builders.antt asks: the site's held blocks have lower sequence numbers; and what a block of
+-- another site refers to, to which it refers, it refers to itself or a held block of its site does, since the rule picks in place order and a place
+-- refers only to lower places. Assumes nothing.
 use mathlib.Core.Path.{_≡_, sym, ap, _∙_, subst}
 use mathlib.Core.Logic.{_⊎_, _≢_, inl, inr}
 use mathlib.Core.Bool.{true, _&&_}

@@ -1,4 +1,4 @@
--- Change request fourteen, its terms: a block's chain, what is above a block, and a full site. All are over the blocks of one ledger.
+-- Request Fourteen, its terms: a block's chain, what is above a block, and a full site. All three are over the blocks of one ledger.
 use mathlib.Core.Path.{_≡_}
 use mathlib.Core.Bool.{true, false}
 use mathlib.Core.List.{List, List·Memᴰ}
@@ -9,7 +9,7 @@ use Rattle.history.specs.History.{isParentOf}
 use Rattle.history.specs.Ancestry.{AncestorIn}
 use Rattle.history.specs.Forks.{forked}
 
--- a held block that site p built
+-- b is a block of the list, and site p built it
 pub record BlockBy (blocks : List Bytes) (p : ℕ) (b : Bytes) : Type 0 where
   pub held : List·Memᴰ b blocks
   pub bySite : siteOf b ≡ p
@@ -20,7 +20,7 @@ module _ (digest : Bytes → Bytes) where
   RefersTo b a = List·Memᴰ (digest a) (referencesOf b)
 
   module _ (blocks : List Bytes) where
-    -- document 01: block b has block c, "of its own site with the sequence number one less", among its references
+    -- document 01: block c is the parent of block b, which has it among its references, "of its own site with the sequence number one less"
     pub record Parent (b c : Bytes) : Type 0 where
       pub held : List·Memᴰ c blocks
       pub referred : RefersTo b c
@@ -35,7 +35,7 @@ module _ (digest : Bytes → Bytes) where
     abbrev pub Above : Bytes → Bytes → Type 0
     Above b a = AncestorIn digest blocks a b
 
-    -- block a "is referred to directly by some block of that block's chain", block b's
+    -- block a "is referred to directly by some block of that block's chain", which is the chain of block b
     pub record ReferredInChain (b a : Bytes) : Type 0 where
       pub by : Bytes
       pub inChain : InChain by b

@@ -1,4 +1,4 @@
--- A promise of arrival, and how a site comes to be full. All of it is what a reader must believe.
+-- Request Fourteen: the promise of arrival, and how a site comes to be full. All three files are what a reader must believe.
 pub mod Full
 pub mod Arrival
 pub mod Building

@@ -1,6 +1,6 @@
--- Laws of counts: the turns of the loop that counts, bounds, sets that are large enough to meet, and that as many numbers as are sent to
--- different numbers below p are at most p, or that pass another test at most those; and that one is counted where exactly one passes. Assumes
--- nothing.
+-- Laws of counts: the turns of the loop that counts; bounds; two sets that are so large that they meet; that no more than p numbers are sent to
+-- different numbers below p, and no more than pass a test to different numbers that pass it; and that the count is one where exactly one number
+-- passes. Assumes nothing.
 use mathlib.Core.Path.{_≡_, refl, sym, ap, _∙_}
 use mathlib.Core.Bool.{Bool, true, false, not, _&&_, cond}
 use mathlib.Core.Logic.{_⊎_, _≢_, inl, inr}

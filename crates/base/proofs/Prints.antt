@@ -1,4 +1,5 @@
--- Laws of prints: what one number more adds to the masks, and that a print that was not met in its group is that of a new key. Assumes nothing.
+-- Laws of prints: what one number more adds to the masks, and that a number whose print was not met in its group has a key that no earlier number
+-- has. Assumes nothing.
 use mathlib.Core.Path.{_≡_, refl, sym, ap₂, _∙_}
 use mathlib.Core.Bool.{false, _&&_}
 use mathlib.Core.Logic.{_≢_}

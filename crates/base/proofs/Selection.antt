@@ -1,4 +1,4 @@
--- Laws of the elements that pass a test: of joined lists, one that stands anywhere, and how long their list is. Assumes nothing.
+-- Laws of the list of the elements that pass a test: for two lists joined, for an element that stands anywhere, and how long it is. Assumes nothing.
 use mathlib.Core.Path.{_≡_, refl, ap}
 use mathlib.Core.Bool.{Bool, cond, _&&_}
 use mathlib.Core.List.{List, [], _∷_, _++_}

@@ -1,5 +1,5 @@
--- Laws of bytes put into bytes: what stands up to the end of what was put, the length, each element and each part afterwards, two puts in a
--- row, one over another, and one apart from another. Assumes nothing.
+-- Laws of `splice`, a part written over bytes: what stands up to the end of the part, the length, each element and each part afterwards, two parts
+-- written one behind the other, one over the other, and apart from each other. Assumes nothing.
 use mathlib.Core.Path.{_≡_, refl, sym, ap, ap₂, _∙_}
 use mathlib.Core.List.{[], _++_, append-assoc, append-nil}
 use Prim.Native.Nat.{ℕ, _+_, _-_, _≤_, _<_}

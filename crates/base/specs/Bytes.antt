@@ -24,20 +24,20 @@ unfoldable pub allZero : Bytes → Bool
 allZero [] = true
 allZero (x ∷ xs) = eqb x 0 && allZero xs
 
--- part i of a byte string that is cut in parts of so many bytes
+-- part i, counted from 0, of a byte string that is cut in parts of `size` bytes
 abbrev pub partAt : ℕ → Bytes → ℕ → Bytes
 partAt size b i = take size (drop (size * i) b)
 
--- the first k such parts
+-- the first k parts of a byte string that is cut in parts of `size` bytes
 unfoldable pub parts : ℕ → ℕ → Bytes → List Bytes
 parts zero size b = []
 parts (suc k) size b = take size b ∷ parts k size (drop size b)
 
--- byte strings one after the other
+-- the byte strings of a list, one after the other
 unfoldable pub concat : List Bytes → Bytes
 concat [] = []
 concat (x ∷ xs) = x ++ concat xs
 
--- the bytes `b` with `part` put at index `at`, the others as they were
+-- the bytes `b` with `part` written over them from index `at` on, all other bytes as they were
 unfoldable pub splice : Bytes → ℕ → Bytes → Bytes
 splice b at part = take at b ++ (part ++ drop (at + length part) b)

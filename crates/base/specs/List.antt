@@ -1,5 +1,5 @@
--- The values of a function at the numbers below a bound, in a list; those of the numbers that pass a test; and which elements of a list pass
--- one: whether some do, how many, and their list. Assumes nothing.
+-- Lists: the values of a function at the numbers below a bound; whether some element passes a test, how many do, and which; and the numbers below a
+-- bound that pass a test. Assumes nothing.
 use mathlib.Core.Bool.{Bool, cond, false, _||_}
 use mathlib.Core.List.{List, [], _∷_, _++_}
 use Prim.Native.Nat.{ℕ, zero, suc, _+_}
@@ -15,12 +15,12 @@ module _ {A : Type 0} where
   someIn test [] = false
   someIn test (x ∷ xs) = test x || someIn test xs
 
-  -- how many do
+  -- how many elements pass the test
   unfoldable pub countIn : (A → Bool) → List A → ℕ
   countIn test [] = 0
   countIn test (x ∷ xs) = cond (test x) 1 0 + countIn test xs
 
-  -- those that do, in their order
+  -- the elements that pass the test, in their order
   unfoldable pub thoseIn : (A → Bool) → List A → List A
   thoseIn test [] = []
   thoseIn test (x ∷ xs) = cond (test x) (x ∷ thoseIn test xs) (thoseIn test xs)

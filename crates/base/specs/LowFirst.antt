@@ -1,14 +1,14 @@
--- Numbers of any count of bytes, the low byte first. Assumes nothing.
+-- A number as any count of bytes, the low byte first. Assumes nothing.
 use mathlib.Core.List.{[], _∷_}
 use Prim.Native.Nat.{ℕ, zero, suc, _+_, _*_, _/_, _%_}
 use lib.ListN.{take, drop}
 use Rattle.base.specs.Bytes.{Bytes}
 
--- the bytes of a 64-bit number
+-- how many bytes a 64-bit number has
 abbrev pub wordSize : ℕ
 wordSize = 8
 
--- the number of the bytes
+-- the number that the bytes stand for
 unfoldable pub lowFirst : Bytes → ℕ
 lowFirst [] = 0
 lowFirst (x ∷ b) = x + 256 * lowFirst b
@@ -17,7 +17,7 @@ lowFirst (x ∷ b) = x + 256 * lowFirst b
 abbrev pub lowFirstAt : Bytes → ℕ → ℕ
 lowFirstAt b at = lowFirst (take wordSize (drop at b))
 
--- the k bytes of a number
+-- the lowest k bytes of a number
 unfoldable pub lowFirstBytes : ℕ → ℕ → Bytes
 lowFirstBytes zero x = []
 lowFirstBytes (suc k) x = x % 256 ∷ lowFirstBytes k (x / 256)

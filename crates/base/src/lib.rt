@@ -9,27 +9,27 @@ ghost use Rattle.base.specs.Bytes.{sameBytes, allZero, splice};
 ghost use Rattle.base.specs.Number.{number};
 ghost use Rattle.base.specs.LowFirst.{wordSize, lowFirst, lowFirstBytes};
 
-// The bytes of a 64-bit number.
+// How many bytes a 64-bit number has.
 pub const WORD_SIZE: usize = 8;
 
-// How many prints a mask has room for.
+// How many prints a mask of 64 bits has room for. A print is a number below 64 that is made from a key (specs/Steps.antt).
 pub const PRINTS: usize = 64;
 
-// A byte as a count or an index.
+// A byte as a usize, for use as a count or an index.
 pub fn wide(x: u8) -> usize
     ensures { λ r. ⌜ r ≡ x ⌝ }
 {
     x as usize
 }
 
-// The number of two bytes.
+// The number of two bytes, the high byte first.
 pub fn number_of(high: u8, low: u8) -> u16
     ensures { λ r. ⌜ r ≡ number high low ⌝ }
 {
     (high as u16) * 256 + (low as u16)
 }
 
-// Whether place p is in the mask.
+// Whether number p is in the mask, that is, whether bit p is 1.
 pub fn in_mask(mask: u64, p: usize) -> bool
     requires { ⌜ p < 64 ⌝ }
     ensures { λ r. ⌜ r ≡ inMask mask p ⌝ }
@@ -37,7 +37,7 @@ pub fn in_mask(mask: u64, p: usize) -> bool
     (mask >> p) % 2 == 1
 }
 
-// The highest place in a mask that has one.
+// The highest number in a mask that is not empty.
 pub fn highest(mask: u64) -> usize
     requires { ⌜ 0 < mask ⌝ }
     ensures { λ r. ⌜ (r < 64) × (2 ^ r ≤ mask) × (mask < 2 ^ suc r) ⌝ }
@@ -45,8 +45,8 @@ pub fn highest(mask: u64) -> usize
     (63 - u64::leading_zeros(mask)) as usize
 }
 
-// Whether the two hold the same bytes. Most that differ do so in the first byte; all others are compared without an exit, so that the
-// compiler takes many a turn.
+// Whether the two slices hold the same bytes. Slices that differ mostly do so in the first byte, which is compared first; the loop over all bytes has
+// no exit, so that the compiler takes many bytes a turn.
 pub fn same(a: &[u8], b: &[u8]) -> bool
     ensures { λ r. ⌜ r ≡ sameBytes (now (a .entry)) (now (b .entry)) ⌝ }
 {
@@ -131,7 +131,7 @@ pub fn clear(bytes: &mut [u8])
     }
 }
 
-// Puts the part into the bytes at index `at`; all others stay.
+// Writes the part over the bytes from index `at` on; all other bytes stay.
 pub fn put(bytes: &mut [u8], at: usize, part: &[u8])
     requires { ⌜ at + length (now part) ≤ length (now bytes) ⌝ }
     ensures { λ _. ⌜ now (bytes .exit) ≡ splice (now (bytes .entry)) at (now (part .entry)) ⌝ }

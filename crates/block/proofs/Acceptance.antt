@@ -1,4 +1,4 @@
--- What it means that the reader accepts, as a record. Assumes nothing.
+-- What holds of bytes that the reader accepts, as a record. Assumes nothing.
 use mathlib.Core.Path.{_≡_, refl}
 use mathlib.Core.Bool.{Bool, true, false, not, cond}
 use Prim.Native.Nat.{ℕ}

@@ -1,4 +1,4 @@
--- Check 6 lets a request pass where it is admissible, and where it lets one of bytes pass, that one is admissible. Assumes nothing.
+-- An admissible request passes check 6, and a request made of bytes that passes check 6 is admissible. Assumes nothing.
 use mathlib.Core.Path.{_≡_}
 use mathlib.Core.Bool.{false}
 use mathlib.Core.Logic.{_≢_}

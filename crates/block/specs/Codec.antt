@@ -13,7 +13,7 @@ use Rattle.block.specs.declared.Request.{Request}
 use Rattle.block.specs.declared.Fields.{Fields}
 use Rattle.block.specs.declared.Reading.the-variants.{Block}
 
--- bytes as a digest has them
+-- x is 32 bytes, as a digest is
 pub record Digest (x : Bytes) : Type 0 where
   pub bytes : AllBytes x
   pub size : length x ≡ referenceSize
@@ -24,7 +24,7 @@ pub record AdmissibleRequest (q : Request) : Type 0 where
   pub some : 1 ≤ q .number
   pub number : q .number < 65536
 
--- what stands for an entry past a list's end; no law depends on it
+-- what stands for an entry past the end of a list of requests; no law depends on it
 abbrev pub noRequest : Request
 noRequest = record { slot = 0; number = 0 }
 
@@ -43,28 +43,28 @@ pub record Reads (b : Bytes) (c : Content) : Type 0 where
   pub accepted : reading b ≡ Block (fieldsOf b)
   pub content : contentOf b ≡ c
 
--- what the numbers f say of the block b
+-- what the fields f, which reading hands back, say of the block b
 module _ (f : Fields) (b : Bytes) where
-  -- the two parts of b that they set out
+  -- the two parts of b whose lengths the fields tell: the reference list and the request list
   abbrev pub referencePart : Bytes
   referencePart = take (referenceSize * f .references) (drop headerSize b)
 
   abbrev pub requestPart : Bytes
   requestPart = drop (headerSize + referenceSize * f .references) b
 
-  -- numbers and parts are b's content
+  -- the fields and the two parts are the content of b
   pub record Gives : Type 0 where
     pub content : content (f .site) (f .sequence) referencePart requestPart ≡ contentOf b
     pub references : length (contentOf b .references) ≡ f .references
     pub requests : length (contentOf b .requests) ≡ f .requests
-    -- and what the parts hand out at an index is the entry there
+    -- what is read from a part at an index is the entry of the content's list at that index
     pub reference : (i : ℕ) → i < f .references → referenceAt referencePart i ≡ getD (contentOf b .references) i []
     pub request : (i : ℕ) → i < f .requests → requestAt requestPart i ≡ getD (contentOf b .requests) i noRequest
 
 pub record RoundTrip : Type 0 where
   -- the bytes of a fitting content read to that content
   pub written : (c : Content) → Fitting c → AllBytes (encode c) × Reads (encode c) c
-  -- and no other bytes do
+  -- no other bytes read to that content, and every content that is read is fitting
   pub only : (b : Bytes) (c : Content) → AllBytes b → Reads b c → (b ≡ encode c) × Fitting c
-  -- what reading hands back is that content
+  -- the fields that reading hands back, with the two parts, are the block's content
   pub fields : (b : Bytes) (f : Fields) → reading b ≡ Block f → Gives f b

@@ -57,7 +57,7 @@ pub record Content : Type 0 where
   pub references : List Bytes
   pub requests : List Request
 
--- the references and the requests of the two lists' bytes
+-- the references in the bytes of a reference list, and the requests in the bytes of a request list
 abbrev pub referencesIn : Bytes → List Bytes
 referencesIn list = parts (length list / referenceSize) referenceSize list
 
@@ -72,12 +72,12 @@ content site sequence references requests =
 unfoldable pub contentOf : Bytes → Content
 contentOf b = content (siteOf b) (sequenceOf b) (referenceList b) (requestList b)
 
--- document 01, 'counted request': the first of the slot counts, 0 if there is none
+-- document 01, 'counted request': the number of the first request of the slot, 0 if there is none
 unfoldable pub countedRequest : List Request → ℕ → ℕ
 countedRequest [] slot = 0
 countedRequest (q ∷ qs) slot = cond (eqb (q .slot) slot) (q .number) (countedRequest qs slot)
 
--- a block's references in their order, and its counted request of each slot
+-- a block's references in their order, and a block's counted request of a slot
 abbrev pub referencesOf : Bytes → List Bytes
 referencesOf b = referencesIn (referenceList b)
 

@@ -1,15 +1,15 @@
 -- Document 01, "The block": the sizes of a block's fields in bytes, and its limits.
 use Prim.Native.Nat.{ℕ, _+_, _*_}
 
--- site, sequence number and the two counts
+-- the bytes of site, sequence number and the two counts
 abbrev pub headerSize : ℕ
 headerSize = 5
 
--- a reference is a digest
+-- the bytes of a reference, which is a digest
 abbrev pub referenceSize : ℕ
 referenceSize = 32
 
--- slot and number
+-- the bytes of a request: slot and number
 abbrev pub requestSize : ℕ
 requestSize = 3
 

@@ -12,14 +12,14 @@ use Rattle.block.specs.Limits.{headerSize, maxReferences, maxRequests, b
 use Rattle.block.specs.Layout.{referenceCount, requestCount, referenceList, requestList, referenceAt, requestAt}
 use Rattle.block.specs.Reading.{reading, answerOf}
 
--- bytes that pass check 3: not "under 5 bytes, p over 16, r over 8, or wrong length"
+-- the bytes b pass check 3: they are not "under 5 bytes, p over 16, r over 8, or wrong length"
 pub record Shaped (b : Bytes) : Type 0 where
   pub header : headerSize ≤ length b
   pub references : referenceCount b ≤ maxReferences
   pub requests : requestCount b ≤ maxRequests
   pub exact : length b ≡ blockSize (referenceCount b) (requestCount b)
 
--- 6: request i, of so many in a list, has a "slot over 7, or number 0"
+-- 6: request i of a list of `count` requests has a "slot over 7, or number 0"
 pub record BadIn (list : Bytes) (count i : ℕ) : Type 0 where
   pub below : i < count
   pub bad : (maxSlot < requestAt list i .slot) ⊎ (requestAt list i .number ≡ 0)
@@ -40,9 +40,11 @@ pub record GoodRequests (b : Bytes) : Type 0 where
   pub noneBad : ((i : ℕ) × BadAt b i) → ⊥
 
 module _ (b : Bytes) where
+  -- what reading answers for the bytes b, as a number and a value
   abbrev pub answer : Answer
   answer = answerOf (reading b)
 
+  -- each refusal of reading, with its cause
   pub record Causes : Type 0 where
     pub three : (answer .refusal ≡ 3) ↔ (Shaped b → ⊥)
     pub six : (answer .refusal ≡ 6) ↔ (Shaped b × ((i : ℕ) × BadAt b i))

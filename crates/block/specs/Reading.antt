@@ -34,11 +34,11 @@ badRequestAt list i = badRequest (requestAt list i)
 abbrev pub referenceRepeatedAt : Bytes → ℕ → Bool
 referenceRepeatedAt list i = anyBelow (λ j. sameBytes (referenceAt list j) (referenceAt list i)) i
 
--- the numbers of a block that passes all three
+-- the fields that reading hands back for a block that passes all three checks
 abbrev pub fieldsOf : Bytes → Fields
 fieldsOf b = record { site = siteOf b; sequence = sequenceOf b; references = referenceCount b; requests = requestCount b }
 
--- the first check that fails decides, with the index of the first such entry
+-- the first check that fails decides; 6 and 7 come with the index of the first entry that fails it
 unfoldable pub reading : Bytes → Reading
 reading b =
     cond (not (wellShaped b)) Misshapen
@@ -46,14 +46,14 @@ reading b =
     (cond (anyBelow (referenceRepeatedAt (referenceList b)) (referenceCount b)) (RepeatedReference (firstBelow (referenceRepeatedAt (referenceList b)) (referenceCount b)))
     (Block (fieldsOf b))))
 
--- document 01's number and value of each case; 0 is none
+-- document 01's number and value for each result of reading; number 0 is no refusal
 abbrev pub answerOf : Reading → Answer
 answerOf (Block f) = success 0
 answerOf Misshapen = refused 3 0
 answerOf (BadRequest i) = refused 6 i
 answerOf (RepeatedReference i) = refused 7 i
 
--- what follows from the fields where the reader accepts, and from the answer where it refuses
+-- a choice by the result of reading: `accepted` of the fields where the reader accepts, `refused` of the answer where it refuses
 module _ {A : Type 0} where
   abbrev pub whenRead : Reading → (Fields → A) → (Answer → A) → A
   whenRead (Block f) accepted refused = accepted f

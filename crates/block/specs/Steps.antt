@@ -8,7 +8,7 @@ use Rattle.block.specs.Limits.{headerSize, referenceSize, requestSize, m
 use Rattle.block.specs.Layout.{referenceAt}
 use Rattle.block.specs.Reading.{badRequestAt, referenceRepeatedAt}
 
--- two lists that a block holds, and an output that holds the block
+-- the bytes of two lists that fit into a block, and an output that has room for the block
 pub record Writable (references requests output : Bytes) : Type 0 where
   pub referencesWhole : length references ≡ referenceSize * (length references / referenceSize)
   pub referencesFew : length references ≤ referenceSize * maxReferences
@@ -16,7 +16,8 @@ pub record Writable (references requests output : Bytes) : Type 0 where
   pub requestsFew : length requests ≤ maxRequestListSize
   pub room : headerSize + length references + length requests ≤ length output
 
--- the searches of checks 6 and 7, over a list's own length
+-- the searches of checks 6 and 7, over as many entries as the list's length gives: the first bad request, the first of the references before k that
+-- is the key, and the first repeated reference; the bound of the search if there is none
 abbrev pub firstBad : Bytes → ℕ
 firstBad list = firstBelow (badRequestAt list) (length list / requestSize)
 

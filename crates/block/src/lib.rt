@@ -1,6 +1,6 @@
 // A block's bytes: reading, the fields and the two lists as parts, the entries of the lists, and writing. Promises: reading is document 01's, each
-// refusal comes under its cause and under no other (specs/Promises.antt), every block that the reader accepts is the one encoding of its content,
-// and writing gives that encoding (specs/Codec.antt). Assumes nothing of the bytes: any are read or refused.
+// refusal comes under its cause and under no other (specs/Promises.antt), every block that the reader accepts is the one encoding of its content, and
+// writing gives that encoding (specs/Codec.antt). Assumes nothing: any bytes are read or refused.
 pub mod parts;
 pub mod references;
 pub mod requests;
@@ -28,13 +28,13 @@ pub const MAX_BLOCK_SIZE: usize = HEADER_SIZE
     + REFERENCE_SIZE * MAX_REFERENCES
     + MAX_REQUEST_LIST_SIZE;
 
-// A slot and the amendment number that is asked for it.
+// A slot, and the amendment number that is requested in it.
 pub struct Request {
     pub slot: u8,
     pub number: u16,
 }
 
-// A block's numbers: its two lists are parts of its bytes, so many entries long.
+// A block's fields. Of its two lists only the counts of entries are here: the lists are parts of the block's bytes.
 #[repr(C)]
 pub struct Fields {
     pub site: u8,
@@ -43,6 +43,7 @@ pub struct Fields {
     pub requests: usize,
 }
 
+// What reading a block gives: its fields, or the check that fails, of 6 and 7 with the index of the first entry that fails it.
 pub enum Reading {
     Block(Fields),
     Misshapen,
@@ -50,7 +51,7 @@ pub enum Reading {
     RepeatedReference(usize),
 }
 
-// Document 01's number and value of a reading.
+// Document 01's number and value for a result of reading.
 pub fn answer_of(r: Reading) -> Answer
     ensures { λ a. ⌜ a ≡ answerOf r ⌝ }
 {
@@ -62,7 +63,7 @@ pub fn answer_of(r: Reading) -> Answer
     }
 }
 
-// Check 3.
+// Check 3: whether the bytes have a block's header, counts within the limits, and the length that the counts tell.
 pub fn well_shaped(block: &[u8]) -> bool
     ensures { λ r. ⌜ r ≡ wellShaped (now (block .entry)) ⌝ }
 {
@@ -80,7 +81,7 @@ pub fn well_shaped(block: &[u8]) -> bool
     block.len() == HEADER_SIZE + REFERENCE_SIZE * p + REQUEST_SIZE * r
 }
 
-// Checks 6 and 7, and the fields.
+// Checks 6 and 7, and then the fields, for a block that passes check 3.
 fn read_shaped(block: &[u8]) -> Reading
     requires { ⌜ Shaped (now block) ⌝ }
     ensures { λ r. ⌜ r ≡ reading (now (block .entry)) ⌝ }
@@ -103,7 +104,7 @@ fn read_shaped(block: &[u8]) -> Reading
     })
 }
 
-// Reads a block: its fields, or the first check that it fails with the index of the first such entry.
+// Reads a block: its fields, or the first check that it fails, of 6 and 7 with the index of the first entry that fails it.
 pub fn read_block(block: &[u8]) -> Reading
     ensures { λ r. ⌜ r ≡ reading (now (block .entry)) ⌝ }
 {

@@ -1,4 +1,4 @@
-// The fields of a block that passes check 3, and its two lists as parts of its bytes. Nobody else computes where a list begins.
+// The fields of a block that passes check 3, and its two lists as parts of its bytes. No other file computes where a list begins.
 use crate::HEADER_SIZE;
 use crate::REFERENCE_SIZE;
 ghost use mathlib.Core.Path.{_≡_};

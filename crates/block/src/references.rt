@@ -16,7 +16,7 @@ pub fn reference(list: &[u8], i: usize) -> &[u8]
     &list[at..at + REFERENCE_SIZE]
 }
 
-// The index of the first of the references before k that is the key, or k.
+// The index of the first of the references before k that equals the key, or k if none does.
 pub fn first_same(list: &[u8], k: usize, key: &[u8]) -> usize
     requires { ⌜ referenceSize * k ≤ length (now list) ⌝ }
     ensures { λ r. ⌜ r ≡ firstSame (now (list .entry)) k (now (key .entry)) ⌝ }
@@ -31,7 +31,7 @@ pub fn first_same(list: &[u8], k: usize, key: &[u8]) -> usize
     k
 }
 
-// The index of the first reference of the list that equals an earlier one, or as many as there are.
+// The index of the first reference of the list that equals an earlier one; the number of references if none does.
 pub fn first_repeated(list: &[u8]) -> usize
     ensures { λ r. ⌜ r ≡ firstRepeated (now (list .entry)) ⌝ }
 {

@@ -22,7 +22,7 @@ pub fn request(list: &[u8], i: usize) -> Request
     }
 }
 
-// Check 6 of one request.
+// Whether a request fails check 6: its slot is above 7, or its number is 0.
 fn is_bad(q: Request) -> bool
     ensures { λ r. ⌜ r ≡ badRequest q ⌝ }
 {
@@ -32,7 +32,7 @@ fn is_bad(q: Request) -> bool
     q.number == 0
 }
 
-// The index of the first bad request of the list, or as many as there are.
+// The index of the first request of the list that fails check 6; the number of requests if none does.
 pub fn first_bad(list: &[u8]) -> usize
     ensures { λ r. ⌜ r ≡ firstBad (now (list .entry)) ⌝ }
 {
@@ -47,7 +47,7 @@ pub fn first_bad(list: &[u8]) -> usize
     k
 }
 
-// The counted request of a slot: the number of the first of the list that names it, or 0.
+// The counted request of a slot: the number of the first request of the list that names the slot, 0 if none does.
 pub fn counted_request(list: &[u8], slot: u8) -> u16
     ensures { λ r. ⌜ r ≡ countedRequest (requestsIn (now (list .entry))) slot ⌝ }
 {

@@ -1,4 +1,4 @@
-// Writing a block.
+// A block written into a lent output.
 use crate::HEADER_SIZE;
 use crate::REFERENCE_SIZE;
 use crate::REQUEST_SIZE;

@@ -1,5 +1,5 @@
--- Every step of a slot's process puts a number into an empty entry or notes one that was not heard: what those keep, all steps keep. So each
--- list of what is heard keeps its sixteen entries. Assumes nothing.
+-- Every step of a slot's process puts a number into an empty entry, or notes a number from a site from which none was heard: what these two changes
+-- keep, all steps keep. So each list of what is heard keeps its sixteen entries. Assumes nothing.
 use mathlib.Core.Path.{_≡_, refl, _∙_}
 use mathlib.Core.Logic.{_⊎_, _≢_, inl, inr}
 use mathlib.Core.Bool.{Bool, true, false, not, _&&_}

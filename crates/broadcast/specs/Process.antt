@@ -1,4 +1,5 @@
--- Document 01, "One slot's process": what one message changes. The thresholds are the setup's.
+-- Document 01, "One slot's process": what one message changes. n is the number of sites, p the sender and v the number of a message; the thresholds
+-- are those of crates/setup.
 use mathlib.Core.Bool.{Bool, true, false, not, _&&_}
 use mathlib.Core.List.{List, [], _∷_}
 use Prim.Native.Nat.{ℕ}
@@ -20,7 +21,7 @@ pub record Message : Type 0 where
 abbrev pub message : Kind → ℕ → ℕ → Message
 message kind sender number = record { kind = kind; sender = sender; number = number }
 
--- the number of a kind that was made in a block: entries 36, 37, 38
+-- the number of the message of this kind that was made in the record's block, 0 if there is none: entries 36, 37 and 38
 unfoldable pub madeOf : Kind → SlotRecord → ℕ
 madeOf Send r = r .made .send
 madeOf Echo r = r .made .echo
@@ -30,7 +31,7 @@ madeOf Ready r = r .made .ready
 abbrev pub supporters : ℕ → List ℕ → ℕ → ℕ
 supporters n heard v = maskBelow (λ p. eqb (getD heard p 0) v) n
 
--- "their number is the count of its ones"
+-- how many supporters v has: "their number is the count of its ones"
 unfoldable pub support : ℕ → List ℕ → ℕ → ℕ
 support n heard v = ones (supporters n heard v)
 
@@ -55,32 +56,36 @@ deliverOnReadies n v r = onlyIf (eqb (r .sent .delivered) 0 && leb (readyQuorum 
 unfoldable pub takeSend : ℕ → ℕ → ℕ → SlotRecord → SlotRecord
 takeSend owner p v r = onlyIf (eqb p owner && eqb (r .sent .echo) 0) (inBoth (withEcho v)) r
 
--- "ECHO v from p, none heard from p: note v"
+-- "ECHO v from p, none heard from p: note v", and then READY as far as it is due
 unfoldable pub takeEcho : ℕ → ℕ → ℕ → SlotRecord → SlotRecord
 takeEcho n p v r = onlyIf (eqb (getD (r .echoes) p 0) 0) (λ q. readyOnEchoes n v (noteEcho p v q)) r
 
--- "READY v from p, none heard from p: note v"
+-- "READY v from p, none heard from p: note v", and then READY and delivery as far as they are due
 unfoldable pub takeReady : ℕ → ℕ → ℕ → SlotRecord → SlotRecord
 takeReady n p v r = onlyIf (eqb (getD (r .readies) p 0) 0) (λ q. deliverOnReadies n v (readyOnReadies n v (noteReady p v q))) r
 
+-- a message by its kind, where it is of a number that is not 0 and from a site
 unfoldable pub take : ℕ → ℕ → Kind → ℕ → ℕ → SlotRecord → SlotRecord
 take n owner Send p v r = takeSend owner p v r
 take n owner Echo p v r = takeEcho n p v r
 take n owner Ready p v r = takeReady n p v r
 
--- one message. "A message of number 0 or from a sender not below n changes nothing"; nor does any where n is above 16, which no setup has
+-- the record after one message. "A message of number 0 or from a sender not below n changes nothing"; nor does any message where n is above 16, which
+-- no setup has
 unfoldable pub receive : ℕ → ℕ → Message → SlotRecord → SlotRecord
 receive n owner m r =
     onlyIf (not (eqb (m .number) 0) && (ltb (m .sender) n && leb n maxSites)) (take n owner (m .kind) (m .sender) (m .number)) r
 
--- the same, in the order of the code's parameters
+-- the record after one message, with the arguments in the order of the code's parameters
 abbrev pub received : SlotRecord → ℕ → ℕ → Kind → ℕ → ℕ → SlotRecord
 received r n owner kind sender number = receive n owner (message kind sender number) r
 
+-- the record after a list of messages, one after the other
 unfoldable pub receiveAll : ℕ → ℕ → List Message → SlotRecord → SlotRecord
 receiveAll n owner [] r = r
 receiveAll n owner (m ∷ ms) r = receiveAll n owner ms (receive n owner m r)
 
--- "Interpreting a place": a counted request v, 0 if there is none, of a block of this site, where no SEND is sent
+-- "Interpreting a place": the record after the counted request v, 0 if there is none, of a block of this site. SEND v is sent if the site is the
+-- owner and no SEND was sent before
 unfoldable pub takeRequest : ℕ → ℕ → ℕ → SlotRecord → SlotRecord
 takeRequest owner site v r = onlyIf (not (eqb v 0) && (eqb site owner && eqb (r .sent .send) 0)) (inBoth (withSend v)) r

@@ -19,13 +19,13 @@ use Rattle.broadcast.specs.Process.{onlyIf, received, takeRequest}
 abbrev pub Supported : ℕ → List ℕ → ℕ → ℕ → Type 0
 Supported n heard v least = least ≤ countBelow (λ p. eqb (getD heard p 0) v) n
 
--- a message that is not one "of number 0 or from a sender not below n"; a record has entries for 16 sites
+-- a message of number v from p is not one "of number 0 or from a sender not below n", and n is at most 16, as a record has entries for 16 sites
 pub record Regular (n p v : ℕ) : Type 0 where
   pub sites : n ≤ maxSites
   pub sender : p < n
   pub number : v ≢ 0
 
--- v from p, in a slot of n sites with this owner, where the record is r
+-- a message of number v from p, in a slot of n sites with this owner, where the record before it is r
 module _ (n owner : ℕ) (r : SlotRecord) (p v : ℕ) where
   -- "If v now has at least 2f + 1 supporters and READY isn't sent", the ECHO from p among them
   pub record ReadyByEchoes : Type 0 where
@@ -37,11 +37,12 @@ module _ (n owner : ℕ) (r : SlotRecord) (p v : ℕ) where
     pub unsent : r .sent .ready ≡ 0
     pub enough : Supported n (set (r .readies) p v) v (readyAmplification n)
 
-  -- "If v has at least 2f + 1 and nothing is delivered"
+  -- "If v has at least 2f + 1 and nothing is delivered", the READY from p among them
   pub record DeliveryByReadies : Type 0 where
     pub undelivered : r .sent .delivered ≡ 0
     pub enough : Supported n (set (r .readies) p v) v (readyQuorum n)
 
+  -- what one message changes, by its kind
   pub record OneMessage : Type 0 where
     -- "A message of number 0 or from a sender not below n changes nothing"
     pub irregular : (kind : Kind) → (Regular n p v → ⊥) → received r n owner kind p v ≡ r

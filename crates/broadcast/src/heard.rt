@@ -1,4 +1,4 @@
-// Who said a number, among the sites heard.
+// Which sites a number was heard from, and how many they are.
 ghost use mathlib.Core.Path.{_≡_};
 ghost use Prim.Native.Nat.{_≤_};
 ghost use lib.ListN.{length};
@@ -21,7 +21,7 @@ fn supporters(heard: &[u16], n: u8, number: u16) -> u16
     mask
 }
 
-// How many they are.
+// How many sites below n have the number as their heard entry.
 pub fn support(heard: &[u16], n: u8, number: u16) -> u32
     requires { ⌜ (n ≤ maxSites) × (length (now heard) ≡ maxSites) ⌝ }
     ensures { λ r. ⌜ r ≡ support n (now (heard .entry)) number ⌝ }

@@ -1,5 +1,5 @@
-// One slot's process: authenticated double-echo broadcast, one message at a time. Promises: each function is its definition in
-// specs/Process.antt, for every record and all numbers; the laws that the theory uses stand in proofs/. Assumes nothing.
+// One slot's process: authenticated double-echo broadcast, one message at a time. Promises: each function is its definition in specs/Process.antt,
+// for every record and all numbers; the laws that the theorems use stand in proofs/. Assumes nothing.
 mod heard;
 mod record;
 
@@ -54,9 +54,9 @@ pub fn empty() -> SlotRecord
     }
 }
 
-// Whether what the supporters of a number bring about is due: its entry is still 0, and with the message that is heard now they reach the
-// threshold. The entry and what was heard before come by themselves, so that no record is copied to decide, and the message is noted after
-// that: to read all that was heard right behind a store of one number makes the processor wait.
+// Whether a READY or a delivery is due: its entry is still 0, and the supporters of the number in `heard`, with the sender of the message that is
+// being taken, reach the threshold. `heard` is what was heard before that message: to read it right behind the store of the message's number would
+// make the processor wait. The entry comes by itself, so that no record is copied to decide.
 fn is_due(entry: u16, heard: &[u16], n: u8, number: u16, threshold: u32) -> bool
     requires { ⌜ (n ≤ maxSites) × (length (now heard) ≡ maxSites) ⌝ }
     ensures { λ r. ⌜ r ≡ (eqb entry 0 && leb threshold (support n (now (heard .entry)) number + 1)) ⌝ }
@@ -69,7 +69,7 @@ fn is_due(entry: u16, heard: &[u16], n: u8, number: u16, threshold: u32) -> bool
 
 // ---- one message of each kind
 
-// A SEND from the owner is echoed once; one from another site does nothing.
+// A SEND from the owner is echoed once; a SEND from another site changes nothing.
 fn take_send(state: SlotRecord, owner: u8, sender: u8, number: u16) -> SlotRecord
     ensures { λ r. ⌜ r ≡ takeSend owner sender number state ⌝ }
 {
@@ -82,7 +82,7 @@ fn take_send(state: SlotRecord, owner: u8, sender: u8, number: u16) -> SlotRecor
     record::send_echo(state, number)
 }
 
-// An ECHO counts where none was heard from its sender. A number with its ECHO quorum brings about READY.
+// An ECHO counts where none was heard from its sender before. A number that has the ECHO quorum is sent as READY.
 fn take_echo(state: SlotRecord, n: u8, sender: u8, number: u16) -> SlotRecord
     requires { ⌜ (n ≤ maxSites) × (sender < n) × (0 < number) ⌝ }
     ensures { λ r. ⌜ r ≡ takeEcho n sender number state ⌝ }
@@ -99,7 +99,7 @@ fn take_echo(state: SlotRecord, n: u8, sender: u8, number: u16) -> SlotRecord
     s
 }
 
-// A READY counts where none was heard from its sender. Enough of them for a number bring about READY, and a quorum delivery.
+// A READY counts where none was heard from its sender before. A number with f + 1 supporters is sent as READY, and one with 2f + 1 is delivered.
 fn take_ready(state: SlotRecord, n: u8, sender: u8, number: u16) -> SlotRecord
     requires { ⌜ (n ≤ maxSites) × (sender < n) × (0 < number) ⌝ }
     ensures { λ r. ⌜ r ≡ takeReady n sender number state ⌝ }
@@ -125,7 +125,7 @@ fn take_ready(state: SlotRecord, n: u8, sender: u8, number: u16) -> SlotRecord
     s
 }
 
-// One message, by value. Number 0, a sender not below n, or an n above 16 changes nothing.
+// The record after one message, by value. A message of number 0, from a sender not below n, or where n is above 16, changes nothing.
 fn step(state: SlotRecord, n: u8, owner: u8, kind: Kind, sender: u8, number: u16) -> SlotRecord
     ensures { λ r. ⌜ r ≡ received state n owner kind sender number ⌝ }
 {
@@ -145,14 +145,14 @@ fn step(state: SlotRecord, n: u8, owner: u8, kind: Kind, sender: u8, number: u16
     }
 }
 
-// The record is lent, and changed by one message.
+// Takes one message: the lent record is changed by it.
 pub fn receive(state: &mut SlotRecord, n: u8, owner: u8, kind: Kind, sender: u8, number: u16)
     ensures { λ _. ⌜ now (state .exit) ≡ received (now (state .entry)) n owner kind sender number ⌝ }
 {
     *state = step(*state, n, owner, kind, sender, number);
 }
 
-// The record by value, lent for one message.
+// The record after one message, as `receive` changes it; the record comes and goes by value.
 pub fn after(state: SlotRecord, n: u8, owner: u8, kind: Kind, sender: u8, number: u16) -> SlotRecord
     ensures { λ r. ⌜ r ≡ received state n owner kind sender number ⌝ }
 {
@@ -161,7 +161,7 @@ pub fn after(state: SlotRecord, n: u8, owner: u8, kind: Kind, sender: u8, number
     s
 }
 
-// The request rule, for a block of this site with this counted request, 0 if it has none.
+// The record after a block's counted request, 0 if it has none: SEND is sent if the block's site is the owner and no SEND was sent before.
 pub fn requested(state: SlotRecord, owner: u8, site: u8, number: u16) -> SlotRecord
     ensures { λ r. ⌜ r ≡ takeRequest owner site number state ⌝ }
 {

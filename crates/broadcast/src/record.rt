@@ -1,4 +1,4 @@
-// What a step changes in a record.
+// What sending a message and delivering a number change in a record.
 use crate::Sent;
 use crate::SlotRecord;
 ghost use mathlib.Core.Path.{_≡_};
@@ -36,7 +36,7 @@ fn with_delivered(sent: Sent, number: u16) -> Sent
     s
 }
 
-// Sending or delivering a number enters it twice: so far, and made in this block.
+// Each of the four below puts a number in both its entries: of what was sent so far, and of what was made in this block.
 
 pub fn send_send(state: SlotRecord, number: u16) -> SlotRecord
     ensures { λ r. ⌜ r ≡ inBoth (withSend number) state ⌝ }

@@ -1,5 +1,4 @@
--- Each refusal of building comes under its cause and under no other, and there is none where every check holds; and what value comes with it.
--- Assumes nothing.
+-- Each refusal of building comes under its cause and under no other, with its value, and a block is built where every check holds. Assumes nothing.
 use mathlib.Core.Path.{_≡_, refl, sym, subst}
 use mathlib.Core.Bool.{Bool, true, false}
 use mathlib.Core.Logic.{_↔_, _≢_, _⊎_, inl, inr, Iff·rfl, Iff·trans, Iff·and}

@@ -1,5 +1,5 @@
--- The references that are put into a list one after the other, as long as there is room: those to some places and then those to others are
--- those to all of them. Assumes nothing.
+-- References that are put into a list one after the other, as long as there is room: putting the references to some places and then to others puts
+-- the references to all of these places. Assumes nothing.
 use mathlib.Core.Path.{_≡_, sym, ap, _∙_}
 use mathlib.Core.List.{List, [], _∷_, _++_, map, map-append, append-nil}
 use Prim.Native.Nat.{ℕ, _+_, _-_, _*_, _≤_, _<_}

@@ -1,6 +1,6 @@
--- The places that the next block refers to: at most 16, all held, all different. Those of the site itself are its greatest, and where it has
--- a held block, a greatest one comes first. The others come in place order: where one is picked, so is each that stands lower.
--- Assumes nothing.
+-- The places that the next block refers to: at most 16, all held, all different. A place of the site itself among them holds its greatest block, and
+-- where the site has a held block, a greatest block comes first. The places of other sites come in place order: where one is picked, so is each lower
+-- place that may be. Assumes nothing.
 use mathlib.Core.Path.{_≡_, sym, ap, _∙_}
 use mathlib.Core.Bool.{Bool, true, not, _&&_}
 use mathlib.Core.Logic.{_≢_, _⊎_, inl, inr}

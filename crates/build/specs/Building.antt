@@ -1,5 +1,5 @@
--- Document 01, "Building", and rows 16 and 17 of "What is turned down": a site's next block, what building answers, and what it leaves. `seen`
--- says which places are looked at: the call looks at every one.
+-- Document 01, "Building", and rows 16 and 17 of "What is turned down": a site's next block, what building answers, and what it leaves. `seen` says
+-- which places are looked at: the call `build` looks at every place.
 use mathlib.Core.Bool.{Bool, cond, not, _&&_}
 use mathlib.Core.List.{List, [], _∷_, _++_, map}
 use Prim.Native.Nat.{ℕ, zero, suc, _+_, _/_, _%_, max}
@@ -29,7 +29,7 @@ greatestBelow f zero = 0
 greatestBelow f (suc k) = max (f k) (greatestBelow f k)
 
 module _ (seen : ℕ → Bool) (v : View) (p : ℕ) where
-  -- one more than the sequence number of the site's block at place i, 0 if there is none
+  -- one more than the sequence number of the block at place i; 0 if place i is not looked at or holds a block of another site
   abbrev pub sequenceAfter : ℕ → ℕ
   sequenceAfter i = cond (ofSite v seen p i) (v .row i .sequence + 1) 0
 
@@ -37,7 +37,7 @@ module _ (seen : ℕ → Bool) (v : View) (p : ℕ) where
   unfoldable pub nextSequence : ℕ
   nextSequence = greatestBelow sequenceAfter (v .held)
 
-  -- "its greatest block"
+  -- place i holds "its greatest block": the site's block of greatest sequence number
   abbrev pub isGreatest : ℕ → Bool
   isGreatest i = ofSite v seen p i && eqb (v .row i .sequence + 1) nextSequence
 
@@ -45,15 +45,16 @@ module _ (seen : ℕ → Bool) (v : View) (p : ℕ) where
   abbrev pub isReferred : ℕ → Bool
   isReferred i = anyBelow (λ j. ofSite v seen p j && v .row j .refersTo i) (v .held)
 
-  -- "block of another site that no held block of this site refers to directly"
+  -- place i holds a "block of another site that no held block of this site refers to directly"
   abbrev pub isOther : ℕ → Bool
   isOther i = (seen i && not (eqb (v .row i .site) p)) && not (isReferred i)
 
-  -- "its greatest block first, then in place order every" such block, "up to 16 in all"
+  -- the places that the next block refers to: "its greatest block first, then in place order every block of another site that no held block of this
+  -- site refers to directly, up to 16 in all"
   unfoldable pub picked : List ℕ
   picked = take maxReferences (passingBelow isGreatest (v .held) ++ passingBelow isOther (v .held))
 
-  -- what the next block says: references to the picked places, and the requests as given
+  -- the content of the next block: references to the picked places, and the requests as given
   unfoldable pub nextContent : Bytes → Content
   nextContent requests =
       record {
@@ -63,6 +64,7 @@ module _ (seen : ℕ → Bool) (v : View) (p : ℕ) where
         requests = requestsIn requests;
       }
 
+  -- the bytes of the next block
   abbrev pub nextBlock : Bytes → Bytes
   nextBlock requests = encode (nextContent requests)
 
@@ -70,8 +72,8 @@ module _ (seen : ℕ → Bool) (v : View) (p : ℕ) where
 unfoldable pub wellListed : Bytes → Bool
 wellListed requests = leb (length requests) maxRequestListSize && eqb (length requests % requestSize) 0
 
--- 2: table not in form; 4: site not below n; 3; 6: slot over 7, or number 0, with the index of the first such request; 16: two held blocks of
--- the site share a sequence number; 30: building past sequence 65,535; 17: output shorter than the block, with the length needed
+-- 2: table not in form; 4: site not below n; 3: no request list; 6: slot over 7, or number 0, with the index of the first such request; 16: two held
+-- blocks of the site share a sequence number; 30: building past sequence 65,535; 17: output shorter than the block, with the length needed
 abbrev pub buildingChecks : (ℕ → Bool) → Bool → Setup → View → ℕ → Bytes → ℕ → List Check
 buildingChecks seen formed s v p requests room =
     check 2 formed 0
@@ -84,16 +86,17 @@ buildingChecks seen formed s v p requests room =
     ∷ []
 
 module _ (seen : ℕ → Bool) where
-  -- a success returns the length
+  -- the answer of building from the places looked at; a success returns the block's length
   unfoldable pub buildingFrom : Bytes → ℕ → Bytes → Bytes → Answer
   buildingFrom t p requests output =
       answerTo (buildingChecks seen (inForm t) (setupOf t) (viewOf t) p requests (length output)) (length (nextBlock seen (viewOf t) p requests))
 
-  -- the block at the front of the output, "Bytes after the block stay"; or the output as it was
+  -- the output afterwards: the block at its front, "Bytes after the block stay"; or by a refusal the output as it was
   unfoldable pub builtFrom : Bytes → ℕ → Bytes → Bytes → Bytes
   builtFrom t p requests output =
       cond (eqb (buildingFrom t p requests output .refusal) 0) (splice output 0 (nextBlock seen (viewOf t) p requests)) output
 
+-- the answer of building, and the output afterwards, where every place is looked at
 abbrev pub building : Bytes → ℕ → Bytes → Bytes → Answer
 building = buildingFrom everywhere
 

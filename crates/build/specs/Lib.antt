@@ -1,4 +1,4 @@
--- Building a site's next block. Building and Promises are what a reader must believe; nothing in Steps need be believed.
+-- Document 01, "Building". Building and Promises are what a reader must believe; nothing in Steps need be believed.
 pub mod Building
 pub mod Promises
 pub mod Steps

@@ -19,7 +19,7 @@ use Rattle.watch.specs.Forks.{ofSite}
 use Rattle.watch.specs.Promises.{Shares}
 use Rattle.build.specs.Building.{maxSequence, nextSequence, nextContent, nextBlock, buildingFrom, builtFrom}
 
--- checks 2 and 4 hold, then 3
+-- BySite: checks 2 and 4 hold. Listed: check 3 holds too
 pub record BySite (t : Bytes) (p : ℕ) : Type 0 where
   pub formed : inForm t ≡ true
   pub site : p < setupOf t .sites
@@ -29,7 +29,7 @@ pub record WholeList (t : Bytes) (p : ℕ) (requests : Bytes) : Type 0 where
   pub fits : length requests ≤ maxRequestListSize
   pub whole : length requests % requestSize ≡ 0
 
--- request i of the list has a slot over 7, or number 0
+-- request i of the request list has a slot over 7, or number 0
 abbrev pub BadRequest : Bytes → ℕ → Type 0
 BadRequest requests = BadIn requests (length requests / requestSize)
 
@@ -41,14 +41,14 @@ pub record Asked (t : Bytes) (p : ℕ) (requests : Bytes) : Type 0 where
   pub whole : length requests % requestSize ≡ 0
   pub noneBad : ((i : ℕ) × BadRequest requests i) → ⊥
 
--- a held block of the site has sequence number 65,535: none can follow
+-- a held block of the site has sequence number 65,535, so no block can follow it
 pub record Ended (seen : ℕ → Bool) (t : Bytes) (p : ℕ) : Type 0 where
   pub place : ℕ
   pub below : place < countOf t
   pub own : ofSite (viewOf t) seen p place ≡ true
   pub sequence : maxSequence ≤ sequenceAt t place
 
--- what admission of the bytes to the table answers with verdict 1: "refused only by 11, or by 8 on a shared digest"
+-- what admission of the bytes b to the table t answers with verdict 1; and that it is "refused only by 11, or by 8 on a shared digest"
 module _ (digest : Bytes → Bytes) (t b : Bytes) where
   abbrev pub admissionRefusal : ℕ
   admissionRefusal = admission digest t b 1 .refusal
@@ -68,12 +68,12 @@ module _ (seen : ℕ → Bool) (t : Bytes) (p : ℕ) (requests output : Bytes) w
   abbrev pub needed : ℕ
   needed = length (nextBlock seen (viewOf t) p requests)
 
-  -- check 16 holds too
+  -- checks 2, 4, 3, 6 and 16 hold
   pub record Able : Type 0 where
     pub asked : Asked t p requests
     pub unforked : Shares (viewOf t) seen p → ⊥
 
-  -- check 30 holds too
+  -- checks 2, 4, 3, 6, 16 and 30 hold
   pub record Lasting : Type 0 where
     pub able : Able
     pub within : nextSequence seen (viewOf t) p ≤ maxSequence
@@ -90,13 +90,13 @@ module _ (seen : ℕ → Bool) (t : Bytes) (p : ℕ) (requests output : Bytes) w
     pub thirty : (answer .refusal ≡ 30) ↔ (Able × Ended seen t p)
     pub seventeen : (answer .refusal ≡ 17) ↔ (Lasting × (length output < needed))
     pub none : (answer .refusal ≡ 0) ↔ (Lasting × (needed ≤ length output))
-    -- the length, and the length needed
+    -- the value of a success is the block's length, and the value of 17 the length needed
     pub value : (answer .refusal ≡ 0) ⊎ (answer .refusal ≡ 17) → answer .value ≡ needed
-    -- beside any other refusal the value is 0
+    -- beside a refusal that is neither 6 nor 17 the value is 0
     pub noValue : answer .refusal ≢ 0 → answer .refusal ≢ 6 → answer .refusal ≢ 17 → answer .value ≡ 0
-    -- what is built reads back to exactly the picked content
+    -- the block that is built reads back to the content of the next block
     pub read : AllBytes t → AllBytes requests → answer .refusal ≡ 0 → Reads (take needed outputAfter) (nextContent seen (viewOf t) p requests)
-    -- bytes after the block stay
+    -- bytes of the output after the block stay
     pub rest : answer .refusal ≡ 0 → drop needed outputAfter ≡ drop needed output
-    -- the table admits it
+    -- the table that the block was built from admits it, or refuses it by 11 or 8 alone
     pub admissible : AllBytes t → AllBytes requests → answer .refusal ≡ 0 → (digest : Bytes → Bytes) → Admissible digest t (take needed outputAfter)

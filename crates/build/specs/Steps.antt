@@ -18,43 +18,43 @@ use Rattle.table.specs.Steps.{Places}
 use Rattle.watch.specs.Forks.{forkedIn}
 use Rattle.build.specs.Building.{isReferred, isOther, nextBlock, buildingChecks}
 
--- a table and a site that check 16 lets pass, with the places that follow from form
+-- a table in form, and a site that passes check 16
 pub record Buildable (t : Bytes) (seen p : ℕ) : Type 0 where
   pub formed : inForm t ≡ true
   pub sized : Places t (countOf t)
   pub unforked : forkedIn (viewOf t) (inMask seen) p ≡ false
 
--- so many of a list's references are there, and the list has room for all
+-- a list with room for 16 references, the first `count` of which are there
 pub record Room (list : Bytes) (count : ℕ) : Type 0 where
   pub size : length list ≡ referenceSize * maxReferences
   pub few : count ≤ maxReferences
 
--- the mask of the places that a block of the site refers to directly
+-- the mask of the places that held blocks of the site refer to directly
 abbrev pub referredMask : Bytes → ℕ → ℕ → ℕ
 referredMask t seen p = maskBelow (isReferred (inMask seen) (viewOf t) p) maxPlaces
 
--- the places of other sites' blocks that none of the site refers to
+-- the places of other sites' blocks that no held block of the site refers to, in place order
 abbrev pub othersIn : Bytes → ℕ → ℕ → List ℕ
 othersIn t seen p = passingBelow (isOther (inMask seen) (viewOf t) p) (countOf t)
 
--- of some places, the first that a list with so many references has room for
+-- the first of these places, as many as a list that has `count` references has room for
 abbrev pub fitting : List ℕ → ℕ → List ℕ
 fitting places count = take (maxReferences - count) places
 
--- the references to places, one after the other
+-- the digests of these places, one after the other
 abbrev pub digestsOf : Bytes → List ℕ → Bytes
 digestsOf t places = concat (map (digestAt t) places)
 
--- a list with those that fit put after its first references
+-- the list with the digests of these places put after its first `count` references, as many as it has room for
 unfoldable pub putDigests : Bytes → List ℕ → ℕ → Bytes → Bytes
 putDigests t places count list = splice list (referenceSize * count) (digestsOf t (fitting places count))
 
--- a request list that check 3 lets pass
+-- a request list that passes check 3
 pub record RequestList (requests : Bytes) : Type 0 where
   pub fits : length requests ≤ maxRequestListSize
   pub whole : length requests ≡ requestSize * (length requests / requestSize)
 
--- checks 30 and 17, and the output after them
+-- what checks 30 and 17 answer, and the output after them
 module _ (seen : ℕ → Bool) (t : Bytes) (p : ℕ) (requests output : Bytes) where
   unfoldable pub nextAnswer : Answer
   nextAnswer =

@@ -1,6 +1,6 @@
-// Building a site's next block from its table. Promises: `build` answers and leaves what specs/Building.antt says, for any table, site, request
-// list and output; what is built reads back to the content picked, the table it was built from admits it unless it is full or holds the same
-// digest, and each of 16, 30 and 17 comes under its cause and under no other (specs/Promises.antt). Assumes nothing; the table is read only.
+// Building a site's next block from its table. Promises: `build` answers and leaves what specs/Building.antt says, for any table, site, request list
+// and output; the block reads back to its content, the table that it was built from admits it unless that is full or holds the same digest, and each
+// of 2, 4, 3, 6, 16, 30 and 17 comes under its cause and under no other (specs/Promises.antt). Assumes nothing; the table is read only.
 mod next;
 mod picking;
 
@@ -16,7 +16,7 @@ ghost use Rattle.build.specs.Steps.{Buildable, RequestList, nextAnswer, 
 // The greatest sequence number that two bytes hold.
 const MAX_SEQUENCE: u32 = 65535;
 
-// Check 3 of a request list.
+// Check 3 of a request list: whether it is at most 24 bytes and a multiple of 3.
 fn well_listed(requests: &[u8]) -> bool
     ensures { λ r. ⌜ r ≡ wellListed (now (requests .entry)) ⌝ }
 {
@@ -26,7 +26,8 @@ fn well_listed(requests: &[u8]) -> bool
     requests.len() % block::REQUEST_SIZE == 0
 }
 
-// Writes the site's next block, from the places in the mask, to the front of the output and answers with its length.
+// Writes the site's next block to the front of the output and answers with its length. Only the places in the mask `seen` are looked at. Refuses in
+// the order of document 01; a refusal changes nothing.
 pub fn build_from(table: &[u8], seen: u64, site: u8, requests: &[u8], output: &mut [u8]) -> Answer
     ensures { λ r. ⌜ r ≡ buildingFrom (inMask seen) (now (table .entry)) site (now (requests .entry)) (now (output .entry)) ⌝ }
     ensures { λ _. ⌜ now (output .exit) ≡ builtFrom (inMask seen) (now (table .entry)) site (now (requests .entry)) (now (output .entry)) ⌝ }
@@ -50,7 +51,7 @@ pub fn build_from(table: &[u8], seen: u64, site: u8, requests: &[u8], output: &m
     write_next(table, seen, site, requests, output)
 }
 
-// Checks 30 and 17, and the block where there is room for it.
+// Makes checks 30 and 17, and writes the block if they hold.
 fn write_next(table: &[u8], seen: u64, site: u8, requests: &[u8], output: &mut [u8]) -> Answer
     requires { ⌜ Buildable (now table) seen site × RequestList (now requests) ⌝ }
     ensures { λ r. ⌜ r ≡ nextAnswer (inMask seen) (now (table .entry)) site (now (requests .entry)) (now (output .entry)) ⌝ }

@@ -7,7 +7,7 @@ ghost use Rattle.table.specs.Layout.{countOf, viewOf};
 ghost use Rattle.build.specs.Building.{sequenceAfter, nextSequence};
 ghost use Rattle.build.specs.Steps.{Buildable};
 
-// One more than the sequence number of the site's block at a place; 0 if there is none.
+// One more than the sequence number of the block at place i; 0 if place i is not looked at or holds a block of another site.
 fn sequence_after(table: &[u8], seen: u64, site: u8, i: usize) -> u32
     requires { ⌜ Buildable (now table) seen site × (i < countOf (now table)) ⌝ }
     ensures { λ r. ⌜ r ≡ sequenceAfter (inMask seen) (viewOf (now (table .entry))) site i ⌝ }
@@ -18,7 +18,7 @@ fn sequence_after(table: &[u8], seen: u64, site: u8, i: usize) -> u32
     (rows::sequence_at(table, i) as u32) + 1
 }
 
-// One more than the site's greatest sequence number; 0 if it has no block.
+// One more than the greatest sequence number of the site's blocks; 0 if it has no block.
 pub fn next_sequence(table: &[u8], seen: u64, site: u8) -> u32
     requires { ⌜ Buildable (now table) seen site ⌝ }
     ensures { λ r. ⌜ r ≡ nextSequence (inMask seen) (viewOf (now (table .entry))) site ⌝ }

@@ -15,7 +15,7 @@ ghost use Rattle.table.specs.Steps.{Place, Places};
 ghost use Rattle.build.specs.Building.{nextSequence, isGreatest, isOther, picked};
 ghost use Rattle.build.specs.Steps.{Buildable, Room, referredMask, othersIn, fitting, digestsOf, putDigests};
 
-// Whether the place holds the site's greatest block.
+// Whether place i holds the site's block of greatest sequence number, where `next` is one more than that number.
 fn is_greatest(table: &[u8], seen: u64, site: u8, next: u16, i: usize) -> bool
     requires { ⌜ Place (now table) i × (next ≡ nextSequence (inMask seen) (viewOf (now table)) site) ⌝ }
     ensures { λ r. ⌜ r ≡ isGreatest (inMask seen) (viewOf (now (table .entry))) site i ⌝ }
@@ -26,7 +26,7 @@ fn is_greatest(table: &[u8], seen: u64, site: u8, next: u16, i: usize) -> bool
     (rows::sequence_at(table, i) as u32) + 1 == (next as u32)
 }
 
-// The place of the site's greatest block, or the count if it has none.
+// The place of the site's block of greatest sequence number, or the count if the site has no block.
 fn greatest_place(table: &[u8], seen: u64, site: u8, next: u16) -> usize
     requires { ⌜ Places (now table) (countOf (now table)) × (next ≡ nextSequence (inMask seen) (viewOf (now table)) site) ⌝ }
     ensures { λ r. ⌜ r ≡ firstBelow (isGreatest (inMask seen) (viewOf (now (table .entry))) site) (countOf (now (table .entry))) ⌝ }
@@ -42,7 +42,7 @@ fn greatest_place(table: &[u8], seen: u64, site: u8, next: u16) -> usize
     k
 }
 
-// The places that the site's blocks refer to directly, as a mask.
+// The mask of the places that the site's blocks refer to directly.
 fn referred_mask(table: &[u8], seen: u64, site: u8) -> u64
     requires { ⌜ Places (now table) (countOf (now table)) ⌝ }
     ensures { λ r. ⌜ r ≡ referredMask (now (table .entry)) seen site ⌝ }
@@ -59,7 +59,7 @@ fn referred_mask(table: &[u8], seen: u64, site: u8) -> u64
     mask
 }
 
-// Whether the place is looked at and holds a block of another site that is not among those referred to.
+// Whether place i is looked at and holds a block of another site, and is not in the mask of the places referred to.
 fn is_other(table: &[u8], seen: u64, site: u8, referred: u64, i: usize) -> bool
     requires { ⌜ Place (now table) i × (referred ≡ referredMask (now table) seen site) ⌝ }
     ensures { λ r. ⌜ r ≡ isOther (inMask seen) (viewOf (now (table .entry))) site i ⌝ }
@@ -73,7 +73,7 @@ fn is_other(table: &[u8], seen: u64, site: u8, referred: u64, i: usize) -> bool
     !base::in_mask(referred, i)
 }
 
-// Puts the digest of a place after the list's first references, if there is room; how many there are then.
+// Puts the digest of place i after the list's first `count` references, if there is room, and answers how many references the list has then.
 fn put_place(table: &[u8], i: usize, count: usize, list: &mut [u8]) -> usize
     requires { ⌜ Place (now table) i × Room (now list) count ⌝ }
     ensures { λ r. ⌜ r ≡ count + length (fitting (i ∷ []) count) ⌝ }
@@ -86,8 +86,8 @@ fn put_place(table: &[u8], i: usize, count: usize, list: &mut [u8]) -> usize
     count + 1
 }
 
-// Puts those of the other sites' blocks that none of the site's refers to, in place order, as long as there is room; how many references there
-// are then.
+// Puts the digests of the other sites' blocks that no block of this site refers to, in place order and as long as there is room, after the list's
+// first `count` references, and answers how many references the list has then.
 fn put_others(table: &[u8], seen: u64, site: u8, count: usize, list: &mut [u8]) -> usize
     requires { ⌜ Places (now table) (countOf (now table)) × Room (now list) count ⌝ }
     ensures { λ r. ⌜ r ≡ count + length (fitting (othersIn (now (table .entry)) seen site) count) ⌝ }
@@ -106,7 +106,7 @@ fn put_others(table: &[u8], seen: u64, site: u8, count: usize, list: &mut [u8]) 
     end
 }
 
-// Puts the references to the front of the list; how many they are.
+// Puts the references of the next block to the front of the list, and answers how many they are.
 pub fn pick(table: &[u8], seen: u64, site: u8, next: u16, list: &mut [u8]) -> usize
     requires { ⌜ Buildable (now table) seen site × (next ≡ nextSequence (inMask seen) (viewOf (now table)) site) × (length (now list) ≡ referenceSize * maxReferences) ⌝ }
     ensures { λ r. ⌜ r ≡ length (picked (inMask seen) (viewOf (now (table .entry))) site) ⌝ }

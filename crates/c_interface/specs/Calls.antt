@@ -1,5 +1,5 @@
--- What the calls of C programs answer and leave, over document 01's digest and reading. The numbers are those of its "What is turned
--- down": 13 for an index not below the count, 17 for an output that is too short, with the length needed.
+-- What the calls of C programs that are not calls of the core answer and leave, over document 01's digest and reading. Refusals are numbered as in
+-- "What is turned down": 13 for an index not below the count of entries, 17 for an output that is too short, with the length needed.
 use mathlib.Core.Bool.{cond}
 use Prim.Native.Nat.{ℕ}
 use lib.Dec.{leb, ltb}
@@ -15,10 +15,11 @@ use Rattle.block.specs.declared.Fields.{Fields}
 use Rattle.c_interface.specs.declared.BlockReading.{BlockReading}
 use Rattle.c_interface.specs.declared.Requested.{Requested}
 
+-- the refusal of an index not below the count of entries
 abbrev pub noSuchEntry : Answer
 noSuchEntry = refused 13 0
 
--- ---- a digest, or a reference, which is one, at the front of the output
+-- ---- 32 bytes, of a digest or of a reference, put at the front of the output
 
 abbrev pub digestAnswer : Bytes → Answer
 digestAnswer output = cond (ltb (length output) referenceSize) (refused 17 referenceSize) (success 0)
@@ -26,7 +27,7 @@ digestAnswer output = cond (ltb (length output) referenceSize) (refused 17 refer
 abbrev pub putOutput : Bytes → Bytes → Bytes
 putOutput part output = cond (ltb (length output) referenceSize) output (splice output 0 part)
 
--- gt_digest
+-- the output after gt_digest, whose answer is putAnswer
 unfoldable pub digestOutput : Bytes → Bytes → Bytes
 digestOutput message output = putOutput (sha256 message) output
 

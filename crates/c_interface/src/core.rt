@@ -1,4 +1,4 @@
-// The core, for C programs that keep a campaign: each call is the one that it names.
+// The core, for C programs that keep a campaign. Each call is the one function that its body calls, with the same contract.
 use answer::Answer;
 use campaigns::Arrival;
 use watch::AncestorPlaces;
@@ -22,7 +22,7 @@ ghost use Rattle.build.specs.Building.{building, built};
 ghost use Rattle.run.specs.Run.{siteAfter, siteAnswers};
 ghost use Rattle.run.specs.Encoding.{callsIn};
 
-// The empty table of a setup, into a lent buffer.
+// Makes a lent buffer the empty table of a setup.
 #[no_mangle]
 pub extern "C" fn gt_fresh(sites: u8, owners: &[u8], table: &mut [u8]) -> Answer
     ensures { λ r. ⌜ r ≡ freshAnswer (record { sites = sites; owners = now (owners .entry) }) (now (table .entry)) ⌝ }
@@ -39,7 +39,7 @@ pub extern "C" fn gt_in_form(table: &[u8]) -> bool
     table::in_form(table)
 }
 
-// Admission of a block.
+// Puts a block at the table's next place, and answers with that place.
 #[no_mangle]
 pub extern "C" fn gt_admit(table: &mut [u8], block: &[u8], verdict: u8) -> Answer
     ensures { λ r. ⌜ r ≡ admission sha256 (now (table .entry)) (now (block .entry)) verdict ⌝ }
@@ -48,7 +48,7 @@ pub extern "C" fn gt_admit(table: &mut [u8], block: &[u8], verdict: u8) -> Answe
     admission::admit(table, block, verdict)
 }
 
-// Interpretation of a place.
+// Writes the records of a place and marks the place interpreted.
 #[no_mangle]
 pub extern "C" fn gt_interpret(table: &mut [u8], place: usize, records: &mut [u16]) -> Answer
     ensures { λ r. ⌜ r ≡ interpretation (now (table .entry)) (now (records .entry)) place ⌝ }
@@ -58,7 +58,7 @@ pub extern "C" fn gt_interpret(table: &mut [u8], place: usize, records: &mut [u1
     interpret::interpret(table, place, records)
 }
 
-// Place 0 leaves, and the others move down.
+// Takes the block at place 0 out of the table, and moves all other places and their records down by one.
 #[no_mangle]
 pub extern "C" fn gt_retire(table: &mut [u8], records: &mut [u16]) -> Answer
     ensures { λ r. ⌜ r ≡ retiring (now (table .entry)) (now (records .entry)) ⌝ }
@@ -68,7 +68,7 @@ pub extern "C" fn gt_retire(table: &mut [u8], records: &mut [u16]) -> Answer
     retire::retire(table, records)
 }
 
-// The last place is taken back.
+// Takes the block at the last place out of the table, as if it had not been admitted.
 #[no_mangle]
 pub extern "C" fn gt_take_back(table: &mut [u8]) -> Answer
     ensures { λ r. ⌜ r ≡ takingBack (now (table .entry)) ⌝ }
@@ -77,7 +77,7 @@ pub extern "C" fn gt_take_back(table: &mut [u8]) -> Answer
     take_back::take_back(table)
 }
 
-// The sites that forked.
+// The sites with two held blocks of one sequence number.
 #[no_mangle]
 pub extern "C" fn gt_forks(table: &[u8]) -> ForkedSites
     ensures { λ r. ⌜ r ≡ forks (now (table .entry)) ⌝ }
@@ -85,7 +85,7 @@ pub extern "C" fn gt_forks(table: &[u8]) -> ForkedSites
     watch::forks(table)
 }
 
-// All ancestors of a place.
+// All ancestors of a place, itself left out.
 #[no_mangle]
 pub extern "C" fn gt_ancestors(table: &[u8], place: usize) -> AncestorPlaces
     ensures { λ r. ⌜ r ≡ ancestors (now (table .entry)) place ⌝ }
@@ -93,7 +93,7 @@ pub extern "C" fn gt_ancestors(table: &[u8], place: usize) -> AncestorPlaces
     watch::ancestors(table, place)
 }
 
-// A site's next block.
+// Writes a site's next block to the front of the output, and answers with its length.
 #[no_mangle]
 pub extern "C" fn gt_build(table: &[u8], site: u8, requests: &[u8], output: &mut [u8]) -> Answer
     ensures { λ r. ⌜ r ≡ building (now (table .entry)) site (now (requests .entry)) (now (output .entry)) ⌝ }
@@ -102,7 +102,7 @@ pub extern "C" fn gt_build(table: &[u8], site: u8, requests: &[u8], output: &mut
     build::build(table, site, requests, output)
 }
 
-// A whole list of calls.
+// Runs an encoded list of calls, and answers how many there were; their answers go to the buffer, as far as they fit.
 #[no_mangle]
 pub extern "C" fn gt_replay(
     table: &mut [u8],
@@ -126,7 +126,7 @@ pub extern "C" fn gt_shelf_in_form(shelf: &[u8]) -> bool
     shelf::in_form(shelf)
 }
 
-// A block arrives for a campaign.
+// A block arrives for a campaign: it is admitted, or waits on the shelf, or is refused. After an admission the campaign's waiting blocks are tried.
 #[no_mangle]
 pub extern "C" fn gt_arrive(
     table: &mut [u8],
@@ -145,7 +145,7 @@ pub extern "C" fn gt_arrive(
     campaigns::arrive(table, shelf, campaign, block, verdict, outcomes)
 }
 
-// Two controllers' tables and records made one.
+// Makes one table and one record buffer of two controllers': the left's table and the third buffer.
 #[no_mangle]
 pub extern "C" fn gt_join<'a>(
     left: &mut [u8],

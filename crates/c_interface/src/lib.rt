@@ -1,6 +1,6 @@
 // What programs in C call: here the digest, and block reading with the entries of a block's two lists; in core.rt the table, the records, retiring,
-// taking back, the watch, building, arrivals and joining. Promises: each call here answers and leaves what specs/Calls.antt says, and each of the
-// core is the one that it names, for all bytes and numbers. Assumes: the C program lends what the headers in host/ ask for.
+// taking back, the watch, building, arrivals and joining. Promises: each call here answers and leaves what specs/Calls.antt says, and each call of
+// core.rt what the function that it calls does, for all bytes and numbers. Assumes: the C program lends what the headers in host/ ask for.
 pub mod core;
 
 use answer::Answer;
@@ -12,12 +12,14 @@ ghost use lib.ListN.{length};
 ghost use Rattle.block.specs.Limits.{referenceSize};
 ghost use Rattle.c_interface.specs.Calls.{digestAnswer, putOutput, digestOutput, blockReading, referenceAnswer, referenceOutput, requested};
 
+// What reading a block answers: a success and the block's fields, or the refusal beside fields that are all 0.
 #[repr(C)]
 pub struct BlockReading {
     pub answer: Answer,
     pub fields: Fields,
 }
 
+// A request of a block, or a refusal beside which slot and number are 0.
 #[repr(C)]
 pub struct Requested {
     pub answer: Answer,
@@ -25,7 +27,7 @@ pub struct Requested {
     pub number: u16,
 }
 
-// Puts a digest at the front of the output, if there is room.
+// Puts a digest at the front of the output, or refuses with 17 and the length needed if there is no room.
 fn put_digest(digest: &[u8], output: &mut [u8]) -> Answer
     requires { ⌜ length (now digest) ≡ referenceSize ⌝ }
     ensures { λ r. ⌜ r ≡ digestAnswer (now (output .entry)) ⌝ }
@@ -38,7 +40,7 @@ fn put_digest(digest: &[u8], output: &mut [u8]) -> Answer
     answer::success(0)
 }
 
-// The message's digest, to the front of the output.
+// Puts the message's digest at the front of the output. Refuses with 17.
 #[no_mangle]
 pub extern "C" fn gt_digest(message: &[u8], output: &mut [u8]) -> Answer
     ensures { λ r. ⌜ r ≡ digestAnswer (now (output .entry)) ⌝ }
@@ -47,7 +49,7 @@ pub extern "C" fn gt_digest(message: &[u8], output: &mut [u8]) -> Answer
     put_digest(&sha256::digest(message), output)
 }
 
-// A block's fields, or the reader's refusal.
+// Reads a block: its fields, or the reader's refusal.
 #[no_mangle]
 pub extern "C" fn gt_read_block(bytes: &[u8]) -> BlockReading
     ensures { λ r. ⌜ r ≡ blockReading (now (bytes .entry)) ⌝ }
@@ -70,7 +72,7 @@ pub extern "C" fn gt_read_block(bytes: &[u8]) -> BlockReading
     }
 }
 
-// A reference of a block, to the front of the output.
+// Puts the reference at an index of a block at the front of the output. Refuses as the reader does, with 13 or with 17.
 #[no_mangle]
 pub extern "C" fn gt_reference(bytes: &[u8], index: usize, output: &mut [u8]) -> Answer
     ensures { λ r. ⌜ r ≡ referenceAnswer (now (bytes .entry)) index (now (output .entry)) ⌝ }
@@ -87,7 +89,7 @@ pub extern "C" fn gt_reference(bytes: &[u8], index: usize, output: &mut [u8]) ->
     put_digest(block::references::reference(list, index), output)
 }
 
-// A request of a block.
+// The request at an index of a block. Refuses as the reader does, or with 13.
 #[no_mangle]
 pub extern "C" fn gt_request(bytes: &[u8], index: usize) -> Requested
     ensures { λ r. ⌜ r ≡ requested (now (bytes .entry)) index ⌝ }

@@ -1,4 +1,4 @@
--- The last pass admits none: it leaves the table, and each of the campaign's blocks that waits on gets 9 from it. Assumes nothing.
+-- The last pass admits no block: it leaves the table, and each of the campaign's blocks that waits on gets 9 from that table. Assumes nothing.
 use mathlib.Core.Path.{_≡_, refl, sym, subst}
 use mathlib.Core.Bool.{false}
 use mathlib.Core.List.{List, _∷_, List·Memᴰ, List·Memᴰ·not-nil, List·Memᴰ·cases-cons}

@@ -1,4 +1,5 @@
--- The turns of a pass, and of the passes: what is left to do comes to what all comes to. Assumes nothing.
+-- The turns of a pass, and of all passes: what was done so far and what is left to do make what the whole pass, or all passes, come to. Assumes
+-- nothing.
 use mathlib.Core.Path.{_≡_, sym, ap, ap₂, _∙_}
 use mathlib.Core.Bool.{Bool, true, false, cond, _||_}
 use mathlib.Core.List.{List, [], _∷_, _++_, append-assoc, append-nil}

@@ -16,21 +16,21 @@ use Rattle.campaigns.specs.Passes.{waitsOn, outcome}
 use Rattle.campaigns.specs.Arriving.{Arrived, shelved}
 use Rattle.campaigns.specs.declared.Pass.{Pass}
 
--- what shelving asks of a caller
+-- what `shelve` asks of a caller: the shelf is the layout of what waits, and the block fits into an entry
 pub record Shelvable (s b : Bytes) : Type 0 where
   pub laid : Laid s (waitingIn s)
   pub short : length b ≤ maxBlockSize
 
--- what it answers and leaves of what waits; no table is at hand
+-- what `shelve` answers and what waits after it; it has no table, and [] stands for one
 abbrev pub shelvedAt : Answer → Bytes → ℕ → Bytes → Arrived
 shelvedAt a s c b = shelved (hasPlace c (waitingIn s)) a [] (waitingIn s) c b
 
--- what a pass asks of a caller: so many have ended before it that no count runs over
+-- what a pass asks of a caller: the shelf is the layout of what waits, and so few blocks have ended that the count of those that end cannot overflow
 pub record Passable (s : Bytes) (ended : ℕ) : Type 0 where
   pub laid : Laid s (waitingIn s)
   pub few : ended + length (waitingIn s) ≤ maxWaiting
 
--- a pass stands at an entry
+-- the pass p stands at an entry of the shelf s
 pub record AtEntry (s : Bytes) (p : Pass) : Type 0 where
   pub passable : Passable s (p .ended)
   pub below : p .at < length (waitingIn s)
@@ -42,9 +42,11 @@ pub record Turned : Type 0 where
   pub outcomes : List ℕ
   pub next : Pass
 
+-- the pass goes by an entry that stays on the shelf
 abbrev pub passedBy : Bytes → List Waiting → List ℕ → Pass → Turned
 passedBy t ws o p = record { table = t; waiting = ws; outcomes = o; next = record { at = p .at + 1; admitted = p .admitted; ended = p .ended } }
 
+-- the pass takes its entry out, as the answer a lets its block in or drops it, and stands where the next entry comes to stand
 abbrev pub takenOut : Answer → Bytes → List Waiting → List ℕ → Pass → Turned
 takenOut a t ws o p =
     record {
@@ -55,7 +57,7 @@ takenOut a t ws o p =
     }
 
 module _ (digest : Bytes → Bytes) where
-  -- the entry at which a pass stands, tried if it is the campaign's
+  -- one turn of a pass: the entry at which it stands is tried if it is of campaign c
   unfoldable pub turned : Bytes → List Waiting → List ℕ → ℕ → Pass → Turned
   turned t ws o c p =
       let b = getD ws (p .at) noWaiting .block in

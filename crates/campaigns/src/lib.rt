@@ -1,5 +1,6 @@
-// Arrivals for up to four campaigns, each with its own table, that share a shelf. Promises: `arrive` answers and leaves what
-// specs/Arriving.antt says, for all bytes and numbers; specs/Promises.antt. Assumes nothing.
+// Arrivals for up to four campaigns, each with its own table, that share a shelf. Promises: `arrive` answers and leaves what specs/Arriving.antt
+// says, for all bytes and numbers; each refusal comes under its cause and under no other, form is kept, and what waits is neither lost nor invented
+// (specs/Promises.antt). Assumes nothing.
 mod passing;
 
 use answer::Answer;
@@ -14,7 +15,7 @@ ghost use Rattle.campaigns.specs.Passes.{outcomesOf, settled};
 ghost use Rattle.campaigns.specs.Arriving.{listed, arrival};
 ghost use Rattle.campaigns.specs.Steps.{Shelvable, shelvedAt};
 
-// The numbers that the outcomes of an arrival need.
+// How many numbers the buffer for the outcomes of an arrival must have.
 pub const OUTCOMES_SIZE: usize = 2 * MAX_SHARE;
 
 // An arrival's own answer, and how many blocks that waited were let in or dropped by it.
@@ -24,14 +25,15 @@ pub struct Arrival {
     pub ended: usize,
 }
 
-// Where a pass stands, whether it has let a block in, and how many have ended.
+// A pass over the shelf: the entry at which it stands, whether it has let a block in, and how many blocks have ended since the arrival. A block has
+// ended when it was let in or dropped.
 pub struct Pass {
     pub at: usize,
     pub admitted: bool,
     pub ended: usize,
 }
 
-// An answer by which nothing has ended.
+// The answer of an arrival by which no waiting block has ended.
 fn plain(refusal: u8, value: usize) -> Arrival
     ensures { λ r. ⌜ r ≡ record { answer = record { refusal = refusal; value = value }; ended = 0 } ⌝ }
 {
@@ -41,7 +43,8 @@ fn plain(refusal: u8, value: usize) -> Arrival
     }
 }
 
-// Where an arrival got 9: its block waits, unless it does so already or there is no place.
+// Puts the block of an arrival that got 9, the answer `missing`, on the shelf. Refuses with 20 if its bytes wait already, and with 19 if there is no
+// place for it.
 fn shelve(shelf: &mut [u8], campaign: u8, block: &[u8], missing: Answer) -> Answer
     requires { ⌜ Shelvable (now shelf) (now block) ⌝ }
     ensures { λ r. ⌜ r ≡ shelvedAt missing (now (shelf .entry)) campaign (now (block .entry)) .answer ⌝ }
@@ -57,7 +60,7 @@ fn shelve(shelf: &mut [u8], campaign: u8, block: &[u8], missing: Answer) -> Answ
     missing
 }
 
-// Tries the campaign's waiting blocks in passes, until one admits none, and answers how many have ended.
+// Tries the campaign's waiting blocks in passes, until a pass admits none, and answers how many blocks were let in or dropped.
 fn settle(table: &mut [u8], shelf: &mut [u8], campaign: u8, outcomes: &mut [u64]) -> usize
     requires { ⌜ Laid (now shelf) (waitingIn (now shelf)) ⌝ }
     ensures { λ r. ⌜ r ≡ length (outcomesOf (settled sha256 (now (table .entry)) campaign (waitingIn (now (shelf .entry))) .tries)) ⌝ }
@@ -75,9 +78,9 @@ fn settle(table: &mut [u8], shelf: &mut [u8], campaign: u8, outcomes: &mut [u64]
     ended
 }
 
-// A block arrives for a campaign: it is admitted to the campaign's table, or waits on the shelf for a reference that is not held, or is
-// refused. After an admission the campaign's waiting blocks are tried, and the outcomes of those that wait no more are put into the buffer,
-// two numbers for each. A refusal changes nothing but that a block that got 9 waits.
+// A block arrives for a campaign: it is admitted to the campaign's table, or waits on the shelf for a reference that is not held, or is refused.
+// After an admission the campaign's waiting blocks are tried, and for each that is let in or dropped two numbers are put into `outcomes`. A refusal
+// changes nothing, but that a block that gets 9 waits.
 pub fn arrive(
     table: &mut [u8],
     shelf: &mut [u8],

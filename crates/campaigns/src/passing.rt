@@ -1,4 +1,4 @@
-// A pass over what waits.
+// A pass over the blocks that wait on the shelf.
 use crate::Pass;
 use answer::Answer;
 ghost use mathlib.Core.Path.{_≡_};
@@ -10,7 +10,7 @@ ghost use Rattle.shelf.specs.Layout.{waitingIn, shelfBytes};
 ghost use Rattle.campaigns.specs.Passes.{outcome, outcomesOf, admits, pass};
 ghost use Rattle.campaigns.specs.Steps.{Passable, AtEntry, turned};
 
-// The place of a block let in, or the number of one dropped.
+// The outcome of a try: the place of a block that was let in, or the refusal's number, with value 0, of a block that was dropped.
 fn outcome_of(answer: Answer) -> Answer
     ensures { λ r. ⌜ r ≡ outcome answer ⌝ }
 {
@@ -20,7 +20,7 @@ fn outcome_of(answer: Answer) -> Answer
     answer::refused(answer.refusal, 0)
 }
 
-// Tries the block of the entry at which the pass stands, if it is the campaign's. One that is let in or dropped is taken out.
+// Tries the block of the entry at which the pass stands, if it waits for the campaign. A block that is let in or dropped is taken off the shelf.
 fn turn(table: &mut [u8], shelf: &mut [u8], campaign: u8, outcomes: &mut [u64], p: Pass) -> Pass
     requires { ⌜ AtEntry (now shelf) p ⌝ }
     ensures { λ r. ⌜ r ≡ turned sha256 (now (table .entry)) (waitingIn (now (shelf .entry))) (now (outcomes .entry)) campaign p .next ⌝ }
@@ -62,7 +62,7 @@ fn turn(table: &mut [u8], shelf: &mut [u8], campaign: u8, outcomes: &mut [u64], 
     }
 }
 
-// Tries every waiting block of the campaign once, in the order they came.
+// Tries every waiting block of the campaign once, in the order they came. `ended` blocks have been let in or dropped before.
 pub fn pass_over(
     table: &mut [u8],
     shelf: &mut [u8],

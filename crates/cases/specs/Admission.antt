@@ -1,4 +1,4 @@
--- Admission: short runs from a named table, with the answer of each call. The digest is the toy one.
+-- Admission: short runs of calls from a table, with the answer of each call. The digest is the toy one.
 use mathlib.Core.Path.{_≡_}
 use mathlib.Core.Bool.{true}
 use mathlib.Core.List.{[], _∷_, _++_}
@@ -17,14 +17,14 @@ use Rattle.cases.specs.Blocks.{fresh, unlawful, first, fork, second, bot
 -- "checks 2 to 11 in that order": a row for each two neighbours. Of the last two arrivals the first has both causes and gets the earlier
 -- number; in the second only the earlier cause is mended, and it gets the later number.
 pub record OrderCases : Type 0 where
-  -- 2, 3: four bytes, brought to a table of three sites, and to one of four
+  -- 2, 3: four bytes, brought to a table of three sites, then to a table of four
   pub formBeforeShape :
       (answers toy unlawful (good (0 ∷ 0 ∷ 0 ∷ 0 ∷ []) ∷ []) ≡ refused 2 0 ∷ [])
       × (answers toy fresh (good (0 ∷ 0 ∷ 0 ∷ 0 ∷ []) ∷ []) ≡ refused 3 0 ∷ [])
-  -- 3, 4: four bytes of site 4, then five
+  -- 3, 4: four bytes that begin with site 4, then five
   pub shapeBeforeSite :
       answers toy fresh (good (4 ∷ 0 ∷ 0 ∷ 0 ∷ []) ∷ good (4 ∷ 0 ∷ 0 ∷ 0 ∷ 0 ∷ []) ∷ []) ≡ refused 3 0 ∷ refused 4 0 ∷ []
-  -- 4, 5: verdict 0 on a block of site 4, then on one of site 3
+  -- 4, 5: verdict 0 on a block of site 4, then on a block of site 3
   pub siteBeforeVerdict :
       answers toy fresh (judged 0 (block 4 0 [] []) ∷ judged 0 (block 3 0 [] []) ∷ []) ≡ refused 4 0 ∷ refused 5 0 ∷ []
   -- 5, 6: a request for slot 8 with verdict 0, then with verdict 1
@@ -41,11 +41,12 @@ pub record OrderCases : Type 0 where
       ∷ good (block 1 0 (toy first ∷ toy first ∷ []) (request 0 1 ∷ []))
       ∷ [])
       ≡ refused 6 0 ∷ refused 7 1 ∷ []
-  -- 7, 8: one that shares a held block's digest and repeats a reference, then the held block once more
+  -- 7, 8: a block that shares a held block's digest and repeats a reference, then the held block once more
   pub repeatedBeforeHeld :
       answers toy fresh (good first ∷ good fork ∷ good both ∷ good (block 1 0 (toy first ∷ toy first ∷ []) []) ∷ good both ∷ [])
       ≡ placed 0 ∷ placed 1 ∷ placed 2 ∷ refused 7 1 ∷ refused 8 2 ∷ []
-  -- 8, 9: one that shares a held block's digest and refers to one that is not held, then such a one of another site
+  -- 8, 9: a block that shares a held block's digest and refers to a block that is not held, then the same block of another site, whose digest is not
+  -- held
   pub heldBeforeMissing :
       answers toy fresh
       (good first
@@ -55,27 +56,28 @@ pub record OrderCases : Type 0 where
       ∷ good (block 2 0 (toy first ∷ toy stranger ∷ []) [])
       ∷ [])
       ≡ placed 0 ∷ placed 1 ∷ placed 2 ∷ refused 8 2 ∷ refused 9 1 ∷ []
-  -- 9, 10: sequence 2 that refers to a block of sequence 0 and to one that is not held, then to the former alone
+  -- 9, 10: a block of sequence 2 that refers to a block of sequence 0 and to a block that is not held, then to the block of sequence 0 alone
   pub missingBeforeParent :
       answers toy fresh (good first ∷ good (block 0 2 (toy first ∷ toy stranger ∷ []) []) ∷ good (block 0 2 (toy first ∷ []) []) ∷ [])
       ≡ placed 0 ∷ refused 9 1 ∷ refused 10 0 ∷ []
-  -- 10, 11: after the 64th block and one that repeats a held one: sequence 1 without references, then sequence 0
+  -- 10, 11: in a full table, a block of sequence 1 without references, then a block of sequence 0. Before these come the 64th block, and a held block
+  -- again
   pub parentBeforeFull :
       answers toy (holding 63) (good (numbered 63) ∷ good (numbered 5) ∷ good (block 0 1 [] []) ∷ good (block 0 0 [] []) ∷ [])
       ≡ placed 63 ∷ refused 8 5 ∷ refused 10 0 ∷ refused 11 0 ∷ []
-  -- the table written down there is what admissions leave
+  -- the table `holding k`, which is written down at once, is what admissions leave
   pub filling : tableAfter toy fresh (good (numbered 0) ∷ good (numbered 1) ∷ []) ≡ holding 2
 
--- What admission puts in the table.
+-- What admission puts into the table.
 pub record RowCases : Type 0 where
   -- the bytes of the fourth block, field after field
   pub written : fourth ≡ 3 ∷ 0 ∷ 1 ∷ 2 ∷ 3 ∷ (toy third ++ (toy first ++ (5 ∷ 3 ∷ 4 ∷ 5 ∷ 3 ∷ 5 ∷ 7 ∷ 0 ∷ 1 ∷ [])))
-  -- the table of four: its count, and each field at places 0 to 3
+  -- the table `four`: its count, and each field at places 0 to 3
   pub count : countOf four ≡ 4
   pub digests : listBelow (digestAt four) 4 ≡ toy first ∷ toy fork ∷ toy third ∷ toy fourth ∷ []
   pub siteNumbers : listBelow (siteAt four) 4 ≡ 0 ∷ 0 ∷ 3 ∷ 3 ∷ []
   pub sequences : listBelow (sequenceAt four) 4 ≡ 0 ∷ 0 ∷ 0 ∷ 1 ∷ []
-  -- as masks: the third refers to place 1, the fourth to places 0 and 2
+  -- the references as masks: place 2 refers to place 1, and place 3 to places 0 and 2
   pub references : listBelow (referencesAt four) 4 ≡ 0 ∷ 0 ∷ 2 ∷ 5 ∷ []
   pub requestedOnce : listBelow (countedRequestAt four 0) slotCount ≡ 42 ∷ 0 ∷ 0 ∷ 0 ∷ 0 ∷ 0 ∷ 0 ∷ 0 ∷ []
   -- "If a slot is requested twice in a block, the first counts"
@@ -84,17 +86,17 @@ pub record RowCases : Type 0 where
   pub marks : listBelow (markAt four) 4 ≡ 0 ∷ 0 ∷ 0 ∷ 0 ∷ []
   -- "Entries from the count on are zero"
   pub rest : allZero (drop (rowStart 4) four) ≡ true
-  -- both bytes of a sequence number: the parent rule keeps one above 63 out of every table in form, so the row is put without asking
+  -- both bytes of a sequence number. The row is put without admission, as no table in form that has retired nothing has a sequence number above 63
   pub highSequence : sequenceAt (withRow fresh (rowFor toy nothing (block 3 258 [] []))) 0 ≡ 258
 
 -- What is admitted, and the value beside each number.
 pub record ValueCases : Type 0 where
-  -- "A block may refer to other blocks of its own site too": one of sequence 0
+  -- "A block may refer to other blocks of its own site too": a block of sequence 0 does
   pub ownSite : answers toy fresh (good first ∷ good (block 0 0 (toy first ∷ []) []) ∷ []) ≡ placed 0 ∷ placed 1 ∷ []
-  -- and one of sequence 2, beside its parent
+  -- a block of sequence 2 refers to its parent and to another block of its own site
   pub besideParent :
       answers toy fresh (good first ∷ good second ∷ good (block 0 2 (toy first ∷ toy second ∷ []) []) ∷ []) ≡ placed 0 ∷ placed 1 ∷ placed 2 ∷ []
-  -- and of a higher sequence number, or of the same beside its parent
+  -- a block refers to a block of its own site of a higher sequence number; and one to its parent and to a block of its own sequence number
   pub ownLater :
       answers toy fresh
       (good first
@@ -103,12 +105,12 @@ pub record ValueCases : Type 0 where
       ∷ good (block 0 1 (toy first ∷ toy second ∷ []) [])
       ∷ [])
       ≡ placed 0 ∷ placed 1 ∷ placed 2 ∷ placed 3 ∷ []
-  -- a fork that is held and not among the references does not count
+  -- one of two forks is the parent: the other, which is held but not among the references, does not count
   pub oneFork :
       answers toy fresh (good first ∷ good fork ∷ good (block 0 1 (toy fork ∷ []) []) ∷ []) ≡ placed 0 ∷ placed 1 ∷ placed 2 ∷ []
   -- 10: a block of another site is no parent
   pub otherSite : answers toy fresh (good first ∷ good (block 1 1 (toy first ∷ []) []) ∷ []) ≡ placed 0 ∷ refused 10 0 ∷ []
-  -- 10: sequence 256 is taken for neither 0 nor 1
+  -- 10: sequence number 256 is taken for neither 0 nor 1
   pub highByte :
       answers toy fresh (good first ∷ good (block 0 256 [] []) ∷ good (block 0 256 (toy first ∷ []) []) ∷ [])
       ≡ placed 0 ∷ refused 10 0 ∷ refused 10 0 ∷ []

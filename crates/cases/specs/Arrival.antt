@@ -1,5 +1,5 @@
--- The promise of arrival (crates/arrival, specs/Arrival.antt) on five runs. n 4, and owner 0 requests 42 in slot 0. Three runs meet the premises,
--- and 42 is delivered. The other two meet all of them but one, and nothing is delivered. The digest is the toy one.
+-- The promise of arrival (crates/arrival, specs/Arrival.antt) on five runs. n 4, and owner 0 requests 42 in slot 0. Three runs meet the premises, and
+-- 42 is delivered. The other two runs meet all premises but one, and nothing is delivered. The digest is the toy one.
 use mathlib.Core.Path.{_≡_}
 use mathlib.Core.Bool.{Bool, true, false, cond}
 use mathlib.Core.List.{List, [], _∷_, _++_, map}
@@ -26,11 +26,12 @@ use Rattle.cases.specs.Starred.{thirteen}
 
 -- ---- blocks
 
--- site 3's fork: a branch for each number
+-- site 3's first blocks, one for each number: any two are a fork
 unfoldable pub branch : ℕ → Bytes
 branch v = block 3 0 [] (request 1 v ∷ [])
 
--- the other sites beside that fork, from the first block's request to delivery. Site 2 refers to a branch, and the others need not
+-- blocks of sites 0 to 2 beside site 3's fork, from the first block's request to delivery. Site 2 refers to a block of the fork, and the others need
+-- not
 unfoldable pub echoingBeside : ℕ → Bytes
 echoingBeside p = cond (eqb p 2) (block 2 0 (toy first ∷ toy (branch 1) ∷ []) []) (echoing p)
 
@@ -40,14 +41,14 @@ readyingBeside p = block p (later p 1) (map (λ q. toy (echoingBeside q)) threeS
 unfoldable pub deliveringBeside : ℕ → Bytes
 deliveringBeside p = block p (later p 2) (map (λ q. toy (readyingBeside q)) threeSites) []
 
--- the owner's first block requests nothing, and its next one 42
+-- the owner's first block requests nothing, and its next block 42
 unfoldable pub quiet : Bytes
 quiet = block 0 0 [] []
 
 unfoldable pub askingBlock : Bytes
 askingBlock = block 0 1 (toy quiet ∷ []) (request 0 42 ∷ [])
 
--- the three other sites go on from there
+-- the three other sites, and their blocks that hear SEND, and that hear three ECHOs
 abbrev pub otherSites : List ℕ
 otherSites = 1 ∷ 2 ∷ 3 ∷ []
 
@@ -57,22 +58,22 @@ echoingAfter p = block p 0 (toy quiet ∷ toy askingBlock ∷ []) []
 unfoldable pub readyingAfter : ℕ → Bytes
 readyingAfter p = block p 1 (map (λ q. toy (echoingAfter q)) otherSites) []
 
--- and the owner, which refers to all of their blocks and requests 43
+-- the owner's third block, which refers to all of these blocks and requests 43
 unfoldable pub askingAgain : Bytes
 askingAgain =
     block 0 2 (toy askingBlock ∷ (map (λ q. toy (echoingAfter q)) otherSites ++ map (λ q. toy (readyingAfter q)) otherSites)) (request 0 43 ∷ [])
 
--- one site fewer than n - f
+-- a set of one site fewer than n - f
 abbrev pub twoSites : List ℕ
 twoSites = 0 ∷ 1 ∷ []
 
--- site 3's only block refers to one block: it is above all others, and hears no message
+-- site 3's only block, which refers to one block: it is above all others, but hears no message
 unfoldable pub newcomer : Bytes
 newcomer = block 3 0 (toy (delivering threeSites 0) ∷ []) []
 
 -- ---- what is said of a run
 
--- the premises but two: how many sites the set has, and that the last block's site is full
+-- all premises but two: how many sites the set has, and that the last block's site is full
 pub record AllButTwo (blocks : List Bytes) (A : Bytes) (set : ℕ → Bool) (last : Bytes) : Type 0 where
   pub ownerFull : Full toy blocks 0
   pub isFirst : FirstRequest (sites 4) blocks 0 42 A
@@ -86,7 +87,7 @@ module _ (steps : List Step) where
   abbrev pub site : Site
   site = siteLeft (sites 4) (arriving 0 steps)
 
-  -- its last block, and the place of that block
+  -- the last block of the run, and its place
   module _ (last : Bytes) (place : ℕ) where
     -- each block is interpreted and makes what its step says
     pub record Run : Type 0 where
@@ -151,7 +152,8 @@ pub record ArrivalCases : Type 0 where
       ∷ deliveringBeside 1 making delivers 42
       ∷ [])
       (deliveringBeside 1) 9 first (λ p. ltb p 3) (false ∷ false ∷ false ∷ true ∷ [])
-  -- sites 1, 2 and 3 are the set: the owner, outside it, has the last block too; its request is in its second block, and another one comes later
+  -- sites 1, 2 and 3 are the set. The owner, which is not in it, has the last block; its request is in its second block, and another request comes
+  -- later
   pub ownerOutside : Arrives
       (quiet making none
       ∷ askingBlock making sends 42
@@ -164,7 +166,7 @@ pub record ArrivalCases : Type 0 where
       ∷ askingAgain making withEcho 42 (readiesAndDelivers 42)
       ∷ [])
       askingAgain 8 askingBlock (λ p. ltb 0 p) (false ∷ false ∷ false ∷ false ∷ [])
-  -- sites 0 and 1 are the set: their two ECHOs are no quorum
+  -- sites 0 and 1 are the set, and their two ECHOs are no quorum
   pub oneSiteFewer : OneSiteFewer
       (first making sends 42
       ∷ echoing 0 making echoes 42
@@ -174,7 +176,7 @@ pub record ArrivalCases : Type 0 where
       ∷ delivering twoSites 1 making none
       ∷ [])
       (delivering twoSites 1) 5 first (λ p. ltb p 2)
-  -- sites 0, 1 and 2 are the set: site 0 delivers, and site 3, above them all, does not
+  -- sites 0, 1 and 2 are the set: site 0 delivers, and site 3, whose block is above all others, does not
   pub lastNotFull : LastNotFull
       (first making sends 42
       ∷ echoing 0 making echoes 42

@@ -1,5 +1,5 @@
--- Request Three: arrivals, the order of their checks, and what waits, is let in or is dropped. Rows about the first checks are over the bytes of a
--- shelf, most others over what waits. The digest is the toy one.
+-- Request Three: arrivals, the order of their checks, and which blocks wait, are let in or are dropped. Rows about the first checks are over the
+-- bytes of a shelf, most others over the list of what waits. The digest is the toy one.
 use mathlib.Core.Path.{_≡_}
 use mathlib.Core.List.{List, [], _∷_, _++_, map}
 use Prim.Native.Nat.{ℕ, _+_, _-_}
@@ -28,21 +28,21 @@ use Rattle.cases.specs.Shelf.{_for_, lackingReference, longest, sharing,
 unfoldable pub beside : ℕ → Bytes
 beside p = block p 0 (toy (chained 0) ∷ []) []
 
--- one of site 1 that refers to a block that never arrives, too
+-- a block of site 1 that refers to the chain's first block and to a block that never arrives
 unfoldable pub partly : Bytes
 partly = block 1 0 (toy (chained 0) ∷ toy stranger ∷ []) []
 
--- blocks of sequence 2 that refer to one of sequence 0 and so have no parent. They differ in the number requested
+-- blocks of sequence 2 that refer to a block of sequence 0 and so have no parent; they differ in the number requested
 unfoldable pub orphan : ℕ → Bytes
 orphan i = block 0 2 (toy (chained 0) ∷ []) (request 0 (i + 1) ∷ [])
 
--- one that refers to the last of 64
+-- a block that refers to the last of the 64 blocks of a full table
 unfoldable pub afterLast : Bytes
 afterLast = block 1 0 (toy (numbered 63) ∷ []) []
 
 -- ---- tables, shelves and what is left
 
--- the table that holds these blocks, and the one that holds the first k of the chain
+-- the table that holds these blocks, and the table that holds the first k blocks of the chain
 unfoldable pub tableOf : List Bytes → Bytes
 tableOf bs = tableAfter toy fresh (map good bs)
 
@@ -53,32 +53,32 @@ chainBlock k = tableOf (listBelow chained k)
 unfoldable pub damaged : Bytes
 damaged = changed emptyShelf (shelfSize - 1) 1
 
--- b arrives for campaign c, where ws wait
+-- what the arrival of block b for campaign c leaves, where ws wait
 abbrev pub arrives : Bytes → List Waiting → ℕ → Bytes → ℕ → Arrived
 arrives t ws c b verdict = arrived toy (hasPlace c ws) t ws c b verdict
 
--- the answer, the table and what waits afterwards, and the tries
+-- what an arrival leaves: the answer, the table and what waits afterwards, and the tries
 abbrev pub leaving : Answer → Bytes → List Waiting → List Try → Arrived
 leaving a t ws ys = record { answer = a; table = t; waiting = ws; tries = ys }
 
--- the same over a shelf's bytes
+-- what a call leaves: the answer, the table and the shelf's bytes afterwards, and the tries
 abbrev pub calling : Answer → Bytes → Bytes → List Try → Called
 calling a t s ys = record { answer = a; table = t; shelf = s; tries = ys }
 
--- a waiting block was tried and got this answer
+-- a try: the waiting block b got this answer
 infix 70 _getting_
 abbrev pub _getting_ : Bytes → Answer → Try
 b getting a = record { block = b; answer = a }
 
--- 9: reference not held, with the index of the first such
+-- 9: reference not held, with the index of the first such reference
 abbrev pub lacks : ℕ → Answer
 lacks index = refused 9 index
 
--- what waits when the chain's first block arrives: two are then let in, one is dropped, and two wait on
+-- a list of what waits: when the chain's first block arrives, two of these blocks are let in, one is dropped, and two wait on
 abbrev pub mixture : List Waiting
 mixture = partly for 0 ∷ chained 2 for 0 ∷ orphan 0 for 0 ∷ lackingReference 0 for 0 ∷ chained 1 for 0 ∷ []
 
--- a full shelf, on which b is the first
+-- a list of 16 that wait, of which b is the first
 abbrev pub fullWith : Bytes → List Waiting
 fullWith b = b for 0 ∷ sharing 2 2 5 6
 
@@ -90,23 +90,23 @@ noBlock = 0 ∷ 0 ∷ 0 ∷ 0 ∷ []
 -- The checks of an arrival: 21, 17, 2, then admission's. A row for each two neighbours. The first call has both causes and gets the earlier number;
 -- in the second only the earlier cause is mended, and it gets the later number. No refusal here changes anything.
 pub record ArrivalOrderCases : Type 0 where
-  -- "21, campaign above 3, checked first": nothing else is right
+  -- "21, campaign above 3, checked first": every later check fails too
   pub twentyOneFirst : arrival toy [] [] 4 [] 0 0 ≡ calling (refused 21 0) [] [] []
-  -- 21, 17: campaign 4 with room for 19 numbers, then campaign 3
+  -- 21, 17: room for 19 numbers, for campaign 4, then for campaign 3
   pub campaignBeforeRoom :
       (arrival toy fresh emptyShelf 4 (chained 0) 1 19 ≡ calling (refused 21 0) fresh emptyShelf [])
       × (arrival toy fresh emptyShelf 3 (chained 0) 1 19 ≡ calling (refused 17 20) fresh emptyShelf [])
-  -- 17, 2: a shelf that is not in form and room for 19 numbers, then for 20
+  -- 17, 2: a shelf that is not in form, with room for 19 numbers, then for 20
   pub roomBeforeShelf :
       (arrival toy fresh damaged 0 (chained 0) 1 19 ≡ calling (refused 17 20) fresh damaged [])
       × (arrival toy fresh damaged 0 (chained 0) 1 20 ≡ calling (refused 2 0) fresh damaged [])
-  -- 2, 3: four bytes and a shelf that is not in form, then one that is
+  -- 2, 3: four bytes, with a shelf that is not in form, then with a shelf that is
   pub shelfBeforeBlock :
       (arrival toy fresh damaged 0 noBlock 1 20 ≡ calling (refused 2 0) fresh damaged [])
       × (arrival toy fresh emptyShelf 0 noBlock 1 20 ≡ calling (refused 3 0) fresh emptyShelf [])
-  -- 2, 3: four bytes and a table that is not in form; one that is stands above
+  -- 2, 3: four bytes, with a table that is not in form; with a table that is, the row above has 3
   pub tableBeforeBlock : arrival toy unlawful emptyShelf 0 noBlock 1 20 ≡ calling (refused 2 0) unlawful emptyShelf []
-  -- campaign 3 and 20 numbers are enough, and so are more
+  -- room for 20 numbers is enough, and so is room for more
   pub enoughRoom : arrival toy fresh emptyShelf 3 (chained 0) 1 20 ≡ calling (placed 0) (chainBlock 1) emptyShelf []
   pub moreRoom : arrival toy fresh emptyShelf 0 (chained 0) 1 21 ≡ calling (placed 0) (chainBlock 1) emptyShelf []
 
@@ -116,7 +116,7 @@ pub record MissingCases : Type 0 where
   pub waitsBehind :
       arrives (chainBlock 1) (sharing 1 1 0 0) 0 partly 1
       ≡ leaving (lacks 1) (chainBlock 1) (lackingReference 0 for 0 ∷ lackingReference 0 for 1 ∷ partly for 0 ∷ []) []
-  -- the same over the shelf's bytes
+  -- over the shelf's bytes: an arrival that is answered 9 waits behind all others
   pub waitsInBytes :
       arrival toy (chainBlock 1) ofThree 1 partly 1 20
       ≡ calling (lacks 1) (chainBlock 1) (shelfBytes (lackingReference 0 for 0 ∷ lackingReference 0 for 3 ∷ longest for 0 ∷ partly for 1 ∷ [])) []
@@ -125,11 +125,12 @@ pub record MissingCases : Type 0 where
       arrives (chainBlock 1) (lackingReference 0 for 0 ∷ partly for 0 ∷ []) 0 partly 1
       ≡ leaving (refused 20 0) (chainBlock 1) (lackingReference 0 for 0 ∷ partly for 0 ∷ []) []
   pub waitsAlreadyInBytes : arrival toy fresh ofThree 3 (lackingReference 0) 1 20 ≡ calling (refused 20 0) fresh ofThree []
-  -- they wait for another campaign alone
+  -- the block's bytes wait for another campaign alone: it is answered 9 and waits
   pub waitsForAnother :
       arrives (chainBlock 1) (lackingReference 0 for 0 ∷ partly for 1 ∷ []) 0 partly 1
       ≡ leaving (lacks 1) (chainBlock 1) (lackingReference 0 for 0 ∷ partly for 1 ∷ partly for 0 ∷ []) []
-  -- "else 19, no place by the shelf rule", with 0 beside it: 10 are held; no place is free; those that are free are lacked by another
+  -- "else 19, no place by the shelf rule", with 0 beside it: the campaign holds 10 places; no place is free; the free places are what another
+  -- campaign lacks of its 2
   pub noEleventh :
       arrives (chainBlock 1) (sharing 10 0 0 0) 0 partly 1
       ≡ leaving (refused 19 0) (chainBlock 1) (sharing 10 0 0 0) []
@@ -139,40 +140,40 @@ pub record MissingCases : Type 0 where
   pub lackedByAnother :
       arrives (chainBlock 1) (sharing 6 0 2 6) 0 partly 1
       ≡ leaving (refused 19 0) (chainBlock 1) (sharing 6 0 2 6) []
-  -- on the same shelf that other one, which holds fewer than 2, gets 9
+  -- on that shelf a block of the campaign that holds fewer than 2 places gets 9
   pub belowTwo :
       arrives (chainBlock 1) (sharing 6 0 2 6) 1 partly 1
       ≡ leaving (lacks 1) (chainBlock 1) (sharing 6 0 2 6 ++ (partly for 1 ∷ [])) []
-  -- both over the shelf's bytes
+  -- over the shelf's bytes: 19, and 9 for the campaign that holds fewer than 2 places
   pub ruleInBytes :
       (arrival toy (chainBlock 1) (shelfBytes (sharing 6 0 2 6)) 3 partly 1 20 ≡ calling (refused 19 0) (chainBlock 1) (shelfBytes (sharing 6 0 2 6)) [])
       × (arrival toy (chainBlock 1) (shelfBytes (sharing 6 0 2 6)) 1 partly 1 20
       ≡ calling (lacks 1) (chainBlock 1) (shelfBytes (sharing 6 0 2 6 ++ (partly for 1 ∷ []))) [])
-  -- 20, 19: its bytes wait for the campaign and no place is free
+  -- 20, 19: the block's bytes wait for the campaign, and no place is free
   pub sameBeforeNoPlace :
       arrives (chainBlock 1) (sharing 5 2 2 6 ++ (partly for 0 ∷ [])) 0 partly 1
       ≡ leaving (refused 20 0) (chainBlock 1) (sharing 5 2 2 6 ++ (partly for 0 ∷ [])) []
-  -- 5, 9: with verdict 0 nothing waits
+  -- 5, 9: a block with verdict 0 does not wait
   pub verdictBefore :
       arrives (chainBlock 1) [] 0 partly 0 ≡ leaving (refused 5 0) (chainBlock 1) [] []
-  -- 5 although its bytes wait, and although no place is free
+  -- 5, 20, 19: with verdict 0 a block gets 5, though its bytes wait and no place is free
   pub verdictBeforeSame :
       arrives fresh (sharing 10 2 2 2) 0 (lackingReference 0) 0 ≡ leaving (refused 5 0) fresh (sharing 10 2 2 2) []
-  -- 8, 9: a held block has its digest
+  -- 8, 9: a held block has the digest of the block that arrives
   pub heldBefore :
       arrives (tableOf (chained 0 ∷ fork ∷ block 1 0 (toy (chained 0) ∷ toy fork ∷ []) [] ∷ [])) [] 0 partly 1
       ≡ leaving (refused 8 2) (tableOf (chained 0 ∷ fork ∷ block 1 0 (toy (chained 0) ∷ toy fork ∷ []) [] ∷ [])) [] []
-  -- 9, 11: it waits though the table is full
+  -- 9, 11: a block waits though the table is full
   pub fullTable : arrives (holding 64) [] 0 (lackingReference 0) 1 ≡ leaving (lacks 0) (holding 64) (lackingReference 0 for 0 ∷ []) []
 
 -- "After each admission of an arrival the campaign's waiting blocks are tried in passes, in the order they came, until a pass admits none; one refused
 -- by another number than 9 is dropped".
 pub record PassCases : Type 0 where
-  -- one is let in
+  -- one block is let in
   pub oneLetIn :
       arrives fresh (chained 1 for 0 ∷ []) 0 (chained 0) 1
       ≡ leaving (placed 0) (chainBlock 2) [] (chained 1 getting placed 1 ∷ [])
-  -- a chain that waits in its order behind one that waits on: each is let in by the one before it, in the same pass
+  -- a chain waits in its order, behind a block that waits on: each block of the chain is let in after the one before it, in the same pass
   pub chainInOrder :
       arrives fresh (lackingReference 0 for 0 ∷ chained 1 for 0 ∷ chained 2 for 0 ∷ chained 3 for 0 ∷ []) 0 (chained 0) 1
       ≡ leaving (placed 0) (chainBlock 4) (lackingReference 0 for 0 ∷ [])
@@ -182,7 +183,7 @@ pub record PassCases : Type 0 where
       ∷ chained 3 getting placed 3
       ∷ lackingReference 0 getting lacks 0
       ∷ [])
-  -- one that came in reverse order: three passes let one in each
+  -- a chain waits in reverse order: three passes let in one block each
   pub chainReversed :
       arrives fresh (chained 3 for 0 ∷ chained 2 for 0 ∷ chained 1 for 0 ∷ []) 0 (chained 0) 1
       ≡ leaving (placed 0) (chainBlock 4) []
@@ -193,27 +194,27 @@ pub record PassCases : Type 0 where
       ∷ chained 2 getting placed 2
       ∷ chained 3 getting placed 3
       ∷ [])
-  -- "in the order they came", whatever their sites: the oldest has the lowest place
+  -- "in the order they came", whatever their sites are: the block that came first gets the lowest place
   pub oldestFirst :
       arrives fresh (beside 2 for 0 ∷ beside 3 for 0 ∷ beside 1 for 0 ∷ []) 0 (chained 0) 1
       ≡ leaving (placed 0) (tableOf (chained 0 ∷ beside 2 ∷ beside 3 ∷ beside 1 ∷ [])) []
       (beside 2 getting placed 1 ∷ beside 3 getting placed 2 ∷ beside 1 getting placed 3 ∷ [])
-  -- a pass that lets one in is followed by another, also if none is let in by that
+  -- a pass that lets a block in is followed by another pass, also if that one lets none in
   pub oneMorePass :
       arrives fresh (lackingReference 0 for 0 ∷ chained 1 for 0 ∷ []) 0 (chained 0) 1
       ≡ leaving (placed 0) (chainBlock 2) (lackingReference 0 for 0 ∷ [])
       (lackingReference 0 getting lacks 0 ∷ chained 1 getting placed 1 ∷ lackingReference 0 getting lacks 0 ∷ [])
-  -- one that only drops is the last
+  -- a pass that only drops blocks is the last
   pub onlyDrops :
       arrives fresh (lackingReference 0 for 0 ∷ orphan 0 for 0 ∷ []) 0 (chained 0) 1
       ≡ leaving (placed 0) (chainBlock 1) (lackingReference 0 for 0 ∷ [])
       (lackingReference 0 getting lacks 0 ∷ orphan 0 getting refused 10 0 ∷ [])
-  -- and so is one that does neither
+  -- a pass that neither lets a block in nor drops one is the last
   pub nothingEnds :
       arrives fresh (lackingReference 0 for 0 ∷ partly for 0 ∷ []) 0 (chained 0) 1
       ≡ leaving (placed 0) (chainBlock 1) (lackingReference 0 for 0 ∷ partly for 0 ∷ [])
       (lackingReference 0 getting lacks 0 ∷ partly getting lacks 1 ∷ [])
-  -- one dropped is not tried again, and what waits on keeps its order
+  -- a block that was dropped is not tried again, and what waits on keeps its order
   pub mixedPasses :
       arrives fresh mixture 0 (chained 0) 1
       ≡ leaving (placed 0) (chainBlock 3) (partly for 0 ∷ lackingReference 0 for 0 ∷ [])
@@ -228,35 +229,35 @@ pub record PassCases : Type 0 where
       ∷ partly getting lacks 1
       ∷ lackingReference 0 getting lacks 0
       ∷ [])
-  -- dropped by 8: the block could have been admitted, and then it arrived once more
+  -- dropped by 8: the block waits though it could be admitted, arrives once more, and is admitted
   pub droppedBy8 :
       arrives (chainBlock 1) (chained 1 for 0 ∷ []) 0 (chained 1) 1
       ≡ leaving (placed 1) (chainBlock 2) [] (chained 1 getting refused 8 1 ∷ [])
-  -- by 10: it has no parent
+  -- dropped by 10: the block has no parent
   pub droppedBy10 :
       arrives fresh (orphan 0 for 0 ∷ []) 0 (chained 0) 1 ≡ leaving (placed 0) (chainBlock 1) [] (orphan 0 getting refused 10 0 ∷ [])
-  -- by 11: 64 blocks are held, and with the last of them it lacks nothing
+  -- dropped by 11: the block refers to the 64th block, with which the table is full
   pub droppedBy11 :
       arrives (holding 63) (afterLast for 0 ∷ []) 0 (numbered 63) 1 ≡ leaving (placed 63) (holding 64) [] (afterLast getting refused 11 0 ∷ [])
-  -- by 4: no arrival leaves such a block on the shelf, but the form of a shelf does not ask for its site
+  -- dropped by 4: no arrival leaves a block of site 4 on the shelf, but the form of a shelf does not ask for the site
   pub droppedBy4 :
       arrives fresh (beside 4 for 0 ∷ []) 0 (chained 0) 1 ≡ leaving (placed 0) (chainBlock 1) [] (beside 4 getting refused 4 0 ∷ [])
-  -- what waits for other campaigns is not tried, and stays in its order, though the reference is the same
+  -- blocks that wait for other campaigns are not tried, and stay in their order, though they have the same bytes
   pub otherCampaigns :
       arrives fresh (chained 1 for 1 ∷ chained 1 for 0 ∷ chained 1 for 3 ∷ []) 0 (chained 0) 1
       ≡ leaving (placed 0) (chainBlock 2) (chained 1 for 1 ∷ chained 1 for 3 ∷ []) (chained 1 getting placed 1 ∷ [])
-  -- after a refusal none is tried, though it could be admitted: 8, and 9
+  -- after a refusal no waiting block is tried, though one could be admitted: the refusal is 8, and 9
   pub afterRefusal :
       arrives (chainBlock 1) (chained 1 for 0 ∷ []) 0 (chained 0) 1
       ≡ leaving (refused 8 0) (chainBlock 1) (chained 1 for 0 ∷ []) []
   pub afterMissing :
       arrives (chainBlock 1) (chained 1 for 0 ∷ []) 0 partly 1
       ≡ leaving (lacks 1) (chainBlock 1) (chained 1 for 0 ∷ partly for 0 ∷ []) []
-  -- after an admission it is, also if it does not refer to the block admitted
+  -- after an admission a waiting block is tried, also if it does not refer to the block that was admitted
   pub afterAnother :
       arrives (chainBlock 1) (chained 1 for 0 ∷ []) 0 fork 1
       ≡ leaving (placed 1) (tableOf (chained 0 ∷ fork ∷ chained 1 ∷ [])) [] (chained 1 getting placed 2 ∷ [])
-  -- over the shelf's bytes, for campaign 2
+  -- over the shelf's bytes, an arrival for campaign 2: two blocks are let in, one waits on, and what waits for another campaign stays
   pub passesInBytes :
       arrival toy fresh (shelfBytes (lackingReference 0 for 0 ∷ chained 2 for 2 ∷ chained 1 for 2 ∷ partly for 2 ∷ [])) 2 (chained 0) 1 20
       ≡ calling (placed 0) (chainBlock 3) (shelfBytes (lackingReference 0 for 0 ∷ partly for 2 ∷ []))
@@ -267,29 +268,29 @@ pub record PassCases : Type 0 where
       ∷ partly getting lacks 1
       ∷ partly getting lacks 1
       ∷ [])
-  -- a refusal of admission's leaves the shelf's bytes
+  -- over the shelf's bytes: a refusal by admission leaves them
   pub refusedInBytes :
       arrival toy (chainBlock 1) ofThree 0 (chained 0) 1 20 ≡ calling (refused 8 0) (chainBlock 1) ofThree []
 
 -- "The answer lists, in the order tried, the place of each block let in and the number of each dropped".
 pub record OutcomeCases : Type 0 where
-  -- one dropped stands before those let in after it, and those that wait on are not listed
+  -- a block that was dropped is listed before the blocks that were let in after it, and blocks that wait on are not listed
   pub outcomesListed : outcomesOf (arrives fresh mixture 0 (chained 0) 1 .tries) ≡ refused 10 0 ∷ success 1 ∷ success 2 ∷ []
-  -- beside the number of one dropped is 0: 8 has a place otherwise
+  -- beside the number of a block that was dropped stands 0, also beside 8, which has a place as its value otherwise
   pub numberAlone : outcomesOf (chained 1 getting refused 8 1 ∷ []) ≡ refused 8 0 ∷ []
-  -- all 10 that a campaign may hold end
+  -- all 10 blocks that a campaign may have waiting are dropped
   pub tenOutcomes :
       outcomesOf (arrives fresh (listBelow (λ i. orphan i for 0) 10 ++ (orphan 0 for 1 ∷ [])) 0 (chained 0) 1 .tries) ≡ replicate 10 (refused 10 0)
-  -- in the buffer two numbers for each, and the others stay
+  -- the buffer gets two numbers for each outcome, and its other numbers stay
   pub outcomesInBuffer : putAnswers (replicate 20 7) 0 (outcomesOf (arrives fresh mixture 0 (chained 0) 1 .tries)) ≡ 10 ∷ 0 ∷ 0 ∷ 1 ∷ 0 ∷ 2 ∷ replicate 14 7
 
 -- What an arrival leaves to the next.
 pub record ArrivalLeftCases : Type 0 where
-  -- what waits on for the campaign gets 9 from the table as it is, each with its index
+  -- each block that waits on for the campaign gets 9 from the table that is left, with the index of its missing reference
   pub stillLacking :
       map (λ w. admission toy (arrives fresh mixture 0 (chained 0) 1 .table) (w .block) 1) (arrives fresh mixture 0 (chained 0) 1 .waiting)
       ≡ lacks 1 ∷ lacks 0 ∷ []
-  -- "A place is free again once its block is let in or dropped": no campaign has a further place, and then all have
+  -- "A place is free again once its block is let in or dropped": no campaign gets a further place, and afterwards all do
   pub freeByLettingIn :
       (takers (fullWith (chained 1)) ≡ noneOfThem)
       × (takers (arrives fresh (fullWith (chained 1)) 0 (chained 0) 1 .waiting) ≡ allOfThem)

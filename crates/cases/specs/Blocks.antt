@@ -10,17 +10,17 @@ use Rattle.admission.specs.Admission.{rowFor}
 use Rattle.cases.specs.Toy.{toy, request, block}
 use Rattle.cases.specs.Run.{good, tableAfter}
 
--- ---- tables that hold nothing
+-- ---- setups and tables that hold no block
 
--- n sites, and every slot owned by site 0
+-- the setup of n sites in which site 0 owns every slot
 abbrev pub sites : ℕ → Setup
 sites n = record { sites = n; owners = replicate slotCount 0 }
 
--- n 4, owner 0
+-- the empty table of n 4, owner 0
 unfoldable pub fresh : Bytes
 fresh = emptyTable (sites 4)
 
--- n 3: not in form, for its setup is not lawful
+-- an empty table of n 3: not in form, since its setup is not lawful
 unfoldable pub unlawful : Bytes
 unlawful = emptyTable (sites 3)
 
@@ -33,7 +33,7 @@ first = block 0 0 [] (request 0 42 ∷ [])
 unfoldable pub fork : Bytes
 fork = block 0 0 [] (request 0 43 ∷ [])
 
--- the block after the first
+-- site 0's block after the first
 unfoldable pub second : Bytes
 second = block 0 1 (toy first ∷ []) []
 
@@ -49,11 +49,11 @@ stranger = block 3 0 [] (request 0 99 ∷ [])
 unfoldable pub third : Bytes
 third = block 3 0 (toy fork ∷ []) []
 
--- the one after it refers to it and to the first, and requests slot 5 twice
+-- site 3's next block, which refers to its third and to the first, and requests slot 5 twice
 unfoldable pub fourth : Bytes
 fourth = block 3 1 (toy third ∷ toy first ∷ []) (request 5 772 ∷ request 5 773 ∷ request 7 1 ∷ [])
 
--- blocks that differ in the number requested
+-- blocks of site 0 and sequence 0 that differ in the number requested
 unfoldable pub numbered : ℕ → Bytes
 numbered i = block 0 0 [] (request 0 (i + 1) ∷ [])
 
@@ -64,31 +64,31 @@ unfoldable pub later : ℕ → ℕ → ℕ
 later zero k = suc k
 later (suc p) k = k
 
--- the sites that take part in a setup of four
+-- the sites that take part in a campaign of four: three of them, and all
 abbrev pub threeSites : List ℕ
 threeSites = 0 ∷ 1 ∷ 2 ∷ []
 
 abbrev pub fourSites : List ℕ
 fourSites = 0 ∷ 1 ∷ 2 ∷ 3 ∷ []
 
--- the block of a site that refers to the first and hears its SEND
+-- the block of site p that refers to the first and hears its SEND
 unfoldable pub echoing : ℕ → Bytes
 echoing p = block p (later p 0) (toy first ∷ []) []
 
--- the block of a site that refers to such blocks of these sites and hears their ECHOs
+-- the block of site p that refers to the `echoing` blocks of these sites and hears their ECHOs
 unfoldable pub readying : List ℕ → ℕ → Bytes
 readying voters p = block p (later p 1) (map (λ q. toy (echoing q)) voters) []
 
--- the block of a site that refers to those again and hears their READYs
+-- the block of site p that refers to the `readying` blocks of these sites and hears their READYs
 unfoldable pub delivering : List ℕ → ℕ → Bytes
 delivering voters p = block p (later p 2) (map (λ q. toy (readying voters q)) voters) []
 
--- ---- tables that hold some
+-- ---- tables that hold blocks
 
--- places 0 to 3
+-- a table that holds four blocks, at places 0 to 3
 unfoldable pub four : Bytes
 four = tableAfter toy fresh (good first ∷ good fork ∷ good third ∷ good fourth ∷ [])
 
--- the first k of the numbered blocks, written down at once: 64 admissions one after the other would be slow to evaluate
+-- a table that holds the first k of the numbered blocks, written down at once: 64 admissions one after the other would be slow to evaluate
 unfoldable pub holding : ℕ → Bytes
 holding k = layout (sites 4) (record { retired = 0; held = k; row = λ i. rowFor toy nothing (numbered i) })

@@ -19,11 +19,11 @@ use Rattle.cases.specs.Blocks.{sites, fresh, unlawful, first, fork, thir
 use Rattle.cases.specs.Form.{changed, referring}
 use Rattle.cases.specs.Watch.{interpretedRow}
 
--- the bytes of a request
+-- the bytes of a request of a number up to 255
 abbrev pub requestWritten : ℕ → ℕ → Bytes
 requestWritten slot number = slot ∷ 0 ∷ number ∷ []
 
--- an output of so many bytes
+-- an output of `size` bytes
 abbrev pub room : ℕ → Bytes
 room size = replicate size 9
 
@@ -31,8 +31,8 @@ room size = replicate size 9
 abbrev pub numberedTo : ℕ → ℕ → Bytes
 numberedTo k sequence = layout (sites 4) (record { retired = 1; held = k; row = λ i. interpretedRow i 0 sequence (λ j. false) })
 
--- such a table: a block of site 1, one of site 2 that refers to it, one of site 3 that refers to this one; and site 3's first block, which was
--- retired and is admitted again
+-- a table that has retired something: it holds a block of site 1, a block of site 2 that refers to it, a block of site 3 that refers to site 2's; and
+-- site 3's first block, which was retired and is admitted again
 unfoldable pub returnedRow : ℕ → Row
 returnedRow zero = interpretedRow 0 1 0 (λ j. false)
 returnedRow (suc zero) = interpretedRow 1 2 0 (λ j. eqb j 0)
@@ -45,20 +45,20 @@ returned = layout (sites 4) (record { retired = 1; held = 4; row = returnedRow }
 -- "Checks 2, 4, 3, 6, 16, 17", and 30 "straight after 16": a row for each two neighbours. Of the two calls the first has both causes and gets
 -- the earlier number; in the second only the earlier cause is mended, and it gets the later number.
 pub record BuildingOrderCases : Type 0 where
-  -- 2, 4: site 4, on a table of three sites, and on one of four
+  -- 2, 4: site 4, on a table of three sites, then on a table of four
   pub formBeforeSite : (building unlawful 4 [] [] ≡ refused 2 0) × (building fresh 4 [] [] ≡ refused 4 0)
-  -- 4, 3: a list of one byte
+  -- 4, 3: a request list of one byte, for site 4, then for site 3
   pub siteBeforeList : (building fresh 4 (0 ∷ []) [] ≡ refused 4 0) × (building fresh 3 (0 ∷ []) [] ≡ refused 3 0)
-  -- 3, 6: a request of slot 8 and a byte more, then without it
+  -- 3, 6: a request of slot 8 and a byte more, then without that byte
   pub listBeforeRequest : (building fresh 3 (requestWritten 8 1 ++ (0 ∷ [])) [] ≡ refused 3 0) × (building fresh 3 (requestWritten 8 1) [] ≡ refused 6 0)
-  -- 6, 16: a second request of number 0 by a site that forked, then of number 1
+  -- 6, 16: a site that forked, with a second request of number 0, then of number 1
   pub requestBeforeFork :
       (building four 0 (requestWritten 0 1 ++ requestWritten 1 0) [] ≡ refused 6 1) × (building four 0 (requestWritten 0 1 ++ requestWritten 1 1) [] ≡ refused 16 0)
-  -- 16, 17: no output, by a site that forked, then by one that did not
+  -- 16, 17: an output of no bytes, for a site that forked, then for a site that did not
   pub forkBeforeOutput : (building four 0 [] [] ≡ refused 16 0) × (building four 3 [] [] ≡ refused 17 (blockSize 1 0))
   -- 16, 30: two blocks of sequence number 65,535, then one
   pub forkBeforeEnd : (building (numberedTo 2 65535) 0 [] [] ≡ refused 16 0) × (building (numberedTo 1 65535) 0 [] [] ≡ refused 30 0)
-  -- 30, 17: no output, after 65,535, then after 65,534
+  -- 30, 17: an output of no bytes, after a block of sequence number 65,535, then after one of 65,534
   pub endBeforeOutput : (building (numberedTo 1 65535) 0 [] [] ≡ refused 30 0) × (building (numberedTo 1 65534) 0 [] [] ≡ refused 17 (blockSize 1 0))
 
 pub record BuildingCases : Type 0 where
@@ -66,30 +66,30 @@ pub record BuildingCases : Type 0 where
   pub lastSequence : built (numberedTo 1 65534) 0 [] (room 37) ≡ block 0 65535 (toy (numbered 0) ∷ []) []
   pub pastLast : building (numberedTo 1 65535) 0 [] (room 37) ≡ refused 30 0
   pub pastLastOther : building (numberedTo 1 65535) 1 [] (room 37) ≡ success 37
-  -- "request list over 24 bytes"
+  -- "request list over 24 bytes": 24 bytes, and 27
   pub eightRequests : building fresh 3 (requestWritten 0 1 ++ requestWritten 1 1 ++ requestWritten 2 1 ++ requestWritten 3 1 ++ requestWritten 4 1 ++ requestWritten 5 1 ++ requestWritten 6 1 ++ requestWritten 7 1) (room 29)
       ≡ success 29
   pub nineRequests : building fresh 3 (replicate (maxRequestListSize + 3) 1) (room 29) ≡ refused 3 0
-  -- a block's length, and one byte less
+  -- the output has the block's length, and one byte less
   pub exact : building fresh 3 (requestWritten 0 1) (room 8) ≡ success 8
   pub short : building fresh 3 (requestWritten 0 1) (room 7) ≡ refused 17 8
-  -- "Bytes after the block stay", and all of them beside a refusal
+  -- "Bytes after the block stay", and beside a refusal all bytes of the output stay
   pub stays : built fresh 3 (requestWritten 0 1) (room 10) ≡ block 3 0 [] (request 0 1 ∷ []) ++ room 2
   pub refusedStays : built fresh 3 (requestWritten 0 1) (room 7) ≡ room 7
-  -- no held block: sequence 0, and every block in place order
+  -- a site without a held block: sequence 0, and references to every block in place order
   pub firstBlock : nextBlock everywhere (viewOf four) 1 [] ≡ block 1 0 (toy first ∷ toy fork ∷ toy third ∷ toy fourth ∷ []) []
-  -- one more than the greatest, and nothing else where its blocks refer to all others
+  -- the sequence number is one more than the site's greatest, and its greatest block is the only reference where its blocks refer to all others
   pub nextOne : nextBlock everywhere (viewOf four) 3 (requestWritten 5 7) ≡ block 3 2 (toy fourth ∷ []) (request 5 7 ∷ [])
-  -- its greatest block first, then what none of its blocks refers to directly: place 1 is referred to by place 2 alone, which now refers to
+  -- the site's greatest block first, then what none of its blocks refers to directly: in `four` only place 2 refers to place 1, and here it refers to
   -- nothing
   pub greatestFirst : nextBlock everywhere (viewOf (referring four 2 0)) 3 [] ≡ block 3 2 (toy fourth ∷ toy fork ∷ []) []
-  -- "one more than its greatest", "its greatest block first", though it is not the last; then what no block of the site refers to directly, though it
-  -- is an ancestor, and no other block of its own
+  -- "one more than its greatest", "its greatest block first", though it is not the site's last place; then what no block of the site refers to
+  -- directly, though it is an ancestor, and no other block of the site itself
   pub greatestNotLast : nextBlock everywhere (viewOf returned) 3 [] ≡ block 3 3 (toy (numbered 2) ∷ toy (numbered 0) ∷ []) []
   pub greatestNotLastBuilt : building returned 3 [] (room 69) ≡ success 69
   -- "up to 16 in all"
   pub sixteen : referencesOf (nextBlock everywhere (viewOf (holding 18)) 1 []) ≡ listBelow (λ i. toy (numbered i)) maxReferences
-  -- of 16 others 15 are left beside its own greatest block
+  -- of 16 blocks of other sites the first 15 have room beside the site's own greatest block
   pub fifteenOthers :
       referencesOf (nextBlock everywhere (viewOf (changed (holding 17) (rowStart 16 + siteOffset) 1)) 1 [])
       ≡ toy (numbered 16) ∷ listBelow (λ i. toy (numbered i)) 15

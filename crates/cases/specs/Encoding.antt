@@ -15,15 +15,15 @@ interpretationBytes = 1 ∷ 2 ∷ 1 ∷ 0 ∷ 0 ∷ 0 ∷ 0 ∷ 0 ∷ 0 ∷ []
 
 pub record EncodingCases : Type 0 where
   pub none : callsIn [] ≡ []
-  -- each of the four calls, and another behind them
+  -- each of the four calls, and another call behind them
   pub each :
       callsIn (admissionBytes ++ (interpretationBytes ++ (2 ∷ 3 ∷ admissionBytes)))
       ≡ admit (7 ∷ 8 ∷ 9 ∷ []) 5 ∷ interpret 258 ∷ retire ∷ takeBack ∷ admit (7 ∷ 8 ∷ 9 ∷ []) 5 ∷ []
   -- a block of no bytes
   pub emptyBlock : callsIn (0 ∷ 1 ∷ replicate 8 0) ≡ admit [] 1 ∷ []
-  -- a call that is cut ends the list: in its block, before it, and in a place
+  -- a call that is cut ends the list: an admission cut in its block, one cut in the block's length, and an interpretation cut in its place
   pub cutBlock : callsIn (2 ∷ take 12 admissionBytes) ≡ retire ∷ []
   pub cutLength : callsIn (2 ∷ take 9 admissionBytes) ≡ retire ∷ []
   pub cutPlace : callsIn (2 ∷ take 8 interpretationBytes) ≡ retire ∷ []
-  -- and so does another byte
+  -- a call that begins with another byte ends the list
   pub otherByte : callsIn (3 ∷ 4 ∷ 3 ∷ []) ≡ takeBack ∷ []

@@ -1,5 +1,5 @@
--- Cases of document 01's rules, of those of requests Three, Eight, Eleven and Twelve, and of bytes written out: how they are written down, how
--- they are run, and what each gives.
+-- Cases of document 01's rules, of the rules of requests Three, Eight, Eleven and Twelve, and of bytes written out: how a case is written down, how
+-- it is run, and what each case gives. A reader need not believe them: they are computed from the definitions.
 pub mod Toy
 pub mod Run
 pub mod Blocks

@@ -30,14 +30,14 @@ namesText =
 abbrev pub shortLine : ℕ → ℕ → Bytes
 shortLine x y = x ∷ 32 ∷ 45 ∷ 32 ∷ 45 ∷ 32 ∷ 45 ∷ 32 ∷ 45 ∷ 32 ∷ 45 ∷ 32 ∷ y ∷ 10 ∷ []
 
--- n and eight owners
+-- the bytes of a setup: n 4 and eight owners
 abbrev pub fourSitesInput : Bytes
 fourSitesInput = 4 ∷ replicate 8 0
 
 -- ---- a block that delivers in two slots
 
--- the records of place 0, slots 2 and 5: READY was sent in that block, and those of sites 0 and 1 were heard before; in slot 3 the number was
--- delivered before, and in slot 4 in that block
+-- the records of the block at place 0. In slots 2 and 5 it sent READY, and had heard those of sites 0 and 1. In slot 3 the number was delivered
+-- before that block, and in slot 4 in it
 abbrev pub waiting : ℕ → List ℕ
 waiting v = 0 ∷ 0 ∷ v ∷ 0 ∷ (replicate 16 0 ++ (v ∷ v ∷ (replicate 14 0 ++ (0 ∷ 0 ∷ v ∷ 0 ∷ []))))
 
@@ -47,7 +47,7 @@ over v made = 0 ∷ 0 ∷ v ∷ v ∷ (replicate 32 0 ++ (0 ∷ 0 ∷ 0 ∷ made
 unfoldable pub sayingReady : List ℕ
 sayingReady = replicate 80 0 ++ (waiting 9 ++ (over 8 0 ++ (over 8 8 ++ (waiting 65535 ++ replicate 20240 0))))
 
--- the table holds that block, of site 3 and sequence number 6
+-- a site with these records, whose table holds that block, of site 3 and sequence number 6
 unfoldable pub before : Site
 before =
     record {
@@ -62,7 +62,7 @@ pub record ListingCases : Type 0 where
   pub valuesInOrder :
       deliveryLine (record { arrival = 10; place = 9; site = 3; sequence = 258; slot = 7; number = 65535 })
       ≡ 49 ∷ 48 ∷ 32 ∷ 57 ∷ 32 ∷ 51 ∷ 32 ∷ 50 ∷ 53 ∷ 56 ∷ 32 ∷ 55 ∷ 32 ∷ 54 ∷ 53 ∷ 53 ∷ 51 ∷ 53 ∷ 32 ∷ 48 ∷ 10 ∷ []
-  -- "length (two bytes, high first), verdict, block": a block of two bytes, the longest, and one byte that is cut
+  -- "length (two bytes, high first), verdict, block": a block of two bytes, a block of 541, and an arrival of which one byte is there
   pub inputRead :
       arrivalsIn (0 ∷ 2 ∷ 5 ∷ 7 ∷ 8 ∷ 2 ∷ 29 ∷ 1 ∷ (replicate 541 6 ++ (0 ∷ [])))
       ≡ arrived (7 ∷ 8 ∷ []) 5 ∷ arrived (replicate 541 6) 1 ∷ unread ∷ []
@@ -74,7 +74,8 @@ pub record ListingCases : Type 0 where
       ≡ 53 ∷ 32 ∷ 49 ∷ 32 ∷ 51 ∷ 32 ∷ 55 ∷ 32 ∷ 50 ∷ 32 ∷ 57 ∷ 32 ∷ 48 ∷ 10
       ∷ 53 ∷ 32 ∷ 49 ∷ 32 ∷ 51 ∷ 32 ∷ 55 ∷ 32 ∷ 53 ∷ 32 ∷ 54 ∷ 53 ∷ 53 ∷ 51 ∷ 53 ∷ 32 ∷ 48 ∷ 10
       ∷ []
-  -- "and each refused arrival; arrivals count from 0": verdict 0, a length of 542, four bytes, and a cut one. "0 - - - - - 5", and 3 for the others
+  -- "and each refused arrival; arrivals count from 0": verdict 0, a length of 542, a block of four bytes, and a cut arrival. "0 - - - - - 5", and 3
+  -- for the others
   pub refusedCounted :
       listing toy []
       (fourSitesInput

@@ -1,6 +1,6 @@
--- The premises of the theorem (crates/agreement, specs/Promises.antt) can be met, and what it then says of two runs. n 4, owner 0; site 0
--- forks with 42 and 43. One site gets blocks of the first branch alone. The other gets the second branch first, and holds blocks of both. The
--- orders differ, and refused calls stand among the others. Both deliver 42. The digest is the toy one.
+-- The premises of the theorem of two sites (crates/agreement, specs/Promises.antt) can be met, and what the theorem then says of two runs. n 4, owner
+-- 0; site 0 forks with 42 and 43. One site gets blocks of the first branch alone. The other site gets the second branch first, and holds blocks of
+-- both. The orders differ, and refused calls stand among the others. Both sites deliver 42. The digest is the toy one.
 use mathlib.Core.Path.{_≡_}
 use mathlib.Core.Bool.{true, false}
 use mathlib.Core.Logic.{_⊎_}
@@ -24,11 +24,11 @@ use Rattle.cases.specs.Blocks.{sites, first, fork, third, threeSites, ec
 
 -- ---- the second branch
 
--- site 0 refers to its fork: ECHO 43. `third` is site 3's block that does so
+-- a block of site 0 that refers to its fork: ECHO 43. `third` is a block of site 3 that refers to the fork too
 unfoldable pub forkEchoing : Bytes
 forkEchoing = block 0 1 (toy fork ∷ toy third ∷ []) []
 
--- site 3, which sent ECHO 43, hears of the READYs of sites 1 and 2, and then its own
+-- a block of site 3, which has sent ECHO 43, that hears the READYs of sites 1 and 2, and its next, which hears its own
 unfoldable pub turning : Bytes
 turning = block 3 1 (toy third ∷ toy (readying threeSites 1) ∷ toy (readying threeSites 2) ∷ []) []
 
@@ -107,22 +107,22 @@ firstLedger = ledgerOf toy (sites 4) firstBuffer (callsOf firstTurns)
 abbrev pub secondLedger : Ledger
 secondLedger = ledgerOf toy (sites 4) secondBuffer (callsOf secondTurns)
 
--- what it asks of two ledgers, and a delivery in each
+-- what the theorem asks of two ledgers, and a delivery in each
 pub record PremisesMet (l₁ l₂ : Ledger) : Type 0 where
   pub noCollision : NoCollision toy (l₁ .blocks ++ l₂ .blocks)
   pub fewForked : countBelow (forked (l₁ .blocks ++ l₂ .blocks)) 4 ≤ faults 4
-  -- the bound is reached: site 0 forked, which the first site's blocks alone do not show
+  -- as many sites forked as may fork: site 0 did, which the first site's blocks alone do not show
   pub mostForked : countBelow (forked (l₁ .blocks ++ l₂ .blocks)) 4 ≡ faults 4
   pub forkedInBoth : listBelow (forked (l₁ .blocks ++ l₂ .blocks)) 4 ≡ true ∷ false ∷ false ∷ false ∷ []
   pub forkedInFirst : listBelow (forked (l₁ .blocks)) 4 ≡ false ∷ false ∷ false ∷ false ∷ []
   pub firstDelivers : Delivered toy (sites 4) l₁ 0 42
   pub secondDelivers : Delivered toy (sites 4) l₂ 0 42
-  -- site 1's block with READY stands at places 5 and 8
+  -- site 1's block with READY stands at place 5 of the first site and at place 8 of the second
   pub firstInterpreted : Interpreted l₁ 5
   pub secondInterpreted : Interpreted l₂ 8
   pub sameBlock : l₁ .block 5 ≡ l₂ .block 8
 
--- "two different blocks of one sequence number": both bytes of it
+-- "two different blocks of one sequence number": both bytes of the number are compared
 pub record ForkedCases : Type 0 where
   pub otherHighByte : forked (block 0 1 [] [] ∷ block 0 257 [] [] ∷ []) 0 ≡ false
   pub bothBytes : forked (block 0 257 [] [] ∷ block 0 257 [] (request 0 1 ∷ []) ∷ []) 0 ≡ true
@@ -130,15 +130,15 @@ pub record ForkedCases : Type 0 where
 pub record PremiseCases : Type 0 where
   pub firstAnswers : siteAnswers toy (started (sites 4) firstBuffer) (callsOf firstTurns) ≡ answersOf firstTurns
   pub secondAnswers : siteAnswers toy (started (sites 4) secondBuffer) (callsOf secondTurns) ≡ answersOf secondTurns
-  -- the premises compute
+  -- the premises hold
   pub lawfulSetup : lawful (sites 4) ≡ true
   pub met : PremisesMet firstLedger secondLedger
-  -- and so, by the theorem, the slot has one number at both
+  -- so, by the theorem, the slot has one number at both sites
   pub oneNumber : (v w : ℕ)
       → Delivered toy (sites 4) firstLedger 0 v ⊎ Delivered toy (sites 4) secondLedger 0 v
       → Delivered toy (sites 4) firstLedger 0 w ⊎ Delivered toy (sites 4) secondLedger 0 w
       → v ≡ w
-  -- and a block interpreted at both has the same 320 numbers at both
+  -- and a block that is interpreted at both sites has the same 320 numbers at both
   pub samePart :
       partOf (siteWith toy (sites 4) firstBuffer (callsOf firstTurns) .records) 5
       ≡ partOf (siteWith toy (sites 4) secondBuffer (callsOf secondTurns) .records) 8

@@ -19,15 +19,15 @@ use Rattle.cases.specs.Process.{echoed}
 abbrev pub numbersAt : List ℕ → ℕ → ℕ → List ℕ
 numbersAt records place slot = take 40 (drop (40 * slot) (take 320 (drop (320 * place) records)))
 
--- where these blocks arrived and were interpreted, a slot of a place has these numbers
+-- after these blocks arrived and were interpreted, the record of a slot at a place has these numbers
 pub record Numbers (s : Setup) (steps : List Step) (place slot : ℕ) (numbers : List ℕ) : Type 0 where
   pub written : numbersAt (siteLeft s (arriving 0 steps) .records) place slot ≡ numbers
 
--- a list of numbers with so many zeros behind it
+-- a list of numbers with n zeros behind it
 abbrev pub filled : List ℕ → ℕ → List ℕ
 filled numbers n = numbers ++ replicate n 0
 
--- a record: entries 0 to 3, 4 to 19, 20 to 35, 36 to 39
+-- the numbers of a record: entries 0 to 3, 4 to 19, 20 to 35, 36 to 39
 abbrev pub numbersWritten : List ℕ → List ℕ → List ℕ → List ℕ → List ℕ
 numbersWritten sent echoesHeard readiesHeard made = sent ++ (echoesHeard ++ (readiesHeard ++ made))
 
@@ -37,11 +37,11 @@ silence = replicate 16 0
 
 -- ---- campaigns
 
--- document 01's chain of four
+-- document 01's chain of four blocks
 unfoldable pub chainOfFour : List Step
 chainOfFour = chained 0 making sends 7 ∷ chained 1 making echoes 7 ∷ chained 2 making readies 7 ∷ chained 3 making delivers 7 ∷ []
 
--- n 4: site 3 sends ECHO 43, and then hears ECHO 42 of three sites, its own, READY 43 of site 1 and READY 42 of site 2
+-- n 4: a block of site 3, which has sent ECHO 43, that hears ECHO 42 of three sites, its own ECHO, READY 43 of site 1 and READY 42 of site 2
 unfoldable pub hearsAll : Bytes
 hearsAll = block 3 1 (toy third ∷ toy (readying threeSites 2) ∷ toy (otherReadying 1) ∷ map (λ p. toy (echoing p)) threeSites) []
 
@@ -58,7 +58,7 @@ mixed =
     ∷ hearsAll making readies 42
     ∷ [])
 
--- n 4, where site 1 owns slots 1 and 5: it requests 45 in slot 5
+-- n 4: site 1, which owns slots 1 and 5, requests 45 in slot 5
 unfoldable pub inSlotFive : List Step
 inSlotFive = first making none ∷ block 1 0 [] (request 5 45 ∷ []) making sends 45 ∷ []
 
@@ -79,6 +79,6 @@ pub record RecordCases : Type 0 where
       ∷ 0 ∷ 43 ∷ 42 ∷ 0 ∷ 0 ∷ 0 ∷ 0 ∷ 0 ∷ 0 ∷ 0 ∷ 0 ∷ 0 ∷ 0 ∷ 0 ∷ 0 ∷ 0
       ∷ 0 ∷ 0 ∷ 42 ∷ 0
       ∷ [])
-  -- "place after place, slot after slot"
+  -- "place after place, slot after slot": the number stands in slot 5 of place 1, and slot 1 of that place is all 0
   pub slotFive : Numbers sharedOut inSlotFive 1 5 (numbersWritten (45 ∷ 0 ∷ 0 ∷ 0 ∷ []) silence silence (45 ∷ 0 ∷ 0 ∷ 0 ∷ []))
   pub slotOne : Numbers sharedOut inSlotFive 1 1 (replicate 40 0)

@@ -1,4 +1,4 @@
--- Request Eleven: place 0 is retired. n 4, owner 0. What that answers, the table and the record buffer that it leaves, and what calls answer
+-- Request Eleven: place 0 is retired. n 4, owner 0. What retiring answers, the table and the record buffer that it leaves, and what calls answer
 -- afterwards. The digest is the toy one.
 use mathlib.Core.Path.{_≡_}
 use mathlib.Core.Bool.{true, false, not}
@@ -36,23 +36,23 @@ use Rattle.cases.specs.Joins.{rising}
 
 -- ---- the order of the checks
 
--- "29 .. after 2, 12 and 13": a row for each two. The first call has both causes and gets the earlier number; in the second only the earlier
--- cause is mended, and it gets the later number. No place of `four` is interpreted.
+-- "29 .. after 2, 12 and 13": a row for each two of these numbers. The first call has both causes and gets the earlier number; in the second only the
+-- earlier cause is mended, and it gets the later number. No place of `four` is interpreted.
 pub record RetiringOrderCases : Type 0 where
-  -- 2, 12: a buffer that is one number short
+  -- 2, 12: a buffer that is one number short, with a table that is not in form, then with a table that is
   pub formBeforeSize :
       (siteAnswers toy (lent unlawful (bufferSize - 1)) (retire ∷ []) ≡ refused 2 0 ∷ [])
       × (siteAnswers toy (lent fresh (bufferSize - 1)) (retire ∷ []) ≡ refused 12 0 ∷ [])
-  -- 2, 13: a table that holds nothing
+  -- 2, 13: a table that holds nothing and is not in form, then one that is in form
   pub formBeforePlace : (answers toy unlawful (retire ∷ []) ≡ refused 2 0 ∷ []) × (answers toy fresh (retire ∷ []) ≡ refused 13 0 ∷ [])
-  -- 2, 29
+  -- 2, 29: a table that holds four blocks and is not in form, then one that is in form
   pub formBeforeRetirable :
       (answers toy (withMarkAt four 0 2) (retire ∷ []) ≡ refused 2 0 ∷ []) × (answers toy four (retire ∷ []) ≡ refused 29 0 ∷ [])
-  -- 12, 13
+  -- 12, 13: a table that holds nothing, with a buffer that is one number short, then with a whole buffer
   pub sizeBeforePlace :
       (siteAnswers toy (lent fresh (bufferSize - 1)) (retire ∷ []) ≡ refused 12 0 ∷ [])
       × (siteAnswers toy (lent fresh bufferSize) (retire ∷ []) ≡ refused 13 0 ∷ [])
-  -- 12, 29: one number too many
+  -- 12, 29: a table that holds four blocks, with a buffer of one number too many, then with a whole buffer
   pub sizeBeforeRetirable :
       (siteAnswers toy (lent four (suc bufferSize)) (retire ∷ []) ≡ refused 12 0 ∷ [])
       × (siteAnswers toy (lent four bufferSize) (retire ∷ []) ≡ refused 29 0 ∷ [])
@@ -66,7 +66,7 @@ unfoldable pub afterFork : Bytes
 afterFork = block 0 1 (toy fork ∷ []) []
 
 pub record RetirableCases : Type 0 where
-  -- "if it is interpreted": all else is met by the fork and the block after it
+  -- "if it is interpreted": place 0 is not. The fork and the block after it meet the other conditions
   pub notInterpreted : Session (sites 4)
       (good first giving placed 0
       ∷ good fork giving placed 1
@@ -77,7 +77,7 @@ pub record RetirableCases : Type 0 where
       ∷ interpret 0 giving done
       ∷ retire giving done
       ∷ [])
-  -- "every held block referring to it is interpreted": site 2's is not
+  -- "every held block referring to it is interpreted": site 2's block is not
   pub referrerNot : Session (sites 4)
       (good first giving placed 0
       ∷ interpret 0 giving done
@@ -88,8 +88,8 @@ pub record RetirableCases : Type 0 where
       ∷ interpret 2 giving done
       ∷ retire giving done
       ∷ [])
-  -- "its site has a held, interpreted block of greater sequence number": none; one of another site; one of the same sequence number; one that is
-  -- not interpreted
+  -- "its site has a held, interpreted block of greater sequence number": there is no later block; only one of another site; only one of the same
+  -- sequence number; only one that is not interpreted
   pub noLater : Session (sites 4)
       (good first giving placed 0
       ∷ interpret 0 giving done
@@ -110,15 +110,15 @@ pub record RetirableCases : Type 0 where
 
 -- ---- what is left
 
--- site 0's third block, which refers to its second and to site 2's
+-- site 0's third block, which refers to its second and to site 2's block
 unfoldable pub lastOne : Bytes
 lastOne = block 0 2 (toy second ∷ toy (echoing 2) ∷ []) []
 
--- `second` and site 2's block refer to the first, and all three are interpreted; the last one is not
+-- a table of four blocks: `second` and site 2's block refer to `first`, and these three are interpreted; `lastOne` is not
 unfoldable pub threeMarked : Bytes
 threeMarked = withMarkAt (withMarkAt (withMarkAt (tableOf (first ∷ second ∷ echoing 2 ∷ lastOne ∷ [])) 0 1) 1 1) 2 1
 
--- what stays: two rows that refer to nothing any more, and one that refers to both, now places 0 and 1
+-- the rows that stay when `first` is retired: two rows that refer to no place, and one that refers to both, at places 0 and 1
 unfoldable pub pairOf : ℕ → Bytes
 pairOf zero = second
 pairOf (suc i) = echoing 2
@@ -131,14 +131,14 @@ rowsLeft (suc (suc i)) = rowFor toy (record { retired = 0; held = 2; row = λ j.
 unfoldable pub risingNumbers : List ℕ
 risingNumbers = rising 0 bufferSize
 
--- the fork first, then its twin, and the block after the fork: all are interpreted
+-- a table of `fork`, of `first`, which forks with it, and of the block after the fork; all three are interpreted
 unfoldable pub twins : Bytes
 twins = withMarkAt (withMarkAt (withMarkAt (tableOf (fork ∷ first ∷ afterFork ∷ [])) 0 1) 1 1) 2 1
 
 pub record RetiringLeftCases : Type 0 where
-  -- "Retire place 0 and move every other place .. down by one", every byte of the table
+  -- "Retire place 0 and move every other place .. down by one": every byte of the table
   pub table : retiredTable threeMarked risingNumbers ≡ layout (sites 4) (record { retired = 1; held = 3; row = rowsLeft })
-  -- ".. and record"; "the buffer from the new count on stays"
+  -- "every other place and record"; "the buffer from the new count on stays": every number of the buffer
   pub records : retiredRecords threeMarked risingNumbers ≡ partOf risingNumbers 1 ++ (partOf risingNumbers 2 ++ (partOf risingNumbers 3 ++ drop (partStart 3) risingNumbers))
   -- a refusal changes nothing
   pub refusedTable : retiredTable four risingNumbers ≡ four
@@ -146,15 +146,15 @@ pub record RetiringLeftCases : Type 0 where
   -- the watch names a fork as long as both blocks are held
   pub named : forks twins ≡ naming 1 1 true
   pub notNamed : forks (retiredTable twins risingNumbers) ≡ naming 0 0 true
-  -- and an ancestor as long as it is held: of the last one, all three others, and then the two that are left
+  -- the watch names an ancestor as long as it is held: for `lastOne` all three others, and then the two that are left
   pub threeAncestors : ancestors threeMarked 3 ≡ resting 7 3
   pub twoAncestors : ancestors (retiredTable threeMarked risingNumbers) 2 ≡ resting 3 2
-  -- site 2, whose block refers to the first, refers to it once more if it is admitted again
+  -- site 2 does not refer to `first` again, as its block does; but it does if `first` was retired and is admitted again
   pub referredBefore : nextBlock everywhere (viewOf threeMarked) 2 [] ≡ block 2 1 (map toy (echoing 2 ∷ second ∷ lastOne ∷ [])) []
   pub referredAgain : nextBlock everywhere (viewOf (admitted toy (retiredTable threeMarked risingNumbers) first 1)) 2 []
       ≡ block 2 1 (map toy (echoing 2 ∷ second ∷ lastOne ∷ first ∷ [])) []
 
--- ---- afterwards
+-- ---- what calls answer after a retiring
 
 unfoldable pub afterwards : List Turn
 afterwards =
@@ -163,7 +163,7 @@ afterwards =
     ∷ good second giving placed 1
     ∷ interpret 1 giving done
     ∷ retire giving done
-    -- a repeat of a held block, also where what it refers to was retired
+    -- a held block is refused with 8, also where the block that it refers to was retired
     ∷ good second giving refused 8 0
     -- "Until it is admitted again, a later block that refers to it gets 9"
     ∷ good (echoing 1) giving refused 9 0
@@ -177,10 +177,10 @@ afterwards =
 
 pub record AfterwardsCases : Type 0 where
   pub taken : Session (sites 4) afterwards
-  -- the ledger keeps the block without a place, and has it a second time at place 1
+  -- the ledger keeps `first` without a place, and has it a second time at place 1
   pub retiredBlocks : ledgerLeft (sites 4) afterwards .retired ≡ first ∷ []
   pub blocks : ledgerLeft (sites 4) afterwards .blocks ≡ echoing 1 ∷ first ∷ second ∷ first ∷ []
-  -- `second`, at place 0, does not refer to it again, though it lists its digest; site 1's block does
+  -- `second`, at place 0, does not refer to place 1, though it lists the digest of `first`; site 1's block, at place 2, does
   pub notAgain : viewIn toy (ledgerLeft (sites 4) afterwards) .row 0 .refersTo 1 ≡ false
   pub newly : viewIn toy (ledgerLeft (sites 4) afterwards) .row 2 .refersTo 1 ≡ true
 
@@ -199,18 +199,18 @@ forkRetired =
 pub record ForkRetiredCases : Type 0 where
   pub taken : Session (sites 4) forkRetired
   pub stillForked : forked (ledgerLeft (sites 4) forkRetired .blocks) 0 ≡ true
-  -- "the ledger then keeps the block and its mark, without a place": it is an interpreted one
+  -- "the ledger then keeps the block and its mark, without a place": the retired block is an interpreted block
   pub stillInterpreted : InterpretedBlock (ledgerLeft (sites 4) forkRetired) fork
 
--- ---- a campaign that goes on: four sites that all build by the rule and interpret everything, in rounds, retire four blocks after each round
+-- ---- a campaign that goes on: four sites build by the rule, in rounds; every block is interpreted, and after each round four blocks are retired
 
--- the block of a site in a round refers to its own of the round before first, then to the others'
+-- the block of site p in round r, which refers first to its own block of the round before, then to the others'
 unfoldable pub inRound : ℕ → ℕ → Bytes
 inRound zero zero = block 0 0 [] (request 0 42 ∷ [])
 inRound zero (suc p) = block (suc p) 0 [] []
 inRound (suc r) p = block p (suc r) (map (λ q. toy (inRound r q)) (p ∷ passingBelow (λ q. not (eqb q p)) 4)) []
 
--- what the blocks of a round make of the first one's request
+-- what the block of site p in round r makes of the request of site 0's first block
 unfoldable pub makes : ℕ → ℕ → Sent
 makes zero zero = sends 42
 makes zero (suc p) = none
@@ -225,18 +225,18 @@ roundOf r = map (λ p. inRound r p making makes r p) fourSites
 abbrev pub fourRetirings : List Turn
 fourRetirings = replicate 4 (retire giving done)
 
--- round 0, then each further round at places 4 to 7, after which the four lower ones are retired
+-- round 0 at places 0 to 3, then each further round at places 4 to 7, after which the four lower places are retired
 unfoldable pub roundTurns : ℕ → List Turn
 roundTurns zero = arriving 0 (roundOf 0)
 roundTurns (suc r) = roundTurns r ++ (arriving 4 (roundOf (suc r)) ++ fourRetirings)
 
 pub record GoingOnCases : Type 0 where
-  -- every call passes
+  -- no call is refused
   pub taken : Session (sites 4) (roundTurns 4)
   -- four blocks are held, all of the last round, and sixteen were retired
   pub held : ledgerLeft (sites 4) (roundTurns 4) .held ≡ 4
   pub retiredCount : length (ledgerLeft (sites 4) (roundTurns 4) .retired) ≡ 16
-  -- the number is still shown at each place, though all blocks are retired that brought it about
+  -- the delivered number stands in the record of each place, though all blocks are retired that brought it about
   pub stillDelivered : listBelow (λ i. recordIn (siteLeft (sites 4) (roundTurns 4) .records) i 0 .sent .delivered) 4 ≡ 42 ∷ 42 ∷ 42 ∷ 42 ∷ []
-  -- and in the round of the delivery, the twelve blocks before it being retired but four, each block makes it
+  -- in the round of the delivery each block makes the delivery, though of the twelve blocks before that round only four are held
   pub delivering : listBelow (λ i. recordIn (siteLeft (sites 4) (roundTurns 3) .records) i 0 .made) 4 ≡ replicate 4 (delivers 42)

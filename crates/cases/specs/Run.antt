@@ -1,5 +1,5 @@
 -- A run of calls from a table and a record buffer: each step is the right-hand sides of the contracts of `admit`, `interpret`, `retire` and
--- `take_back`, over the table's bytes and the buffer's numbers; `digest` is SHA-256 there.
+-- `take_back`, over the table's bytes and the buffer's numbers; `digest` is SHA-256 in these contracts, and the toy digest here.
 use mathlib.Core.Path.{_≡_}
 use mathlib.Core.List.{List, [], _∷_, map}
 use Prim.Native.Nat.{ℕ, suc}
@@ -21,7 +21,7 @@ use Rattle.cases.specs.Toy.{toy}
 
 -- ---- calls and answers
 
--- an admission with verdict 1, and with another
+-- an admission with verdict 1, and an admission with another verdict
 abbrev pub good : Bytes → Call
 good b = admit b 1
 
@@ -32,7 +32,7 @@ judged verdict b = admit b verdict
 abbrev pub placed : ℕ → Answer
 placed place = success place
 
--- a place is interpreted
+-- the answer of an interpretation, a retiring or a taking back that succeeds
 abbrev pub done : Answer
 done = success 0
 
@@ -42,12 +42,12 @@ done = success 0
 abbrev pub zeroRecords : List ℕ
 zeroRecords = replicate bufferSize 0
 
--- a table, with such a buffer
+-- a site with this table, and a record buffer of zeros
 abbrev pub at : Bytes → Site
 at t = record { table = t; records = zeroRecords }
 
 module _ (digest : Bytes → Bytes) where
-  -- the table that a run leaves
+  -- the table that a list of calls leaves
   unfoldable pub tableAfter : Bytes → List Call → Bytes
   tableAfter t calls = siteAfter digest (at t) calls .table
 
@@ -57,6 +57,7 @@ module _ (digest : Bytes → Bytes) where
 
 -- ---- calls with their answers
 
+-- a call, and the answer that it gets
 pub record Turn : Type 0 where
   pub call : Call
   pub answer : Answer
@@ -71,20 +72,20 @@ callsOf turns = map (λ t. t .call) turns
 abbrev pub answersOf : List Turn → List Answer
 answersOf turns = map (λ t. t .answer) turns
 
--- what the calls leave in a ledger, and at a site of this setup
+-- the ledger that the calls leave, and the site, where both start with this setup and a record buffer of zeros
 abbrev pub ledgerLeft : Setup → List Turn → Ledger
 ledgerLeft s turns = ledgerOf toy s zeroRecords (callsOf turns)
 
 abbrev pub siteLeft : Setup → List Turn → Site
 siteLeft s turns = siteWith toy s zeroRecords (callsOf turns)
 
--- at a site of this setup each call gets its answer
+-- at a site that starts with the empty table of this setup, each call gets its answer
 pub record Session (s : Setup) (turns : List Turn) : Type 0 where
   pub answered : answers toy (emptyTable s) (callsOf turns) ≡ answersOf turns
 
 -- ---- blocks that arrive one after the other, and what they make
 
--- a block, and what it makes in a slot
+-- a block that arrives, and what it makes in a slot
 pub record Step : Type 0 where
   pub arrives : Bytes
   pub makes : Sent
@@ -93,7 +94,7 @@ infix 70 _making_
 abbrev pub _making_ : Bytes → Sent → Step
 b making m = record { arrives = b; makes = m }
 
--- one message or the delivery of v, and both a READY and the delivery; `none` is nothing
+-- what a block makes: a SEND, an ECHO, a READY or the delivery of v, or both a READY and the delivery; `none` is nothing
 abbrev pub sends : ℕ → Sent
 sends v = withSend v none
 
@@ -109,7 +110,7 @@ delivers v = withDelivered v none
 abbrev pub readiesAndDelivers : ℕ → Sent
 readiesAndDelivers v = withDelivered v (readies v)
 
--- each block is admitted, from this place on, and interpreted there
+-- the calls by which each block is admitted, the first at this place, and interpreted at its place
 unfoldable pub arriving : ℕ → List Step → List Turn
 arriving place [] = []
 arriving place (x ∷ xs) = good (x .arrives) giving placed place ∷ interpret place giving done ∷ arriving (suc place) xs
@@ -118,7 +119,7 @@ arriving place (x ∷ xs) = good (x .arrives) giving placed place ∷ interpret 
 abbrev pub madeIn : Site → ℕ → ℕ → List Sent
 madeIn x slot k = listBelow (λ i. recordIn (x .records) i slot .made) k
 
--- at a site of this setup every block is taken, in this order, and each place's record of the slot shows what its block makes
+-- at a site of this setup every block is admitted and interpreted, in this order, and the record of its place in the slot shows what it makes
 pub record Campaign (s : Setup) (slot : ℕ) (steps : List Step) : Type 0 where
   pub taken : Session s (arriving 0 steps)
   pub recorded : madeIn (siteAfter toy (at (emptyTable s)) (callsOf (arriving 0 steps))) slot (length steps) ≡ map (λ x. x .makes) steps

@@ -1,4 +1,4 @@
--- Document 01, "Small skies to try": those marked *, in its order. The digest is the toy one.
+-- Document 01, "Small skies to try": the nine cases that are marked *, in their order. The digest is the toy one.
 use mathlib.Core.Path.{_≡_}
 use mathlib.Core.List.{List, [], _∷_}
 use Prim.Native.Nat.{ℕ, zero, suc}
@@ -10,23 +10,23 @@ use Rattle.cases.specs.Toy.{toy, request, block}
 use Rattle.cases.specs.Run.{good, placed, answers, Campaign, Step, _making_, sends, echoes, readies, delivers}
 use Rattle.cases.specs.Blocks.{sites, fresh, first, fork, both, threeSites, fourSites, echoing, readying, delivering}
 
--- each refers to the one before, and the first requests 7 in slot 0
+-- block k of a chain of site 0: each block refers to the one before, and the first requests 7 in slot 0
 unfoldable pub chained : ℕ → Bytes
 chained zero = block 0 0 [] (request 0 7 ∷ [])
 chained (suc k) = block 0 (suc k) (toy (chained k) ∷ []) []
 
--- site 3 hears of the ECHOs of two sites
+-- a block of site 3 that hears the ECHOs of two sites
 unfoldable pub twoEchoes : Bytes
 twoEchoes = block 3 0 (toy (echoing 0) ∷ toy (echoing 1) ∷ []) []
 
--- site 3 hears of the READYs of two sites, then that of the third
+-- a block of site 3 that hears the READYs of two sites, and its next, which hears the READY of a third site
 unfoldable pub twoReadies : Bytes
 twoReadies = block 3 0 (toy (readying threeSites 0) ∷ toy (readying threeSites 1) ∷ []) []
 
 unfoldable pub thirdReady : Bytes
 thirdReady = block 3 1 (toy twoReadies ∷ toy (readying threeSites 2) ∷ []) []
 
--- all four sites go from the first block's request to delivery
+-- the 13 blocks by which all four sites go from the first block's request to delivery
 unfoldable pub thirteen : List Step
 thirteen =
     first making sends 42
@@ -86,7 +86,7 @@ pub record StarredCases : Type 0 where
       ∷ [])
   -- "A request by a site that isn't the owner: admitted, nothing sent"
   pub otherRequests : Campaign (sites 4) 0 (block 1 0 [] (request 0 42 ∷ []) making none ∷ [])
-  -- "The owner's second request, a block later: no SEND". It hears the first
+  -- "The owner's second request, a block later: no SEND". The block hears the SEND of the first
   pub secondRequest : Campaign (sites 4) 0
       (first making sends 42
       ∷ block 0 1 (toy first ∷ []) (request 0 43 ∷ []) making echoes 42

@@ -11,12 +11,12 @@ use Rattle.setup.specs.Setup.{Setup}
 use Rattle.table.specs.View.{Row}
 use Rattle.table.specs.Layout.{tableSize, layout}
 
--- n 7, each slot with another owner up to slot 6
+-- the setup of n 7 in which slots 0 to 6 have different owners
 abbrev pub sevenOwners : Setup
 sevenOwners = record { sites = 7; owners = 6 ∷ 5 ∷ 4 ∷ 3 ∷ 2 ∷ 1 ∷ 0 ∷ 6 ∷ [] }
 
--- the row of a place: it refers to places 1, 8 and 63, and requests another number in each slot. No table in form has such a row, and form is not
--- asked here
+-- the row of place i: it refers to places 1, 8 and 63, and requests another number in each slot. No table in form has such a row, but the layout does
+-- not ask for form
 abbrev pub writtenRow : ℕ → Row
 writtenRow i =
     record {
@@ -28,7 +28,7 @@ writtenRow i =
       mark = i;
     }
 
--- its bytes: digest; site; sequence number; the places referred to; the requests; the mark
+-- the bytes of such a row: digest; site; sequence number; the places referred to; the requests; the mark
 abbrev pub rowWritten : ℕ → ℕ → Bytes
 rowWritten site mark =
     100 ∷ 101 ∷ 102 ∷ 103 ∷ 104 ∷ 105 ∷ 106 ∷ 107 ∷ 108 ∷ 109 ∷ 110 ∷ 111 ∷ 112 ∷ 113 ∷ 114 ∷ 115

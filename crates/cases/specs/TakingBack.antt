@@ -1,5 +1,5 @@
--- Request Twelve: the last place is taken back. n 4, owner 0. What that answers, the table that it leaves, what calls answer afterwards, and which
--- blocks then count. The digest is the toy one.
+-- Request Twelve: the last place is taken back. n 4, owner 0. What taking back answers, the table that it leaves, what calls answer afterwards, and
+-- which blocks then count. The digest is the toy one.
 use mathlib.Core.Path.{_≡_}
 use mathlib.Core.Bool.{true, false}
 use mathlib.Core.List.{List, [], _∷_, _++_}
@@ -31,27 +31,27 @@ use Rattle.cases.specs.Retiring.{forkRetired}
 unfoldable pub fourMarked : Bytes
 fourMarked = withMarkAt (withMarkAt (withMarkAt (withMarkAt four 0 1) 1 1) 2 1) 3 1
 
--- k places, with every row marked, those from the count on too
+-- a view of k places in which every row is marked, the rows from the count on too
 abbrev pub markedView : ℕ → View
 markedView k = record { retired = 0; held = k; row = λ i. markedIf true (rowFor toy nothing first) }
 
--- "32 .. 33 .. in that order after 2": a row for each two. The first call has both causes and gets the earlier number; in the second only the
--- earlier cause is mended, and it gets the later number.
+-- "32 .. 33 .. in that order after 2": a row for each two of these numbers. The first call has both causes and gets the earlier number; in the second
+-- only the earlier cause is mended, and it gets the later number.
 pub record TakingBackOrderCases : Type 0 where
-  -- 2, 32: a table that holds nothing
+  -- 2, 32: a table that holds nothing and is not in form, then one that is in form
   pub formBeforeHeld : (answers toy unlawful (takeBack ∷ []) ≡ refused 2 0 ∷ []) × (answers toy fresh (takeBack ∷ []) ≡ refused 32 0 ∷ [])
-  -- 2, 33: the last place is interpreted, what it refers to is not, and then is
+  -- 2, 33: the last place is interpreted; what it refers to is not, and then it is
   pub formBeforeInterpreted :
       (answers toy (withMarkAt four 3 1) (takeBack ∷ []) ≡ refused 2 0 ∷ []) × (answers toy fourMarked (takeBack ∷ []) ≡ refused 33 0 ∷ [])
-  -- 32, 33: of no table in form can both be said, so this row is about the checks
+  -- 32, 33: no table in form has both causes, so this row is about the checks on a view
   pub heldBeforeInterpreted :
       (answerTo (takingBackChecks true (markedView 0)) 0 ≡ refused 32 0) × (answerTo (takingBackChecks true (markedView 1)) 0 ≡ refused 33 0)
-  -- a table that has retired something and holds nothing
+  -- 32: a table that has retired something and holds nothing
   pub retiredEmpty : answers toy (retiredSome fresh) (takeBack ∷ []) ≡ refused 32 0 ∷ []
 
 -- ---- what is left
 
--- places 0 to 2: site 3's block refers to place 1
+-- a table of three blocks, at places 0 to 2; site 3's block, the last, refers to place 1
 unfoldable pub three : Bytes
 three = tableOf (first ∷ fork ∷ third ∷ [])
 
@@ -59,7 +59,7 @@ unfoldable pub twinOf : ℕ → Bytes
 twinOf zero = first
 twinOf (suc i) = fork
 
--- the table of the twins alone
+-- a table of the two forks alone
 unfoldable pub twinsHeld : Bytes
 twinsHeld = tableOf (first ∷ fork ∷ [])
 
@@ -68,15 +68,15 @@ pub record BeforeCases : Type 0 where
   pub table : takenBack three ≡ layout (sites 4) (record { retired = 0; held = 2; row = λ i. rowFor toy nothing (twinOf i) })
   -- "straight after an admission that is the table before it"
   pub undone : takenBack three ≡ twinsHeld
-  -- with what is interpreted below, and whether something has been retired, as it was
+  -- the marks of lower places stay, and whether something has been retired stays
   pub marksStay : takenBack (withMarkAt (withMarkAt three 0 1) 1 1) ≡ withMarkAt (withMarkAt twinsHeld 0 1) 1 1
   pub retiredStays : takenBack (retiredSome three) ≡ retiredSome twinsHeld
-  -- of 64 places 63 are left
+  -- of 64 blocks 63 are left
   pub fullTable : takenBack (holding 64) ≡ holding 63
-  -- down to the empty table, and no further
+  -- three blocks are taken back, down to the empty table; a fourth taking back is refused
   pub downToEmpty : tableAfter toy three (replicate 3 takeBack) ≡ fresh
   pub noFurther : answers toy three (replicate 4 takeBack) ≡ done ∷ done ∷ done ∷ refused 32 0 ∷ []
-  -- the last place decides, whatever else is interpreted
+  -- 33 is about the last place alone, whatever other places are interpreted
   pub lastAlone : answers toy (withMarkAt twinsHeld 1 1) (takeBack ∷ []) ≡ refused 33 0 ∷ []
   pub anotherAlone : answers toy (withMarkAt twinsHeld 0 1) (takeBack ∷ []) ≡ done ∷ []
   -- a refusal changes nothing
@@ -85,13 +85,13 @@ pub record BeforeCases : Type 0 where
   pub named : forks twinsHeld ≡ naming 1 1 true
   pub notNamed : forks (takenBack twinsHeld) ≡ naming 0 0 true
 
--- "each block let in from the shelf being an admission of its own": the chain's first block arrives and lets two in, which are taken back one by
--- one, and then it is itself
+-- "each block let in from the shelf being an admission of its own": the chain's first block arrives and two blocks are let in; these are taken back
+-- one by one, and then the first block
 pub record LetInCases : Type 0 where
   pub letIn : arrives fresh mixture 0 (chained 0) 1 .table ≡ chainBlock 3
   pub oneByOne : (takenBack (chainBlock 3) ≡ chainBlock 2) × ((takenBack (chainBlock 2) ≡ chainBlock 1) × (takenBack (chainBlock 1) ≡ fresh))
 
--- ---- afterwards
+-- ---- what calls answer after a taking back
 
 unfoldable pub takenBackTurns : List Turn
 takenBackTurns =
@@ -99,13 +99,13 @@ takenBackTurns =
     ∷ good first giving placed 0
     ∷ good second giving placed 1
     ∷ takeBack giving done
-    -- what was taken back is not held
+    -- a block that was taken back is not held
     ∷ good (block 0 2 (toy second ∷ []) []) giving refused 9 0
-    -- and may be admitted again
+    -- a block that was taken back may be admitted again
     ∷ good second giving placed 1
     ∷ interpret 0 giving done
     ∷ takeBack giving done
-    -- now the last place is interpreted
+    -- place 0, which is interpreted, is the last
     ∷ takeBack giving refused 33 0
     ∷ good second giving placed 1
     ∷ interpret 1 giving done
@@ -116,11 +116,11 @@ takenBackTurns =
 unfoldable pub forkTakenBack : List Turn
 forkTakenBack = good first giving placed 0 ∷ good fork giving placed 1 ∷ takeBack giving done ∷ []
 
--- it is held at another site
+-- another site holds site 0's fork
 unfoldable pub forkHeld : List Turn
 forkHeld = good fork giving placed 0 ∷ []
 
--- it was retired, is admitted again, and that is taken back
+-- site 0's fork was retired, is admitted again, and that admission is taken back
 unfoldable pub againTakenBack : List Turn
 againTakenBack = forkRetired ++ (good fork giving placed 2 ∷ takeBack giving done ∷ [])
 
@@ -128,19 +128,19 @@ againTakenBack = forkRetired ++ (good fork giving placed 2 ∷ takeBack giving d
 pub record CountedCases : Type 0 where
   pub taken : Session (sites 4) takenBackTurns
   pub blocks : ledgerLeft (sites 4) takenBackTurns .blocks ≡ second ∷ first ∷ []
-  -- a fork that was taken back is none
+  -- a site is not forked by a block that was taken back
   pub forkTaken : Session (sites 4) forkTakenBack
   pub notForked : forked (ledgerLeft (sites 4) forkTakenBack .blocks) 0 ≡ false
-  -- "at either site": what one took back counts where the other holds it
+  -- "at either site": a block that one site took back counts where another site holds it
   pub elsewhereTaken : Session (sites 4) forkHeld
   pub forkedElsewhere : forked (ledgerLeft (sites 4) forkTakenBack .blocks ++ ledgerLeft (sites 4) forkHeld .blocks) 0 ≡ true
-  -- one that was admitted before, and retired, still is
+  -- "before it was retired": a site stays forked by a block that was retired, though a second admission of it is taken back
   pub againTaken : Session (sites 4) againTakenBack
   pub stillForked : forked (ledgerLeft (sites 4) againTakenBack .blocks) 0 ≡ true
 
--- ---- a shared digest
+-- ---- a block that was taken back shares its digest with another
 
--- a block of site 1 with the digest of `echoing 1`: it refers to the fork, and that one to the first
+-- a block of site 1 that shares the digest of `echoing 1`: it refers to `fork`, and `echoing 1` to `first`
 unfoldable pub alike : Bytes
 alike = block 1 0 (toy fork ∷ []) []
 
@@ -157,17 +157,17 @@ alikeTakenBack =
     ∷ interpret 2 giving done
     ∷ []
 
--- another site, where it never was
+-- another site, to which `alike` never came
 unfoldable pub alikeUnknown : List Turn
 alikeUnknown = good first giving placed 0 ∷ interpret 0 giving done ∷ good (echoing 1) giving placed 1 ∷ interpret 1 giving done ∷ []
 
--- a block that was taken back may share its digest with one that counts: the theorem's premise holds, and so does what it says
+-- a block that was taken back may share its digest with a block that counts: the premise of the theorem of two sites holds, and so does what it says
 pub record SharedDigestCases : Type 0 where
   pub taken : Session (sites 4) alikeTakenBack
   pub otherTaken : Session (sites 4) alikeUnknown
   pub shared : toy alike ≡ toy (echoing 1)
   pub different : sameBytes alike (echoing 1) ≡ false
   pub noCollision : NoCollision toy (ledgerLeft (sites 4) alikeTakenBack .blocks ++ ledgerLeft (sites 4) alikeUnknown .blocks)
-  -- the block that counts has the same 320 numbers at both, and hears the first's SEND
+  -- the block that counts has the same 320 numbers at both sites, and hears the SEND of `first`
   pub samePart : partOf (siteLeft (sites 4) alikeTakenBack .records) 2 ≡ partOf (siteLeft (sites 4) alikeUnknown .records) 1
   pub echo : recordIn (siteLeft (sites 4) alikeTakenBack .records) 2 0 .made ≡ echoes 42

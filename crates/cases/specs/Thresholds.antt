@@ -1,5 +1,5 @@
--- Document 01, "One slot's process": READY at exactly 2f + 1 ECHOs or f + 1 READYs and delivery at exactly 2f + 1 READYs, and none of them
--- at one less, for n 4 (f 1) and n 7 (f 2). One site hears of the others' blocks, one after the other. The digest is the toy one.
+-- Document 01, "One slot's process": READY at exactly 2f + 1 ECHOs or f + 1 READYs and delivery at exactly 2f + 1 READYs, and none of them at one
+-- less, for n 4 (f 1) and n 7 (f 2). One site hears the messages of the others' blocks, one after the other. The digest is the toy one.
 use mathlib.Core.Path.{_≡_}
 use mathlib.Core.Bool.{true, false}
 use mathlib.Core.List.{List, [], _∷_, map}
@@ -13,15 +13,15 @@ use Rattle.cases.specs.Run.{Campaign, _making_, sends, echoes, readies, 
 use Rattle.cases.specs.Blocks.{sites, first, threeSites, echoing, readying}
 use Rattle.cases.specs.Starred.{twoEchoes}
 
--- n 1, 4, 7, 10, 13 and 16
+-- every lawful n: 1, 4, 7, 10, 13 and 16
 abbrev pub lawfulCounts : List ℕ
 lawfulCounts = 1 ∷ 4 ∷ 7 ∷ 10 ∷ 13 ∷ 16 ∷ []
 
--- in a setup of seven, ECHO and READY are sent by sites 1 to 5
+-- the sites that send ECHO and READY in a campaign of seven
 abbrev pub oneToFive : List ℕ
 oneToFive = 1 ∷ 2 ∷ 3 ∷ 4 ∷ 5 ∷ []
 
--- ---- n 4: site 3 hears
+-- ---- n 4: blocks of site 3 that hear READY of one site, of one more, and of three at once
 
 unfoldable pub oneReady : Bytes
 oneReady = block 3 0 (toy (readying threeSites 0) ∷ []) []
@@ -32,7 +32,7 @@ oneMoreReady = block 3 1 (toy oneReady ∷ toy (readying threeSites 1) ∷ []) [
 unfoldable pub threeReadies : Bytes
 threeReadies = block 3 0 (map (λ p. toy (readying threeSites p)) threeSites) []
 
--- ---- n 7: site 6 hears
+-- ---- n 7: blocks of site 6 that hear four ECHOs, two READYs, a third READY, its own READY, and five READYs at once
 
 unfoldable pub fourOfFiveEchoes : Bytes
 fourOfFiveEchoes = block 6 0 (map (λ p. toy (echoing p)) (1 ∷ 2 ∷ 3 ∷ 4 ∷ [])) []
@@ -50,7 +50,7 @@ unfoldable pub fiveReadies : Bytes
 fiveReadies = block 6 0 (map (λ p. toy (readying oneToFive p)) oneToFive) []
 
 pub record ThresholdCases : Type 0 where
-  -- "n is 1, 4, 7, 10, 13 or 16": 0 to 17
+  -- "n is 1, 4, 7, 10, 13 or 16": whether each n from 0 to 17 is lawful
   pub siteCounts :
       listBelow lawfulSites 18
       ≡ false ∷ true ∷ false ∷ false ∷ true ∷ false ∷ false ∷ true ∷ false ∷ false ∷ true ∷ false ∷ false ∷ true ∷ false ∷ false ∷ true ∷ false ∷ []
@@ -68,7 +68,7 @@ pub record ThresholdCases : Type 0 where
       ∷ twoEchoes making none
       ∷ block 3 1 (toy twoEchoes ∷ toy (echoing 2) ∷ []) [] making readies 42
       ∷ [])
-  -- n 4, READY from one site: nothing; from two: READY, no delivery; a block later its own is the third: delivery
+  -- n 4, READY from one site: nothing; from two: READY, no delivery; a block later the site's own READY is the third: delivery
   pub readiesOfFour : Campaign (sites 4) 0
       (first making sends 42
       ∷ echoing 0 making echoes 42
@@ -80,7 +80,7 @@ pub record ThresholdCases : Type 0 where
       ∷ oneMoreReady making readies 42
       ∷ block 3 2 (toy oneMoreReady ∷ []) [] making delivers 42
       ∷ [])
-  -- n 4, READY from three sites at once: READY and delivery; a block later its own is the fourth: nothing more
+  -- n 4, READY from three sites at once: READY and delivery; a block later the site's own READY is the fourth: nothing more
   pub readiesOfFourAtOnce : Campaign (sites 4) 0
       (first making sends 42
       ∷ echoing 0 making echoes 42
@@ -103,7 +103,7 @@ pub record ThresholdCases : Type 0 where
       ∷ fourOfFiveEchoes making none
       ∷ block 6 1 (toy fourOfFiveEchoes ∷ toy (echoing 5) ∷ []) [] making readies 42
       ∷ [])
-  -- n 7, READY from two sites: nothing; from three: READY; a block later its own is the fourth: no delivery; from a fifth: delivery
+  -- n 7, READY from two sites: nothing; from three: READY; a block later the site's own READY is the fourth: no delivery; from a fifth: delivery
   pub readiesOfSeven : Campaign (sites 7) 0
       (first making sends 42
       ∷ echoing 1 making echoes 42
@@ -120,7 +120,7 @@ pub record ThresholdCases : Type 0 where
       ∷ ownReady making none
       ∷ block 6 3 (toy ownReady ∷ toy (readying oneToFive 4) ∷ []) [] making delivers 42
       ∷ [])
-  -- n 7, READY from five sites at once: READY and delivery; a block later its own is the sixth: nothing more
+  -- n 7, READY from five sites at once: READY and delivery; a block later the site's own READY is the sixth: nothing more
   pub readiesOfSevenAtOnce : Campaign (sites 7) 0
       (first making sends 42
       ∷ echoing 1 making echoes 42

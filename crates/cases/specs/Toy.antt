@@ -9,15 +9,15 @@ use Rattle.block.specs.Limits.{headerSize, referenceSize}
 use Rattle.block.specs.Layout.{requestList, encode}
 use Rattle.block.specs.declared.Request.{Request}
 
--- what the digest sees of a block: header and request list. Two blocks share it only where they have the same site, sequence number, counts
--- and requests and refer to other blocks; cases that need a shared digest have two such
+-- what the digest sees of a block: header and request list. Two different blocks share their digest only where they have the same site, sequence
+-- number, counts and requests and refer to different blocks; cases that need a shared digest have two such blocks
 unfoldable pub seen : Bytes → Bytes
 seen b = take headerSize b ++ requestList b
 
 abbrev zeros : Bytes
 zeros = replicate referenceSize 0
 
--- 32 bytes
+-- the toy digest: the first 32 bytes of what it sees, with zeros behind where that is shorter
 unfoldable pub toy : Bytes → Bytes
 toy b = take referenceSize (seen b ++ zeros)
 
@@ -31,5 +31,5 @@ block site sequence references requests =
     encode (record { site = site; sequence = sequence; references = references; requests = requests })
 
 pub record ToyDigest : Type 0 where
-  -- it is as long as a digest, whatever the bytes
+  -- the toy digest is as long as a digest, whatever the bytes are
   pub size : (b : Bytes) → length (toy b) ≡ referenceSize

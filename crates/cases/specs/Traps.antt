@@ -1,8 +1,8 @@
 -- Document 01, "Small skies to try", its traps, and the order in which messages are taken: in each row the trap would give another result.
 -- n 4, owner 0. The digest is the toy one.
 --
--- "hearing one's own message in the block that makes it" is shut out by `chain` and `readiesHeard` of specs/Starred.antt: the first block
--- of the chain would make all four, and the third READY would be the site's own.
+-- "hearing one's own message in the block that makes it" is shut out by `chain` and `readiesHeard` of specs/Starred.antt: the first block of the
+-- chain would make SEND, ECHO, READY and delivery, and the third READY would be the site's own.
 use mathlib.Core.List.{[], _∷_, map}
 use Prim.Native.Nat.{ℕ}
 use Rattle.base.specs.Bytes.{Bytes}
@@ -14,19 +14,19 @@ use Rattle.cases.specs.Run.{Campaign, _making_, sends, echoes, readies}
 use Rattle.cases.specs.Blocks.{sites, first, fork, both, later, threeSites, echoing, readying}
 use Rattle.cases.specs.Starred.{twoEchoes}
 
--- ---- forks: a request in slot 1 is what the toy digest tells them by
+-- ---- forks: a request in slot 1 gives a second block of one sequence number another toy digest
 
 abbrev pub mark : Request
 mark = request 1 5
 
--- site 1 builds a second block that refers to the first, and a second one that refers to its ECHOs
+-- site 1 forks: it builds a second block that hears the first block's SEND, and a second block that hears the ECHOs of three sites
 unfoldable pub echoingTwin : Bytes
 echoingTwin = block 1 0 (toy first ∷ []) (mark ∷ [])
 
 unfoldable pub readyingTwin : Bytes
 readyingTwin = block 1 1 (map (λ p. toy (echoing p)) threeSites) (mark ∷ [])
 
--- the blocks that hear the SEND of the fork, and those that hear their ECHOs
+-- the block of site p that hears the SEND of the fork, and its block that hears the ECHOs of three such blocks
 unfoldable pub otherEchoing : ℕ → Bytes
 otherEchoing p = block p (later p 0) (toy fork ∷ []) (mark ∷ [])
 
@@ -35,11 +35,11 @@ otherReadying p = block p (later p 1) (map (λ q. toy (otherEchoing q)) threeSit
 
 -- ---- distinct senders
 
--- site 3 hears of three ECHOs of two sites, and then that of a third
+-- a block of site 3 that hears three ECHOs of two sites
 unfoldable pub twinEchoes : Bytes
 twinEchoes = block 3 0 (toy (echoing 1) ∷ toy echoingTwin ∷ toy (echoing 2) ∷ []) []
 
--- site 3 hears of a site's READY, then of another of the same site, then of that of another site
+-- a block of site 3 that hears a READY of site 1, and its next, which hears a second READY of site 1
 unfoldable pub oneSender : Bytes
 oneSender = block 3 0 (toy (readying threeSites 1) ∷ []) []
 
@@ -48,7 +48,8 @@ sameSender = block 3 1 (toy oneSender ∷ toy readyingTwin ∷ []) []
 
 -- ---- state comes from the parent
 
--- site 1 refers to nothing, and then in two blocks of one sequence number to this and the first, in the second to the other one too
+-- a block of site 1 that refers to nothing; then two blocks of site 1 with one sequence number that refer to it and to the first block, the second of
+-- them also to the other
 unfoldable pub idle : Bytes
 idle = block 1 0 [] []
 
@@ -60,15 +61,15 @@ besideIdle = block 1 1 (toy afterIdle ∷ toy idle ∷ toy first ∷ []) []
 
 -- ---- lower numbers and lower senders first
 
--- site 2 refers to both forks, in the other order
+-- a block of site 2 that refers to both forks, the fork with 43 listed first
 unfoldable pub bothReversed : Bytes
 bothReversed = block 2 0 (toy fork ∷ toy first ∷ []) []
 
--- site 3 hears of two ECHOs of site 1, the higher number listed first, and of the ECHOs of sites 0 and 2, which have the higher number
+-- a block of site 3 that hears two ECHOs of site 1, the higher number listed first, and the ECHOs of sites 0 and 2, which have the higher number
 unfoldable pub mixedEchoes : Bytes
 mixedEchoes = block 3 0 (toy (otherEchoing 1) ∷ toy (echoing 1) ∷ toy (otherEchoing 0) ∷ toy (otherEchoing 2) ∷ []) []
 
--- a block of site 3 that hears of three ECHOs of the lower number
+-- a block of site 3 that hears three ECHOs of 42, the lower number
 unfoldable pub readyingThree : Bytes
 readyingThree = block 3 0 (map (λ p. toy (echoing p)) threeSites) []
 
@@ -83,7 +84,7 @@ pub record TrapCases : Type 0 where
       ∷ twinEchoes making none
       ∷ block 3 1 (toy twinEchoes ∷ toy (echoing 0) ∷ []) [] making readies 42
       ∷ [])
-  -- and so do two READYs, though they are heard in two blocks
+  -- "counting messages in place of distinct senders": two READYs of one site count once, also where they are heard in two blocks
   pub distinctReadies : Campaign (sites 4) 0
       (first making sends 42
       ∷ echoing 0 making echoes 42
@@ -102,8 +103,8 @@ pub record TrapCases : Type 0 where
       ∷ echoing 1 making echoes 42
       ∷ block 2 0 (toy (echoing 1) ∷ []) [] making none
       ∷ [])
-  -- "letting a site's fork share the state of the other branch (state comes from the parent only)": each branch sends its ECHO, and one
-  -- that refers to the other branch does too
+  -- "letting a site's fork share the state of the other branch (state comes from the parent only)": each branch sends its ECHO, also the branch that
+  -- refers to the other
   pub parentOnly : Campaign (sites 4) 0
       (first making sends 42
       ∷ echoing 1 making echoes 42
@@ -111,7 +112,7 @@ pub record TrapCases : Type 0 where
       ∷ afterIdle making echoes 42
       ∷ besideIdle making echoes 42
       ∷ [])
-  -- nor do branches share what they heard: one heard two ECHOs, the other a third
+  -- two branches do not share what they heard: one heard two ECHOs, the other a third, and neither sends READY
   pub heardInBranch : Campaign (sites 4) 0
       (first making sends 42
       ∷ echoing 0 making echoes 42
@@ -127,7 +128,7 @@ pub record TrapCases : Type 0 where
       ∷ both making echoes 42
       ∷ bothReversed making echoes 42
       ∷ [])
-  -- and of its two ECHOs: 43 has two supporters
+  -- of a site's two ECHOs the lower number is taken: so 43 has two supporters, not three, and no READY is sent
   pub lowerEchoFirst : Campaign (sites 4) 0
       (fork making sends 43
       ∷ otherEchoing 1 making echoes 43
@@ -170,21 +171,21 @@ pub record TrapCases : Type 0 where
 
 -- ---- one slot
 
--- slot k is owned by site k, and slot k + 4 too
+-- the setup of four sites in which site k owns slots k and k + 4
 abbrev pub sharedOut : Setup
 sharedOut = record { sites = 4; owners = 0 ∷ 1 ∷ 2 ∷ 3 ∷ 0 ∷ 1 ∷ 2 ∷ 3 ∷ [] }
 
--- site 1 requests in slots 0 and 1
+-- a block of site 1 that requests 42 in slot 0 and 43 in slot 1
 unfoldable pub twoSlots : Bytes
 twoSlots = block 1 0 [] (request 0 42 ∷ request 1 43 ∷ [])
 
 pub record SlotCases : Type 0 where
-  -- each slot has its owner: of two requests the one in the site's own slot is sent
+  -- each slot has its owner: of site 1's two requests only the one in slot 1, which site 1 owns, is sent
   pub notOwned : Campaign sharedOut 0 (twoSlots making none ∷ [])
   pub owned : Campaign sharedOut 1 (twoSlots making sends 43 ∷ [])
   -- "If a slot is requested twice in a block, the first counts"
   pub firstCounts : Campaign (sites 4) 0 (block 0 0 [] (request 0 43 ∷ request 0 42 ∷ []) making sends 43 ∷ [])
-  -- "SEND v from the owner, ECHO not sent": a SEND that is heard a block later has no ECHO
+  -- "SEND v from the owner, ECHO not sent": a second SEND, heard a block later, brings no second ECHO
   pub echoOnce : Campaign (sites 4) 0
       (first making sends 42
       ∷ fork making sends 43

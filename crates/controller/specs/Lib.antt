@@ -1,3 +1,3 @@
--- Request Three: a controller's run of all campaigns. All of it is what a reader must believe.
+-- Request Three: a controller's run of all campaigns. Both files are what a reader must believe.
 pub mod Run
 pub mod Promises

@@ -29,34 +29,34 @@ module _ (digest : Bytes → Bytes) where
     abbrev pub final : Controller
     final = after digest begin calls
 
-    -- its calls to a campaign, as plain ones
+    -- the calls for campaign c as plain calls of a site, in which an arrival and each try are admissions
     abbrev pub plainCalls : ℕ → List Call
     plainCalls c = plainRun digest c begin calls
 
-    -- what the campaign would have come to with nothing but its own calls
+    -- what campaign c comes to by its own calls alone, where each call is told with whether the shelf took its block
     abbrev pub alone : ℕ → Alone
     alone c = aloneAfter digest c (record { site = begin .site c; waiting = [] }) (ownRun digest c begin calls)
 
-    -- of a campaign up to 3
+    -- what holds of a campaign c up to 3 after the calls
     pub record RunKeeps (c : ℕ) : Type 0 where
       -- the shelf is in form
       pub formed : shelfInForm (final .shelf) ≡ true
       -- the campaign's table and records are those of its plain calls
       pub asPlain : final .site c ≡ siteAfter digest (begin .site c) (plainCalls c)
-      -- "a campaign's tables depend only on its own arrivals, the other calls made for it and which of its blocks the shelf took": its table and
-      -- records, what waits for it, and its replies are those of a run that is told no more
+      -- "a campaign's tables depend only on its own arrivals, the other calls made for it and which of its blocks the shelf took": the campaign's
+      -- table and records, what waits for it, and the replies to its calls are those of a run that is told no more than these
       pub site : final .site c ≡ alone c .site
       pub waiting : only c (waitingIn (final .shelf)) ≡ alone c .waiting
       pub answers : replies digest c begin calls ≡ aloneReplies digest c (record { site = begin .site c; waiting = [] }) (ownRun digest c begin calls)
-      -- the tries that ended are those whose outcomes were listed
+      -- the outcomes that were listed are those of the blocks that were tried and let in or dropped
       pub listed : outcomes digest c begin calls ≡ outcomesOf (tries digest c begin calls)
-      -- nothing is lost and nothing is invented: every block that was answered 9 waits, was let in or was dropped, as often
+      -- nothing is lost and nothing is invented: as often as the bytes x were answered 9, they wait, or were let in or dropped
       pub accounted : (x : Bytes)
           → countIn (λ b. sameBytes b x) (shelvedBlocks digest c begin calls)
           ≡ timesWaiting c x (waitingIn (final .shelf)) + timesEnded x (tries digest c begin calls)
 
-  -- ---- two runs in which a campaign's own calls, and what the shelf took of its blocks, are the same: whatever the other campaigns do, they
-  -- leave it the same and reply to it the same
+  -- ---- two runs in which a campaign's own calls, and which of its blocks the shelf took, are the same: whatever the other campaigns do, both runs
+  -- leave the campaign the same, and reply to its calls the same
 
   pub record Independent (c : ℕ) (setups₁ setups₂ : ℕ → Setup) (buffers₁ buffers₂ : ℕ → List ℕ) (calls₁ calls₂ : List ControllerCall) : Type 0 where
     pub site : final setups₁ buffers₁ calls₁ .site c ≡ final setups₂ buffers₂ calls₂ .site c
@@ -65,24 +65,26 @@ module _ (digest : Bytes → Bytes) where
 
   -- ---- two controllers: "The two-site statement holds for each campaign alone", and so does the promise of arrival
 
-  -- s is the campaign's setup at both; each controller has its own calls, and other campaigns as it likes
+  -- s is the setup of campaign c at both controllers; each controller has its own calls, and other campaigns as it likes
   module _ (c : ℕ) (s : Setup) (setups₁ setups₂ : ℕ → Setup) (buffers₁ buffers₂ : ℕ → List ℕ) (calls₁ calls₂ : List ControllerCall) where
+    -- what holds of campaign c at two controllers
     pub record CampaignKeeps : Type 0 where
-      -- what stands at each is what its plain calls leave at a site of that setup
+      -- the campaign's table and records at each controller are those that its plain calls leave at a site of setup s
       pub first : final setups₁ buffers₁ calls₁ .site c ≡ siteWith digest s (buffers₁ c) (plainCalls setups₁ buffers₁ calls₁ c)
       pub second : final setups₂ buffers₂ calls₂ .site c ≡ siteWith digest s (buffers₂ c) (plainCalls setups₂ buffers₂ calls₂ c)
-      -- and of these both theorems speak
+      -- the theorem of two sites holds of these plain calls, and the promise of arrival too
       pub promised : TwoSites digest s (buffers₁ c) (buffers₂ c) (plainCalls setups₁ buffers₁ calls₁ c) (plainCalls setups₂ buffers₂ calls₂ c)
       pub firstArrives : ArrivalPromise digest s (buffers₁ c) (plainCalls setups₁ buffers₁ calls₁ c)
       pub secondArrives : ArrivalPromise digest s (buffers₂ c) (plainCalls setups₂ buffers₂ calls₂ c)
 
 -- ---- taking back
 
--- at any controller, an arrival for a campaign
+-- how an arrival for campaign c at the controller x is undone
 pub record ArrivalUndone (digest : Bytes → Bytes) (x : Controller) (c : ℕ) (b : Bytes) (verdict room : ℕ) : Type 0 where
-  -- "straight after an admission that is the table before it (each block let in from the shelf being an admission of its own)": all bytes
+  -- "straight after an admission that is the table before it (each block let in from the shelf being an admission of its own)": after an arrival that
+  -- is admitted, one taking back more than blocks were let in leads to the table before the arrival, in all bytes
   pub table : arrivalAt digest x c b verdict room .answer .refusal ≡ 0
       → UndoneBy (suc (countIn letIn (arrivalAt digest x c b verdict room .tries))) (arrivalAt digest x c b verdict room .table) (x .site c .table)
-  -- a block that is taken back does not return to the shelf, and the records stay
+  -- by a taking back no block returns to the shelf, and the records stay
   pub shelf : (y : Controller) → step digest y c (made takeBack) .shelf ≡ y .shelf
   pub records : (y : Controller) → step digest y c (made takeBack) .site c .records ≡ y .site c .records

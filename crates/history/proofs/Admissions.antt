@@ -1,7 +1,7 @@
--- Histories of blocks that were admitted in turn: those that a block refers to are among the histories before it, have the digests that the block
--- lists, and one of them at most is its parent. No block is looked up by its digest here, so that nothing is asked of digests: a block may come
--- twice, and two blocks may share a digest. Only where no two different blocks share one has a block one history, and that is the one by
--- digest. Assumes nothing.
+-- Histories of blocks that were admitted in turn: the histories directly below a block are among those before it, have the digests that the block
+-- refers to, and one of them at most is its parent's. No block is looked up by its digest here, so nothing is asked of digests: a block may come
+-- twice, and two blocks may share a digest. Where no two different blocks share a digest, each block has one history, which is the one that is found
+-- by digest. Assumes nothing.
 use mathlib.Core.Path.{_≡_, refl, sym, ap, ap₂, _∙_, subst}
 use mathlib.Core.Logic.{_⊎_, inl, inr}
 use mathlib.Core.Bool.{true, false}

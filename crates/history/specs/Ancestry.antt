@@ -1,4 +1,4 @@
--- The history of a block by the blocks of a ledger: each reference stands for the block of that digest.
+-- The history of a block by the blocks of a ledger: each reference stands for the block that has it as its digest.
 use mathlib.Core.Bool.{true, false}
 use mathlib.Core.List.{List, [], _∷_, List·Memᴰ}
 use mathlib.Core.Option.{Option, none, some}
@@ -6,7 +6,7 @@ use Rattle.base.specs.Bytes.{Bytes, sameBytes}
 use Rattle.block.specs.Layout.{referencesOf}
 use Rattle.history.specs.History.{History, Histories, node, end, _and_}
 
--- what a look-up finds, in the order of the references
+-- the histories that a look-up finds for a list of references, in the order of the references; a reference for which it finds none is left out
 unfoldable pub found : Option History → Histories → Histories
 found none hs = hs
 found (some h) hs = h and hs
@@ -16,7 +16,8 @@ gather look [] = end
 gather look (r ∷ rs) = found (look r) (gather look rs)
 
 module _ (digest : Bytes → Bytes) where
-  -- the history of the block that has this digest: what it refers to is looked up among the blocks older than it
+  -- the history of the first block of a list that has digest d, none if no block has. What it refers to is looked up among the blocks behind it,
+  -- which are older
   unfoldable pub find : List Bytes → Bytes → Option History
   find [] d = none
   find (b ∷ older) d =
@@ -25,7 +26,7 @@ module _ (digest : Bytes → Bytes) where
         | false ↦ find older d
       ]
 
-  -- the history of a block by a ledger's blocks, the newest first
+  -- the history of block b, which refers to blocks of a list, the newest first
   unfoldable pub historyOf : List Bytes → Bytes → History
   historyOf blocks b = node b (gather (find blocks) (referencesOf b))
 

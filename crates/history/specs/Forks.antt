@@ -1,4 +1,4 @@
--- Document 01, "Interpreting a place": which sites forked in a list of blocks, and that no two different blocks of it share a digest.
+-- Document 01, "Interpreting a place": which sites forked in a list of blocks; and that no two different blocks of a list share a digest.
 use mathlib.Core.Path.{_≡_}
 use mathlib.Core.Bool.{Bool, not, _&&_}
 use mathlib.Core.List.{List, List·Memᴰ}
@@ -14,6 +14,6 @@ forked blocks p =
     someIn (λ a. someIn (λ b. eqb (siteOf a) p && (eqb (siteOf b) p && (eqb (sequenceOf a) (sequenceOf b) && not (sameBytes a b)))) blocks) blocks
 
 module _ (digest : Bytes → Bytes) where
-  -- no two different blocks share a digest
+  -- no two different blocks of the list share a digest
   abbrev pub NoCollision : List Bytes → Type 0
   NoCollision blocks = (a b : Bytes) → List·Memᴰ a blocks → List·Memᴰ b blocks → digest a ≡ digest b → a ≡ b

@@ -1,5 +1,5 @@
--- Document 01, "Interpreting a place": a block with all its ancestors, and its meaning. That the meaning follows from the setup and from the
--- bytes of the block and its ancestors alone is said by its type.
+-- Document 01, "Interpreting a place": a block with all its ancestors, and its meaning. That the meaning follows from the setup and from the bytes of
+-- the block and its ancestors alone is said by the type of `meaning`.
 use mathlib.Core.Bool.{Bool}
 use mathlib.Core.List.{List, [], _∷_, List·Memᴰ}
 use Prim.Native.Nat.{ℕ}
@@ -12,7 +12,7 @@ use Rattle.records.specs.Layout.{numbersOf}
 use Rattle.interpret.specs.Slot.{Direct, interpretSlot}
 
 infixr 20 _and_
--- a block, and the histories of the blocks that it refers to, in its order
+-- a block, and the histories of the blocks that it refers to, in the order of its references
 mutual
   pub data History : Type 0 where
     node : Bytes → Histories → History
@@ -36,12 +36,12 @@ children (node b hs) = listOf hs
 abbrev pub isParentOf : Bytes → Bytes → Bool
 isParentOf b a = isParent (siteOf b) (sequenceOf b) (siteOf a) (sequenceOf a)
 
--- a is an ancestor of h, itself left out
+-- a is the history of an ancestor of h's block; h itself is left out
 pub data Ancestor : History → History → Type 0 where
   direct : {a h : History} → List·Memᴰ a (children h) → Ancestor a h
   further : {a c h : History} → Ancestor a c → List·Memᴰ c (children h) → Ancestor a h
 
--- "the parent's record and the messages made in a block are each taken from that block's meaning"
+-- the record of a history's block in a slot: "the parent's record and the messages made in a block are each taken from that block's meaning"
 unfoldable mutual
   pub slotRecord : Setup → ℕ → History → SlotRecord
   slotRecord s slot (node b hs) = interpretSlot s slot (siteOf b) (sequenceOf b) (requestFor b slot) (directs s slot hs)

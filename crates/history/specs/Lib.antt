@@ -1,4 +1,4 @@
--- Histories of blocks. All of it is what a reader must believe.
+-- Document 01, "Interpreting a place": histories of blocks. All three files are what a reader must believe.
 pub mod History
 pub mod Ancestry
 pub mod Forks

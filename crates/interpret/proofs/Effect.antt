@@ -1,5 +1,5 @@
--- An interpretation that passes its checks: the table shows the mark and nothing else new and stays in form, and what is written has the
--- length of a place's part, so the buffer keeps its length. Assumes nothing.
+-- An interpretation that passes its checks: the table shows the mark and no other change and stays in form, and what is written has the length of a
+-- place's part, so the buffer keeps its length. Assumes nothing.
 use mathlib.Core.Path.{_≡_, refl, sym, ap, _∙_}
 use mathlib.Core.Bool.{Bool, true, false}
 use mathlib.Core.List.{List, List·Memᴰ, List·Memᴰ·head, List·Memᴰ·tail, List·Memᴰ·not-nil, List·Memᴰ·cases-cons}

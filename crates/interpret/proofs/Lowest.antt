@@ -1,4 +1,4 @@
--- Of the numbers of a kind from a sender only the lowest has an effect: the code hears no other. Assumes nothing.
+-- Of the numbers of one kind from one sender only the lowest has an effect, so the code hears no other. Assumes nothing.
 use mathlib.Core.Path.{_≡_, refl, sym, ap, _∙_}
 use mathlib.Core.Logic.{_≢_}
 use mathlib.Core.Bool.{Bool, true, false, not, _&&_, cond}

@@ -1,5 +1,5 @@
--- Document 01, "Interpreting a place", and rows 12 to 15 of "What is turned down": what interpretation answers, and what it leaves. The
--- checks are made over a view, so that a ledger makes the same ones.
+-- Document 01, "Interpreting a place", and rows 12 to 15 of "What is turned down": what interpretation answers, and what it leaves. The checks are
+-- made over a view, so that the ledger of crates/run makes the same checks.
 use mathlib.Core.Bool.{Bool, not, cond}
 use mathlib.Core.List.{List, [], _∷_}
 use Prim.Native.Nat.{ℕ, zero, suc}
@@ -18,14 +18,15 @@ use Rattle.table.specs.Form.{inForm}
 use Rattle.records.specs.Layout.{bufferSize, partStart, recordIn, numbersOf}
 use Rattle.interpret.specs.Slot.{Direct, interpretSlot}
 
--- the block of place j with its record in the buffer
+-- the block of place j, with its record in a slot, as it stands in the buffer
 abbrev pub directAt : View → List ℕ → ℕ → ℕ → Direct
 directAt v buffer slot j = record { site = v .row j .site; sequence = v .row j .sequence; state = recordIn buffer j slot }
 
+-- the list with a block before it, if the test passes
 unfoldable pub joinIf : Bool → Direct → List Direct → List Direct
 joinIf test d ds = cond test (d ∷ ds) ds
 
--- the blocks of the places below k that r refers to. Their order does not matter: messages are a set, and there is at most one parent
+-- the blocks of the places below k that the row r refers to. Their order does not matter: messages are a set, and there is at most one parent
 unfoldable pub directsBelow : View → List ℕ → ℕ → Row → ℕ → List Direct
 directsBelow v buffer slot r zero = []
 directsBelow v buffer slot r (suc j) = joinIf (r .refersTo j) (directAt v buffer slot j) (directsBelow v buffer slot r j)
@@ -35,7 +36,7 @@ unfoldable pub recordFor : Setup → View → List ℕ → ℕ → ℕ → SlotR
 recordFor s v buffer i slot =
     interpretSlot s slot (v .row i .site) (v .row i .sequence) (v .row i .request slot) (directsBelow v buffer slot (v .row i) i)
 
--- the 320 numbers of a place
+-- the 320 numbers that interpretation writes for a place
 abbrev pub written : Setup → View → List ℕ → ℕ → List ℕ
 written s v buffer i = numbersOf (recordFor s v buffer i)
 
@@ -50,14 +51,15 @@ interpretationChecks formed v size i =
     ∷ check 15 (not (anyBelow (refersUninterpreted v (v .row i)) i)) (firstBelow (refersUninterpreted v (v .row i)) i)
     ∷ []
 
+-- the answer of an interpretation
 unfoldable pub interpretation : Bytes → List ℕ → ℕ → Answer
 interpretation t buffer i = answerTo (interpretationChecks (inForm t) (viewOf t) (length buffer) i) 0
 
--- "The place is then marked interpreted; the table has no other change"
+-- the table after an interpretation: "The place is then marked interpreted; the table has no other change". By a refusal it is as it was
 unfoldable pub marked : Bytes → List ℕ → ℕ → Bytes
 marked t buffer i = cond (eqb (interpretation t buffer i .refusal) 0) (withMark t i) t
 
--- "only the 320 numbers that belong to that place are written"
+-- the record buffer after an interpretation: "only the 320 numbers that belong to that place are written". By a refusal it is as it was
 unfoldable pub recorded : Bytes → List ℕ → ℕ → List ℕ
 recorded t buffer i =
     cond (eqb (interpretation t buffer i .refusal) 0) (splice buffer (partStart i) (written (setupOf t) (viewOf t) buffer i)) buffer

@@ -1,4 +1,4 @@
--- Interpretation of a place. Slot, Interpretation and Promises are what a reader must believe; nothing in Steps need be believed.
+-- Document 01, "Interpreting a place". Slot, Interpretation and Promises are what a reader must believe; nothing in Steps need be believed.
 pub mod Slot
 pub mod Interpretation
 pub mod Promises

@@ -13,7 +13,7 @@ use Rattle.table.specs.Promises.{Marked}
 use Rattle.records.specs.Layout.{bufferSize}
 use Rattle.interpret.specs.Interpretation.{interpretation, marked, recorded}
 
--- check 2 holds, then 12, then 13, then 14
+-- Whole: checks 2 and 12 hold. Held: check 13 holds too. Open: check 14 holds too
 pub record RecordsSized (t : Bytes) (buffer : List ℕ) : Type 0 where
   pub formed : inForm t ≡ true
   pub size : length buffer ≡ bufferSize
@@ -26,7 +26,7 @@ pub record Open (t : Bytes) (buffer : List ℕ) (i : ℕ) : Type 0 where
   pub placeHeld : PlaceHeld t buffer i
   pub unmarked : markAt t i ≢ 1
 
--- place j is a direct reference of place i and not interpreted
+-- place j is a direct reference of place i and is not interpreted
 pub record Unready (t : Bytes) (i j : ℕ) : Type 0 where
   pub lower : j < i
   pub refers : rowAt t i .refersTo j ≡ true
@@ -42,13 +42,13 @@ pub record Causes (t : Bytes) (buffer : List ℕ) (i : ℕ) : Type 0 where
   pub none : (interpretation t buffer i .refusal ≡ 0) ↔ (Open t buffer i × (((j : ℕ) × Unready t i j) → ⊥))
   -- "lowest such place"
   pub lowest : interpretation t buffer i .refusal ≡ 15 → First (Unready t i) (interpretation t buffer i .value)
-  -- beside any other number the value is 0
+  -- beside any number but 15 the value is 0
   pub noValue : interpretation t buffer i .refusal ≢ 15 → interpretation t buffer i .value ≡ 0
 
 pub record Promises : Type 0 where
   pub causes : (t : Bytes) (buffer : List ℕ) (i : ℕ) → Causes t buffer i
   -- the place is marked, and the table has no other change
   pub shown : (t : Bytes) (buffer : List ℕ) (i : ℕ) → interpretation t buffer i .refusal ≡ 0 → Marked t (marked t buffer i) i
-  -- form is kept, and the buffer's length
+  -- a table in form is in form after any interpretation, refused or not, and the buffer keeps its length
   pub kept : (t : Bytes) (buffer : List ℕ) (i : ℕ) → inForm t ≡ true → inForm (marked t buffer i) ≡ true
   pub sized : (t : Bytes) (buffer : List ℕ) (i : ℕ) → length (recorded t buffer i) ≡ length buffer

@@ -1,5 +1,5 @@
--- Document 01, "Interpreting a place", for one slot: the record of a block from its site, its sequence number and its counted request, and
--- from the blocks that it refers to directly. Where those stand, in a table or in a history, is not said here: one definition serves both.
+-- Document 01, "Interpreting a place", for one slot: the record of a block from its site, its sequence number and its counted request, and from the
+-- blocks that it refers to directly. It is not said here whether these blocks stand in a table or in a history: one definition serves both.
 use mathlib.Core.Bool.{Bool, not, cond, _&&_}
 use mathlib.Core.List.{List, [], _∷_, _++_, map}
 use Prim.Native.Nat.{ℕ, zero, suc}
@@ -28,15 +28,16 @@ unfoldable pub insert : ℕ → List ℕ → List ℕ
 insert v [] = v ∷ []
 insert v (x ∷ xs) = cond (ltb v x) (v ∷ x ∷ xs) (cond (eqb v x) (x ∷ xs) (x ∷ insert v xs))
 
+-- the list with a number put into it, if the test passes
 unfoldable pub insertIf : Bool → ℕ → List ℕ → List ℕ
 insertIf test v xs = cond test (insert v xs) xs
 
--- the numbers of a kind made in the blocks of site p, as a set, lower ones first; 0 is none
+-- the numbers of the messages of kind k made in the blocks of site p, as a set, lower numbers first; 0 is no message
 unfoldable pub numbers : Kind → ℕ → List Direct → List ℕ
 numbers k p [] = []
 numbers k p (d ∷ ds) = insertIf (eqb (d .site) p && not (eqb (madeOf k (d .state)) 0)) (madeOf k (d .state)) (numbers k p ds)
 
--- the messages of a kind from the senders below n, lower senders first
+-- the messages of kind k from the senders below n, lower senders first
 unfoldable pub messagesOf : Kind → ℕ → List Direct → List Message
 messagesOf k zero ds = []
 messagesOf k (suc p) ds = messagesOf k p ds ++ map (message k p) (numbers k p ds)
@@ -45,7 +46,8 @@ messagesOf k (suc p) ds = messagesOf k p ds ++ map (message k p) (numbers k p ds
 unfoldable pub messages : ℕ → List Direct → List Message
 messages n ds = messagesOf Send n ds ++ (messagesOf Echo n ds ++ messagesOf Ready n ds)
 
--- the parent's record with nothing made, the request, and then the messages. What is made here is not among them
+-- the record of a block in a slot: the parent's record with nothing made, then the request, then the messages. "Messages made here are not heard
+-- here"
 unfoldable pub interpretSlot : Setup → ℕ → ℕ → ℕ → ℕ → List Direct → SlotRecord
 interpretSlot s slot site sequence v ds =
     receiveAll (s .sites) (ownerOf s slot) (messages (s .sites) ds)

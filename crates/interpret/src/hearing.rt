@@ -1,4 +1,4 @@
-// The messages made in the blocks that a place refers to, and a record that hears them.
+// The messages made in the blocks that a place refers to, and the record after hearing them.
 use broadcast::Kind;
 use broadcast::SlotRecord;
 use setup::MAX_SITES;
@@ -9,7 +9,8 @@ ghost use Rattle.setup.specs.Setup.{maxSites};
 ghost use Rattle.broadcast.specs.declared.Kind.the-variants.{Send, Echo, Ready};
 ghost use Rattle.interpret.specs.Steps.{PlaceList, leastOf, lowestOf, heardFrom, heardAll};
 
-// For each site the lowest number of each kind made in its blocks, 0 if there is none. No other can have an effect.
+// For each site, the lowest number of each kind that was made in its blocks, 0 if there is none. A higher number has no effect: of a sender's
+// messages of one kind only the first counts.
 struct Lowest {
     sends: [u16; MAX_SITES],
     echoes: [u16; MAX_SITES],
@@ -29,7 +30,7 @@ fn least(v: u16, w: u16) -> u16
     if v < w { v } else { w }
 }
 
-// The lowest numbers made in the blocks of a list of places.
+// For each site, the lowest number of each kind that was made in its blocks at a list of places.
 fn lowest_of(table: &[u8], places: &[u8], records: &[u16], slot: usize) -> Lowest
     requires { ⌜ PlaceList (now table) (now places) (now records) slot ⌝ }
     ensures { λ r. ⌜ r .sends ≡ lowestOf (now (table .entry)) (now (places .entry)) (now (records .entry)) slot Send ⌝ }
@@ -56,7 +57,7 @@ fn lowest_of(table: &[u8], places: &[u8], records: &[u16], slot: usize) -> Lowes
     }
 }
 
-// The record after one message of a kind from each site that has a number, lower senders first.
+// The record after one message of this kind from each site whose number in `low` is not 0, lower senders first.
 fn hear(state: SlotRecord, n: u8, owner: u8, kind: Kind, low: [u16; MAX_SITES]) -> SlotRecord
     requires { ⌜ n ≤ maxSites ⌝ }
     ensures { λ r. ⌜ r ≡ heardFrom n owner kind low n state ⌝ }
@@ -73,7 +74,7 @@ fn hear(state: SlotRecord, n: u8, owner: u8, kind: Kind, low: [u16; MAX_SITES]) 
     s
 }
 
-// The record after all messages: SENDs before ECHOs before READYs.
+// The record after all messages made in the blocks of a list of places: SENDs before ECHOs before READYs.
 pub fn hear_all(
     state: SlotRecord,
     table: &[u8],

@@ -28,7 +28,7 @@ ghost use Rattle.records.specs.Layout.{bufferSize};
 ghost use Rattle.interpret.specs.Interpretation.{recordFor, written, interpretation, marked, recorded};
 ghost use Rattle.interpret.specs.Steps.{referredBy, Interpretable, InterpretableSlot, parentOf, stateAt};
 
-// Puts the places below this one that are in the mask to the front of the list, lower ones first; how many they are.
+// Puts the places that are in the mask and below `place` to the front of the list, lower places first, and answers how many they are.
 fn list_places(references: u64, place: usize, list: &mut [u8]) -> usize
     requires { ⌜ (place ≤ maxPlaces) × (length (now list) ≡ maxReferences) × (countBelow (inMask references) maxPlaces ≤ maxReferences) ⌝ }
     ensures { λ r. ⌜ r ≤ maxReferences ⌝ }
@@ -46,7 +46,7 @@ fn list_places(references: u64, place: usize, list: &mut [u8]) -> usize
     count
 }
 
-// The last place of the list that is the parent's, or MAX_PLACES.
+// The last place of the list that holds the parent of the block at `place`, or MAX_PLACES if there is none.
 fn parent_of(table: &[u8], place: usize, references: u64, places: &[u8]) -> usize
     requires { ⌜ Place (now table) place × (references ≡ referencesAt (now table) place) × (now places ≡ referredBy (now table) place) ⌝ }
     ensures { λ r. ⌜ r ≡ parentOf (now (table .entry)) place (now (places .entry)) ⌝ }
@@ -65,7 +65,7 @@ fn parent_of(table: &[u8], place: usize, references: u64, places: &[u8]) -> usiz
     parent
 }
 
-// How a block starts in a slot: the record at the parent's place, or a blank one, with nothing made.
+// How a block starts in a slot: the record at the parent's place, or a blank record without a parent, with nothing made.
 fn start_of(records: &[u16], parent: usize, slot: usize) -> SlotRecord
     requires { ⌜ (length (now records) ≡ bufferSize) × (slot < slotCount) ⌝ }
     ensures { λ r. ⌜ r ≡ nothingMade (stateAt (now (records .entry)) slot parent) ⌝ }
@@ -80,7 +80,7 @@ fn start_of(records: &[u16], parent: usize, slot: usize) -> SlotRecord
     s
 }
 
-// A slot's record of a place: the parent's with nothing made, then the request, then the messages.
+// The record of a place in a slot: the parent's record with nothing made, then the request, then the messages.
 fn slot_record(
     table: &[u8],
     place: usize,
@@ -100,7 +100,7 @@ fn slot_record(
     hearing::hear_all(asked, table, places, records, slot)
 }
 
-// The numbers of a place: its records, slot after slot.
+// The 320 numbers of a place: its eight records, slot after slot.
 fn place_records(table: &[u8], place: usize, records: &[u16]) -> [u16; PART_SIZE]
     requires { ⌜ Interpretable (now table) place (now records) ⌝ }
     ensures { λ r. ⌜ r ≡ written (setupOf (now (table .entry))) (viewOf (now (table .entry))) (now (records .entry)) place ⌝ }
@@ -119,7 +119,7 @@ fn place_records(table: &[u8], place: usize, records: &[u16]) -> [u16; PART_SIZE
     out
 }
 
-// Writes the records of a place and marks it interpreted. Refuses in the order of document 01; a refusal changes nothing.
+// Writes the records of a place and marks the place interpreted. Refuses in the order of document 01; a refusal changes nothing.
 pub fn interpret(table: &mut [u8], place: usize, records: &mut [u16]) -> Answer
     ensures { λ r. ⌜ r ≡ interpretation (now (table .entry)) (now (records .entry)) place ⌝ }
     ensures { λ _. ⌜ now (table .exit) ≡ marked (now (table .entry)) (now (records .entry)) place ⌝ }

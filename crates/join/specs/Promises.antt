@@ -19,12 +19,12 @@ use Rattle.join.specs.Join.{refersBy, sameBlock, isExtra, joinedCount, j
 
 -- ---- refusals
 
--- check 2 passes
+-- check 2 holds
 pub record BothFormed (left right : Bytes) : Type 0 where
   pub leftFormed : inForm left ≡ true
   pub rightFormed : inForm right ≡ true
 
--- and 12
+-- checks 2 and 12 hold
 pub record BuffersSized (left right : Bytes) (leftRecords rightRecords third : List ℕ) : Type 0 where
   pub leftFormed : inForm left ≡ true
   pub rightFormed : inForm right ≡ true
@@ -32,18 +32,18 @@ pub record BuffersSized (left right : Bytes) (leftRecords rightRecords third : L
   pub rightSize : length rightRecords ≡ bufferSize
   pub size : length third ≡ bufferSize
 
--- and 31
+-- checks 2, 12 and 31 hold
 pub record Unretired (left right : Bytes) (leftRecords rightRecords third : List ℕ) : Type 0 where
   pub buffersSized : BuffersSized left right leftRecords rightRecords third
   pub leftRetired : retiredOf left ≡ 0
   pub rightRetired : retiredOf right ≡ 0
 
--- and 23
+-- checks 2, 12, 31 and 23 hold
 pub record OneSetup (left right : Bytes) (leftRecords rightRecords third : List ℕ) : Type 0 where
   pub unretired : Unretired left right leftRecords rightRecords third
   pub setup : setupOf left ≡ setupOf right
 
--- the left's place i and a place of the right have equal digests, and other fields or references
+-- the left's place i and some place of the right have equal digests, but different fields or references
 pub record Clash (left right : Bytes) (i : ℕ) : Type 0 where
   pub below : i < countOf left
   pub other : ℕ
@@ -51,7 +51,7 @@ pub record Clash (left right : Bytes) (i : ℕ) : Type 0 where
   pub digest : digestAt right other ≡ digestAt left i
   pub differ : sameBlock (viewOf left) i (viewOf right) other ≡ false
 
--- and 24
+-- checks 2, 12, 31, 23 and 24 hold
 pub record Apart (left right : Bytes) (leftRecords rightRecords third : List ℕ) : Type 0 where
   pub one : OneSetup left right leftRecords rightRecords third
   pub none : ((i : ℕ) × Clash left right i) → ⊥
@@ -71,7 +71,7 @@ pub record Causes (left right : Bytes) (leftRecords rightRecords third : List �
   pub none : (answer .refusal ≡ 0) ↔ (Apart left right leftRecords rightRecords third × (joinedCount (viewOf left) (viewOf right) ≤ maxPlaces))
   -- "with the lowest left place"
   pub lowest : answer .refusal ≡ 24 → First (Clash left right) (answer .value)
-  -- beside any other refusal the value is 0
+  -- beside a refusal other than 24 the value is 0
   pub noValue : answer .refusal ≢ 0 → answer .refusal ≢ 24 → answer .value ≡ 0
 
 -- ---- the result, told without the order in which it is made
@@ -83,11 +83,11 @@ pub record SameFields (t : Bytes) (p : ℕ) (u : Bytes) (q : ℕ) : Type 0 where
   pub sequence : sequenceAt t p ≡ sequenceAt u q
   pub request : (slot : ℕ) → slot < slotCount → countedRequestAt t p slot ≡ countedRequestAt u q slot
 
--- where the right's block j stands if it is not in the left
+-- where the block at the right's place j stands in the result, if it is not in the left
 abbrev pub placeBehind : Bytes → Bytes → ℕ → ℕ
 placeBehind left right j = countOf left + countBelow (isExtra (viewOf left) (viewOf right)) j
 
--- the table t
+-- the table t is the result of joining two tables
 pub record Shape (left right t : Bytes) : Type 0 where
   pub setup : setupOf t ≡ setupOf left
   pub retired : retiredOf t ≡ 0
@@ -97,20 +97,21 @@ pub record Shape (left right t : Bytes) : Type 0 where
   pub firstRefers : (p q : ℕ) → p < countOf left → q < maxPlaces → rowAt t p .refersTo q ≡ rowAt left p .refersTo q
   -- "then the right's blocks not in the left, in their order"
   pub behind : (j : ℕ) → j < countOf right → isExtra (viewOf left) (viewOf right) j ≡ true → SameFields t (placeBehind left right j) right j
-  -- "references renumbered": it refers to a place exactly if it refers to the block there
+  -- "references renumbered": such a block of the right refers to a place of the result exactly if it refers, in the right, to the block that stands
+  -- at that place
   pub behindRefers : (j q : ℕ) → j < countOf right → isExtra (viewOf left) (viewOf right) j ≡ true → q < countOf t
       → rowAt t (placeBehind left right j) .refersTo q ≡ refersBy (viewOf right) j (digestAt t q)
   -- "A block interpreted in either is interpreted in the result", and no other is
   pub marks : (p : ℕ) → p < countOf t → interpreted (rowAt t p)
       ≡ (interpretedAt (viewOf left) (placeIn (viewOf left) (digestAt t p)) || interpretedAt (viewOf right) (placeIn (viewOf right) (digestAt t p)))
 
--- the third buffer b, beside the table t
+-- b is the third buffer after joining, and t the joined table
 pub record Copies (left right : Bytes) (leftRecords rightRecords third : List ℕ) (t : Bytes) (b : List ℕ) : Type 0 where
   pub size : length b ≡ length third
   -- an interpreted place has the part that was handed back for its block
   pub handed : (p : ℕ) → p < countOf t → interpreted (rowAt t p) ≡ true
       → partOf b p ≡ partFor (viewOf left) (viewOf right) leftRecords rightRecords (digestAt t p)
-  -- "whose rest stays": the part of every other place
+  -- "whose rest stays": the part of a place stays that is not interpreted, or where no block is held
   pub rest : (p : ℕ) → p < maxPlaces → (p < countOf t → interpreted (rowAt t p) ≡ false) → partOf b p ≡ partOf third p
 
 -- ---- a call
@@ -119,7 +120,7 @@ pub record Joins (left right : Bytes) (leftRecords rightRecords third : List ℕ
   pub causes : Causes left right leftRecords rightRecords third answer
   -- a refusal changes nothing
   pub refused : answer .refusal ≢ 0 → (t ≡ left) × (b ≡ third)
-  -- form is kept
+  -- where the left's table is in form, so is the table after the call, refused or not
   pub kept : inForm left ≡ true → inForm t ≡ true
   -- a success tells how many blocks the result has
   pub counted : answer .refusal ≡ 0 → answer .value ≡ countOf t

@@ -27,7 +27,7 @@ blocksChecks left right = drop 4 (joinChecks left right 0 0 0)
 abbrev pub blocksAnswer : Bytes → Bytes → Answer
 blocksAnswer left right = answerTo (blocksChecks left right) (joinedCount (viewOf left) (viewOf right))
 
--- what these leave of the left's table and of the third buffer
+-- what checks 24 and 25 leave of the left's table and of the third buffer
 abbrev pub blocksTable : Bytes → Bytes → Bytes
 blocksTable left right = cond (eqb (blocksAnswer left right .refusal) 0) (joinedTable left right) left
 
@@ -37,13 +37,13 @@ blocksRecords left right leftRecords rightRecords third =
 
 -- ---- what the checks have shown
 
--- checks 2 and 12
+-- check 2 holds, and check 12 for the two sides' record buffers
 pub record Sides (left right : Bytes) (leftRecords rightRecords : List ℕ) : Type 0 where
   pub formed : BothFormed left right
   pub leftSize : length leftRecords ≡ bufferSize
   pub rightSize : length rightRecords ≡ bufferSize
 
--- 2, 31, 23, 24 and 25, of the two tables
+-- checks 2, 31, 23, 24 and 25, those of the two tables, hold
 pub record Joinable (left right : Bytes) : Type 0 where
   pub formed : BothFormed left right
   pub leftRetired : retiredOf left ≡ 0
@@ -52,7 +52,7 @@ pub record Joinable (left right : Bytes) : Type 0 where
   pub apart : anyBelow (clashAt (viewOf left) (viewOf right)) (countOf left) ≡ false
   pub fits : joinedCount (viewOf left) (viewOf right) ≤ maxPlaces
 
--- all of them, with the records
+-- all checks hold
 pub record JoinableSides (left right : Bytes) (leftRecords rightRecords third : List ℕ) : Type 0 where
   pub joinable : Joinable left right
   pub sides : Sides left right leftRecords rightRecords
@@ -60,36 +60,36 @@ pub record JoinableSides (left right : Bytes) (leftRecords rightRecords third : 
 
 -- ---- where blocks stand, as a list of places
 
--- for each place of `other` the place of its block in the table, or the table's count
+-- the list `places` has, for each place of `other`, the place in the table that holds the same block, or the table's count
 pub record PlacesFound (table other : Bytes) (places : List ℕ) : Type 0 where
   pub size : length places ≡ maxPlaces
   pub at : (k : ℕ) → k < countOf other → getD places k 0 ≡ placeIn (viewOf table) (digestAt other k)
 
--- the place in the result of the right's block j
+-- the place in the result of the block at the right's place j
 abbrev pub resultPlace : Bytes → Bytes → ℕ → ℕ
 resultPlace left right j = cond (isExtra (viewOf left) (viewOf right) j) (placeBehind left right j) (placeIn (viewOf left) (digestAt right j))
 
--- for each place of the right
+-- the list `places` has, for each place of the right, the place of its block in the result
 pub record Numbered (left right : Bytes) (places : List ℕ) : Type 0 where
   pub size : length places ≡ maxPlaces
   pub at : (j : ℕ) → j < countOf right → getD places j 0 ≡ resultPlace left right j
 
--- the blocks of these references all stand at places of the mask
+-- the blocks of these references, whose places in the other table the list tells, all stand at places of the mask
 abbrev pub withinBy : ℕ → List ℕ → ℕ → Bool
 withinBy references places mask = not (anyBelow (λ k. inMask references k && not (inMask mask (getD places k 0))) maxPlaces)
 
--- they all have a place in the result
+-- the blocks of these references all have a place in the list
 pub record EachPlaced (references : ℕ) (places : List ℕ) : Type 0 where
   pub size : length places ≡ maxPlaces
   pub below : (k : ℕ) → k < maxPlaces → inMask references k ≡ true → getD places k 0 < maxPlaces
 
--- the mask of these places
+-- the mask of the places that the list tells for the blocks of these references
 abbrev pub renumberedBy : ℕ → List ℕ → ℕ
 renumberedBy references places = maskBelow (λ p. anyBelow (λ k. inMask references k && eqb (getD places k 0) p) maxPlaces) maxPlaces
 
 -- ---- steps
 
--- a place of each side, and where the blocks of each side stand in the other
+-- place i of the left, place j of the right, and where the blocks of each side stand in the other
 pub record Pair (left : Bytes) (i : ℕ) (right : Bytes) (j : ℕ) (inRight inLeft : List ℕ) : Type 0 where
   pub formed : BothFormed left right
   pub there : PlacesFound right left inRight
@@ -97,7 +97,7 @@ pub record Pair (left : Bytes) (i : ℕ) (right : Bytes) (j : ℕ) (inRight inLe
   pub first : i < countOf left
   pub second : j < countOf right
 
--- the table after the right's places below j
+-- t is the left's table after the right's places below j, and place j is the next
 pub record Next (t right : Bytes) (j : ℕ) (places : List ℕ) : Type 0 where
   pub left : Bytes
   pub joinable : Joinable left right

@@ -1,4 +1,5 @@
-// Check 24: blocks of equal digests with other fields or references.
+// Check 24: blocks of equal digests with different fields or references. Of two tables, `in_right` has for each place of the left the place of the
+// same block in the right, or the right's count; `in_left` has it for each place of the right.
 use table::rows;
 ghost use mathlib.Core.Path.{_≡_};
 ghost use Prim.Native.Nat.{_<_};
@@ -14,7 +15,7 @@ ghost use Rattle.join.specs.Join.{sameBlock, clashAt};
 ghost use Rattle.join.specs.Promises.{BothFormed};
 ghost use Rattle.join.specs.Steps.{PlacesFound, Pair, withinBy};
 
-// Whether a place, which may be none, is in the mask.
+// Whether a place is in the mask; false for a number above 63, which is no place.
 fn is_in(mask: u64, place: usize) -> bool
     ensures { λ r. ⌜ r ≡ inMask mask place ⌝ }
 {
@@ -24,7 +25,8 @@ fn is_in(mask: u64, place: usize) -> bool
     base::in_mask(mask, place)
 }
 
-// Whether the blocks of these references all stand at places of the mask. A turn is taken for each reference, from the highest down.
+// Whether the blocks of these references, which stand in the other table at the places of the list, all stand there at places of the mask. The loop
+// takes a turn for each reference, from the highest down.
 fn refers_within(references: u64, places: &[u8], mask: u64) -> bool
     requires { ⌜ length (now places) ≡ maxPlaces ⌝ }
     ensures { λ r. ⌜ r ≡ withinBy references (now (places .entry)) mask ⌝ }
@@ -40,7 +42,7 @@ fn refers_within(references: u64, places: &[u8], mask: u64) -> bool
     true
 }
 
-// Whether the counted requests of two places are the same.
+// Whether two places of two tables have the same counted request in every slot.
 fn same_requests(table: &[u8], i: usize, other: &[u8], j: usize) -> bool
     requires { ⌜ Place (now table) i × Place (now other) j ⌝ }
     ensures { λ r. ⌜ r ≡ allBelow (λ slot. eqb (countedRequestAt (now (table .entry)) i slot) (countedRequestAt (now (other .entry)) j slot)) slotCount ⌝ }
@@ -55,7 +57,7 @@ fn same_requests(table: &[u8], i: usize, other: &[u8], j: usize) -> bool
     true
 }
 
-// Whether two places have the same fields, interpreted aside, and the same references.
+// Whether the left's place i and the right's place j have the same fields, interpreted aside, and refer to the same blocks.
 fn same_block(
     left: &[u8],
     i: usize,
@@ -84,7 +86,7 @@ fn same_block(
     refers_within(others, in_left, referred)
 }
 
-// Whether the right has the block of the left's place i with other fields or references.
+// Whether the right holds the digest of the left's place i with different fields or references.
 fn clash_at(left: &[u8], i: usize, right: &[u8], in_right: &[u8], in_left: &[u8]) -> bool
     requires { ⌜ BothFormed (now left) (now right) × PlacesFound (now right) (now left) (now «in_right») × PlacesFound (now left) (now right) (now «in_left») × (i < countOf (now left)) ⌝ }
     ensures { λ r. ⌜ r ≡ clashAt (viewOf (now (left .entry))) (viewOf (now (right .entry))) i ⌝ }
@@ -96,7 +98,7 @@ fn clash_at(left: &[u8], i: usize, right: &[u8], in_right: &[u8], in_left: &[u8]
     !same_block(left, i, right, j, in_right, in_left)
 }
 
-// The lowest place of the left that clashes with one of the right, or the left's count.
+// The lowest place of the left that clashes with a place of the right, or the left's count if none does.
 pub fn first_clash(left: &[u8], right: &[u8], in_right: &[u8], in_left: &[u8]) -> usize
     requires { ⌜ BothFormed (now left) (now right) × PlacesFound (now right) (now left) (now «in_right») × PlacesFound (now left) (now right) (now «in_left») ⌝ }
     ensures { λ r. ⌜ r ≡ firstBelow (clashAt (viewOf (now (left .entry))) (viewOf (now (right .entry)))) (countOf (now (left .entry))) ⌝ }

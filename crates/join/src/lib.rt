@@ -39,7 +39,7 @@ fn same_setup(left: &[u8], right: &[u8]) -> bool
     base::same(table::rows::owners_of(left), table::rows::owners_of(right))
 }
 
-// The checks of the two sides as a whole: 2, 12, 31 and 23.
+// The checks that read no single block: 2, 12, 31 and 23.
 fn sides_answer(
     left: &[u8],
     right: &[u8],
@@ -73,7 +73,7 @@ fn sides_answer(
     answer::success(0)
 }
 
-// The checks of the blocks, 24 and 25. Where they pass, `places` has for each place of the right the place of its block in the result.
+// The checks of the blocks: 24 and 25. If they hold, `places` has for each place of the right the place of its block in the result.
 fn blocks_answer(left: &[u8], right: &[u8], in_right: &[u8], places: &mut [u8]) -> Answer
     requires { ⌜ BothFormed (now left) (now right) × PlacesFound (now right) (now left) (now «in_right») × PlacesFound (now left) (now right) (now places) ⌝ }
     ensures { λ r. ⌜ r ≡ blocksAnswer (now (left .entry)) (now (right .entry)) ⌝ }
@@ -90,7 +90,8 @@ fn blocks_answer(left: &[u8], right: &[u8], in_right: &[u8], places: &mut [u8]) 
     answer::success(count)
 }
 
-// Makes the left's table that of both and fills the third buffer, where each block's place is known.
+// Makes the left's table that of both sides, and copies the record parts to the third buffer, where `places` has the place of each block in the
+// result.
 fn join_sides<'a>(
     left: &mut [u8],
     right: &[u8],
@@ -109,7 +110,7 @@ fn join_sides<'a>(
     rows::join_rows(left, right, places);
 }
 
-// Joins two sides of one setup: looks each block up, makes the checks of the blocks, and then what they allow.
+// Joins two sides of one setup: looks up each block of either side in the other, makes the checks of the blocks, and joins the sides if they hold.
 fn join_blocks<'a>(
     left: &mut [u8],
     right: &[u8],
@@ -142,8 +143,8 @@ fn join_blocks<'a>(
     answer
 }
 
-// Makes the left's table that of both, and copies the record parts of its interpreted places to the third buffer, whose rest stays. Refuses in
-// the order of document 02; a refusal changes nothing.
+// Makes the left's table that of both sides, and copies the record parts of its interpreted places to the third buffer, whose rest stays. Answers
+// with the number of blocks. Refuses in the order of document 02; a refusal changes nothing.
 pub fn join<'a>(
     left: &mut [u8],
     right: &[u8],

@@ -1,4 +1,4 @@
-// The record parts of the result.
+// The record parts of the joined table, copied to the third buffer.
 use table::rows;
 ghost use mathlib.Core.Path.{_≡_};
 ghost use Prim.Native.Nat.{_<_};
@@ -11,7 +11,7 @@ ghost use Rattle.records.specs.Layout.{bufferSize, partStart};
 ghost use Rattle.join.specs.Join.{interpretedAt, handedBack, copiedBelow};
 ghost use Rattle.join.specs.Steps.{Sides, Joinable, PlacesFound, Numbered, extrasBelow};
 
-// Whether a place, which may be none, holds an interpreted block.
+// Whether place i holds an interpreted block; false for a number from the count on, where no block is held.
 fn interpreted_at(table: &[u8], i: usize) -> bool
     requires { ⌜ Places (now table) (countOf (now table)) ⌝ }
     ensures { λ r. ⌜ r ≡ interpretedAt (viewOf (now (table .entry))) i ⌝ }
@@ -22,8 +22,8 @@ fn interpreted_at(table: &[u8], i: usize) -> bool
     rows::mark_at(table, i) == 1
 }
 
-// The record part of the block at the left's place i and the right's place j, either of which may be none: that of the side which interpreted
-// it, the left's if both did, an empty part of the left's if neither.
+// The record part for a block at the left's place i and the right's place j, either of which may be a count and so no place: the part of the side
+// that interpreted it, the left's if both did, an empty part of the left's if neither.
 fn part_of<'a>(
     left: &[u8],
     i: usize,
@@ -44,7 +44,7 @@ fn part_of<'a>(
     &left_records[0..0]
 }
 
-// Copies that part to a place of the third buffer.
+// Copies the record part for a block at the left's place i and the right's place j to a place of the third buffer.
 fn copy_part<'a>(
     left: &[u8],
     i: usize,
@@ -62,7 +62,7 @@ fn copy_part<'a>(
     records::put_part(third, place, part);
 }
 
-// The parts of the left's places.
+// Copies the record parts for the blocks of the left to the third buffer, at their places.
 pub fn copy_left<'a>(
     left: &[u8],
     right: &[u8],
@@ -91,7 +91,7 @@ pub fn copy_left<'a>(
     }
 }
 
-// The parts of the right's blocks that are not in the left.
+// Copies the record parts for the right's blocks that are not in the left to the third buffer, at the places behind the left's.
 pub fn copy_extras<'a>(
     left: &[u8],
     right: &[u8],

@@ -1,4 +1,4 @@
-// Where blocks of one table stand in another: each is looked up once, and all that follows goes by its place.
+// Where the blocks of one table stand in another. Each block is looked up once by its digest; all that follows goes by places.
 use table::index;
 use table::rows;
 ghost use mathlib.Core.Path.{_≡_};
@@ -9,7 +9,7 @@ ghost use Rattle.join.specs.Join.{joinedCount};
 ghost use Rattle.join.specs.Promises.{BothFormed};
 ghost use Rattle.join.specs.Steps.{PlacesFound, Numbered};
 
-// For each place of `other` the place of its block in the table, or the table's count.
+// Fills `places` with the place in the table of the block at each place of `other`, or with the table's count if the table does not hold it.
 pub fn place_all(table: &[u8], other: &[u8], places: &mut [u8])
     requires { ⌜ BothFormed (now table) (now other) × (length (now places) ≡ maxPlaces) ⌝ }
     ensures { λ _. ⌜ PlacesFound (now (table .entry)) (now (other .entry)) (now (places .exit)) ⌝ }
@@ -24,7 +24,8 @@ pub fn place_all(table: &[u8], other: &[u8], places: &mut [u8])
     }
 }
 
-// Gives each block of the right that is not in the left the next place behind the left's; how many blocks the two have together.
+// Gives each block of the right that is not in the left the next place behind the left's blocks, and answers how many blocks the two tables have
+// together.
 pub fn number_extras(left: &[u8], right: &[u8], places: &mut [u8]) -> usize
     requires { ⌜ BothFormed (now left) (now right) × PlacesFound (now left) (now right) (now places) ⌝ }
     ensures { λ r. ⌜ r ≡ joinedCount (viewOf (now (left .entry))) (viewOf (now (right .entry))) ⌝ }

@@ -6,7 +6,8 @@ ghost use Rattle.table.specs.Layout.{viewOf};
 ghost use Rattle.join.specs.Join.{joinPlace, joinedTable};
 ghost use Rattle.join.specs.Steps.{Joinable, Numbered, Next, EachPlaced, renumberedBy};
 
-// The places in the result of the blocks of these references, as a mask. A turn is taken for each reference, from the highest down.
+// The mask of the places that the blocks of these references have in the result, by the list `places`. The loop takes a turn for each reference, from
+// the highest down.
 fn renumbered(references: u64, places: &[u8]) -> u64
     requires { ⌜ EachPlaced references (now places) ⌝ }
     ensures { λ r. ⌜ r ≡ renumberedBy references (now (places .entry)) ⌝ }
@@ -21,7 +22,8 @@ fn renumbered(references: u64, places: &[u8]) -> u64
     mask
 }
 
-// The right's place j: put at the next place if its block is not held, and else marked where that stands, if the right has interpreted it.
+// Joins the right's place j to the table. If the table does not hold its block, its row is put at the next place; else the block is marked where it
+// stands, if the right has interpreted it.
 fn join_place(table: &mut [u8], right: &[u8], j: usize, places: &[u8])
     requires { ⌜ Next (now table) (now right) j (now places) ⌝ }
     ensures { λ _. ⌜ now (table .exit) ≡ joinPlace (now (table .entry)) (viewOf (now (right .entry))) j ⌝ }
@@ -37,7 +39,7 @@ fn join_place(table: &mut [u8], right: &[u8], j: usize, places: &[u8])
     }
 }
 
-// All places of the right.
+// Joins all places of the right to the left's table, in their order.
 pub fn join_rows(left: &mut [u8], right: &[u8], places: &[u8])
     requires { ⌜ Joinable (now left) (now right) × Numbered (now left) (now right) (now places) ⌝ }
     ensures { λ _. ⌜ now (left .exit) ≡ joinedTable (now (left .entry)) (now (right .entry)) ⌝ }

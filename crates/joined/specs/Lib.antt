@@ -1,2 +1,2 @@
--- Request Eight: what joining promises of sites that calls reached. All of it is what a reader must believe.
+-- Request Eight: what joining promises of two sites that calls reached. A reader must believe it.
 pub mod Promises

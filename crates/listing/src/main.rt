@@ -1,8 +1,8 @@
-// The listing program: reads a campaign from standard input and writes its listing to standard output. Every line comes from `report`; here
-// is only reading and writing. It reads what is there, up to a buffer of 4,096 bytes, and writes the lines that it has before a read that may
-// wait. Promises: it is safe, it ends, and it holds no more of the input than that buffer does; each turn makes the steps that are due on the
-// bytes that are unread, keeps those that no step used, in their order, and puts what comes behind them. Assumes: the contracts of the kit's
-// calls on files. That a read puts the next bytes there, and that the lines are written, is tested.
+// The listing program: reads a campaign from standard input and writes its listing to standard output. Every line comes from `report`; here is only
+// reading and writing. It reads what is there, up to a buffer of 4,096 bytes, and writes the lines that it has before a read that may wait. Promises:
+// it is safe, it ends, and it holds no more of the input than that buffer does; each turn makes the steps that are due on the unread bytes, keeps the
+// bytes that no step used, in their order, and puts the bytes that come behind them. Assumes: the contracts of the kit's calls on files. That a read
+// brings the next bytes of the input, and that the lines are written, is tested.
 use libc::STDERR_FILENO;
 use libc::STDIN_FILENO;
 use libc::STDOUT_FILENO;
@@ -19,14 +19,14 @@ ghost use Rattle.sha256.specs.Sha256.{sha256};
 ghost use Rattle.report.specs.Framing.{pieceSize, wanted as Framing·wanted, linesSize};
 ghost use Rattle.report.specs.Gathering.{progress, turn as Gathering·turn};
 
-// How many bytes stand at the front of the input, whether no more will come, and whether reading or writing failed.
+// What a read leaves: how many bytes stand at the front of the input buffer, whether no more will come, and whether reading failed.
 struct Front {
     count: usize,
     is_ended: bool,
     is_failed: bool,
 }
 
-// Of the bytes at the front, moves those that are not used to the front.
+// Moves those of the first `count` bytes that are not among the first `used` to the front of the buffer.
 fn to_front(input: &mut [u8], used: usize, count: usize)
     requires { ⌜ (used ≤ count) × (count ≤ length (now input)) ⌝ }
     ensures { λ _. ⌜ now (input .exit) ≡ splice (now (input .entry)) 0 (drop used (take count (now (input .entry)))) ⌝ }
@@ -38,7 +38,7 @@ fn to_front(input: &mut [u8], used: usize, count: usize)
     }
 }
 
-// One read behind the bytes at the front. Where nothing more comes, the input is at its end.
+// Reads once, behind the first `count` bytes of the buffer. Where no byte comes, the input is at its end.
 fn read_more(input: &mut [u8], count: usize) -> Front
     requires { ⌜ count < length (now input) ⌝ }
     ensures { λ r. ⌜ (count ≤ r .count) × (r .count ≤ length (now (input .exit))) × (r .«is_ended» ≡ true → r .count ≡ count) ⌝ }
@@ -53,11 +53,12 @@ fn read_more(input: &mut [u8], count: usize) -> Front
     }
 }
 
+// Writes a message for the user to standard error.
 fn say(message: &[u8]) {
     io::write_all(STDERR_FILENO, message);
 }
 
-// Reads on where more may come, and fewer bytes are there than are wanted.
+// Reads once if more may come and fewer bytes are there than are wanted; else leaves the buffer as it is.
 fn read_on(input: &mut [u8], count: usize, is_ended: bool, wanted: usize) -> Front
     requires { ⌜ (count ≤ length (now input)) × (wanted ≤ length (now input)) ⌝ }
     ensures { λ r. ⌜ (count ≤ r .count) × (r .count ≤ length (now (input .exit))) × (r .«is_ended» ≡ true → r .count ≡ count) × («is_ended» ≡ true → r .«is_ended» ≡ true) × (wanted ≤ count → r .count ≡ count) ⌝ }
@@ -84,7 +85,7 @@ fn read_on(input: &mut [u8], count: usize, is_ended: bool, wanted: usize) -> Fro
     read
 }
 
-// Writes the lines at the front of the output, and answers whether that failed.
+// Writes the first `count` bytes of the output, which are lines, and answers whether writing failed.
 fn write_front(output: &[u8], count: usize) -> bool
     requires { ⌜ count ≤ length (now output) ⌝ }
 {
@@ -95,8 +96,8 @@ fn write_front(output: &[u8], count: usize) -> bool
     !is_written
 }
 
-// Between two turns: the state, how many bytes at the front of the input are unread, whether no more will come, and whether the program is
-// done, since the listing is at its end or reading or writing failed.
+// How far the program has come, between two turns: the state, how many bytes at the front of the input buffer are unread, whether no more will come,
+// and whether the program is done, since the listing is at its end or reading or writing failed.
 struct Progress {
     state: State,
     count: usize,
@@ -143,8 +144,9 @@ fn write_and_read(
     }
 }
 
-// One turn: the steps that are due, with their lines, and then the bytes that come. It is the definition's turn, for the bytes that came: none
-// where the input is at its end, and there it stays; and none where the bytes that the next step wants are there without them.
+// One turn: makes the steps that are due, writes their lines, and reads the bytes that come. State, table, records and unread bytes are then those of
+// `turn` in report/specs/Gathering.antt, for the bytes that came. No bytes came if the input is at its end, where it then stays, or if the bytes that
+// the next step wants were there already.
 fn turn(
     before: Progress,
     table: &mut [u8],
@@ -166,8 +168,8 @@ fn turn(
     write_and_read(next, input, count - used, is_ended, output, gathered.length)
 }
 
-// A proved loop has to end, and nothing says that the input does. So the turns are counted down from a number that no run uses up. None is left
-// once the program is done.
+// How many turns are left after a turn: none once the program is done. A proved loop has to end, and nothing says that the input does, so the turns
+// are counted down from a number that no run uses up.
 fn turns_left(turns: u64, is_done: bool) -> u64
     requires { ⌜ 0 < turns ⌝ }
     ensures { λ r. ⌜ r < turns ⌝ }
@@ -178,6 +180,7 @@ fn turns_left(turns: u64, is_done: bool) -> u64
     turns - 1
 }
 
+// Makes turns until the program is done.
 fn list(table: &mut [u8], records: &mut [u16], input: &mut [u8], output: &mut [u8])
     requires { ⌜ (pieceSize ≤ length (now input)) × (linesSize ≤ length (now output)) ⌝ }
 {

@@ -1,4 +1,5 @@
--- A record and its forty numbers: it is read from them alone, and it is read back from those it was made. Assumes nothing.
+-- A record and its forty numbers: a record is read from forty numbers alone, and a record that was made into numbers is read back from them. Assumes
+-- nothing.
 use mathlib.Core.Path.{_≡_, refl, sym, ap, _∙_}
 use mathlib.Core.List.{List, _++_}
 use Prim.Native.Nat.{ℕ, _+_, _≤_, _<_}

@@ -12,7 +12,7 @@ use Rattle.table.specs.View.{maxPlaces}
 
 -- ---- a record's numbers
 
--- SEND, ECHO, READY and delivery
+-- the numbers of what is sent: SEND, ECHO, READY and delivery
 abbrev pub sentCount : ℕ
 sentCount = 4
 
@@ -32,7 +32,7 @@ recordSize = madeOffset + sentCount
 abbrev pub sentNumbers : Sent → List ℕ
 sentNumbers s = s .send ∷ s .echo ∷ s .ready ∷ s .delivered ∷ []
 
--- 0 to 3 sent so far, 4 to 19 ECHO heard, 20 to 35 READY heard, 36 to 39 made in this block
+-- a record's numbers: 0 to 3 sent so far, 4 to 19 ECHO heard, 20 to 35 READY heard, 36 to 39 made in this block
 unfoldable pub flatten : SlotRecord → List ℕ
 flatten r = sentNumbers (r .sent) ++ (r .echoes ++ (r .readies ++ sentNumbers (r .made)))
 
@@ -71,10 +71,10 @@ partOf buffer i = partAt partSize buffer i
 abbrev pub recordIn : List ℕ → ℕ → ℕ → SlotRecord
 recordIn buffer i slot = recordAt buffer (partStart i + recordSize * slot)
 
--- the number delivered in the block of a place, 0 if there is none: entry 39 of its record
+-- the number that the block of a place delivers in a slot, 0 if there is none: entry 39 of the slot's record
 abbrev pub deliveredIn : List ℕ → ℕ → ℕ → ℕ
 deliveredIn buffer i slot = recordIn buffer i slot .made .delivered
 
--- eight records in a row, one for each slot
+-- the numbers of eight records in a row, one record for each slot
 unfoldable pub numbersOf : (ℕ → SlotRecord) → List ℕ
 numbersOf records = concat (listBelow (λ slot. flatten (records slot)) slotCount)

@@ -1,3 +1,3 @@
--- The record buffer: where each number stands, and parts moved down. All of it is what a reader must believe.
+-- The record buffer: where each number stands, and parts moved down. Both files are what a reader must believe.
 pub mod Layout
 pub mod Moving

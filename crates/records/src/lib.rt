@@ -17,7 +17,7 @@ ghost use Rattle.table.specs.View.{maxPlaces};
 ghost use Rattle.records.specs.Layout.{recordSize, flatten, partSize, bufferSize, partStart, partOf, recordIn, deliveredIn};
 ghost use Rattle.records.specs.Moving.{movedParts};
 
-// Where each part of a record's numbers stands: what was sent so far, the ECHO and the READY heard from each site, and what was made.
+// Where a record's numbers stand: what was sent so far, the ECHO and the READY heard from each site, and what was made in its block.
 const SENT_COUNT: usize = 4;
 
 const ECHOES_OFFSET: usize = SENT_COUNT;
@@ -28,7 +28,7 @@ const MADE_OFFSET: usize = READIES_OFFSET + MAX_SITES;
 
 const RECORD_SIZE: usize = MADE_OFFSET + SENT_COUNT;
 
-// The numbers of a place, and of all places.
+// How many numbers the part of a place has, and the buffer for all places.
 pub const PART_SIZE: usize = RECORD_SIZE * SLOTS;
 
 pub const BUFFER_SIZE: usize = PART_SIZE * MAX_PLACES;
@@ -41,7 +41,7 @@ pub fn record_in(records: &[u16], place: usize, slot: usize) -> SlotRecord
     numbers::record_at(records, PART_SIZE * place + RECORD_SIZE * slot)
 }
 
-// What was made in the block of a place.
+// What was made in the block of a place, in a slot.
 pub fn made_in(records: &[u16], place: usize, slot: usize) -> Sent
     requires { ⌜ (length (now records) ≡ bufferSize) × (place < maxPlaces) × (slot < slotCount) ⌝ }
     ensures { λ r. ⌜ r ≡ recordIn (now (records .entry)) place slot .made ⌝ }
@@ -52,7 +52,7 @@ pub fn made_in(records: &[u16], place: usize, slot: usize) -> Sent
     )
 }
 
-// The number delivered in the block of a place, 0 if there is none.
+// The number that the block of a place delivers in a slot, 0 if there is none.
 pub fn delivered_in(records: &[u16], place: usize, slot: usize) -> u16
     requires { ⌜ (length (now records) ≡ bufferSize) × (place < maxPlaces) × (slot < slotCount) ⌝ }
     ensures { λ r. ⌜ r ≡ deliveredIn (now (records .entry)) place slot ⌝ }
@@ -77,7 +77,7 @@ pub fn part(records: &[u16], place: usize) -> &[u16]
     &records[at..at + PART_SIZE]
 }
 
-// Puts the part of a place, or an empty one; all other numbers stay.
+// Puts the part of a place. An empty part changes nothing, and all numbers of other places stay.
 pub fn put_part(records: &mut [u16], place: usize, part: &[u16])
     requires { ⌜ (length (now records) ≡ bufferSize) × (place < maxPlaces) × (length (now part) ≤ partSize) ⌝ }
     ensures { λ _. ⌜ now (records .exit) ≡ splice (now (records .entry)) (partStart place) (now (part .entry)) ⌝ }
@@ -85,7 +85,7 @@ pub fn put_part(records: &mut [u16], place: usize, part: &[u16])
     numbers::put(records, PART_SIZE * place, part);
 }
 
-// The parts of the places below the count, but the first, each one place lower; all other numbers stay.
+// Moves the parts of the places 1 to count - 1 each one place lower; all numbers from place count - 1 on stay.
 pub fn move_parts(records: &mut [u16], count: usize)
     requires { ⌜ (length (now records) ≡ bufferSize) × (0 < count) × (count ≤ maxPlaces) ⌝ }
     ensures { λ _. ⌜ now (records .exit) ≡ movedParts (now (records .entry)) count ⌝ }

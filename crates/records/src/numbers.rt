@@ -1,4 +1,4 @@
-// Numbers by their index: a record read, and put.
+// Numbers by their index: a record read from them, and put into them.
 use crate::ECHOES_OFFSET;
 use crate::MADE_OFFSET;
 use crate::READIES_OFFSET;
@@ -12,7 +12,7 @@ ghost use Rattle.base.specs.Bytes.{splice};
 ghost use Rattle.setup.specs.Setup.{maxSites};
 ghost use Rattle.records.specs.Layout.{sentCount, recordSize, sentNumbers, flatten, sentAt, recordAt};
 
-// Makes one list of numbers the other.
+// Copies all numbers of `from` to `to`, which is as long.
 fn copy(to: &mut [u16], from: &[u16])
     requires { ⌜ length (now to) ≡ length (now from) ⌝ }
     ensures { λ _. ⌜ now (to .exit) ≡ now (from .entry) ⌝ }
@@ -33,7 +33,7 @@ pub fn put(numbers: &mut [u16], at: usize, part: &[u16])
     copy(&mut numbers[at..end], part);
 }
 
-// Four numbers from an index on, as what was sent.
+// What was sent, which is four numbers from an index on.
 pub fn sent_at(records: &[u16], at: usize) -> Sent
     requires { ⌜ at + sentCount ≤ length (now records) ⌝ }
     ensures { λ r. ⌜ r ≡ sentAt (now (records .entry)) at ⌝ }
@@ -46,7 +46,7 @@ pub fn sent_at(records: &[u16], at: usize) -> Sent
     }
 }
 
-// Sixteen numbers from an index on: what was heard from each site.
+// What was heard from each site, which is sixteen numbers from an index on.
 fn heard_at(records: &[u16], at: usize) -> [u16; MAX_SITES]
     requires { ⌜ at + maxSites ≤ length (now records) ⌝ }
     ensures { λ r. ⌜ r ≡ take maxSites (drop at (now (records .entry))) ⌝ }
@@ -73,7 +73,7 @@ pub fn record_at(records: &[u16], at: usize) -> SlotRecord
     }
 }
 
-// Puts what was sent, four numbers, at index `at`.
+// Puts the four numbers of what was sent at index `at`; all other numbers stay.
 fn put_sent(out: &mut [u16], at: usize, sent: Sent)
     requires { ⌜ at + sentCount ≤ length (now out) ⌝ }
     ensures { λ _. ⌜ now (out .exit) ≡ splice (now (out .entry)) at (sentNumbers sent) ⌝ }

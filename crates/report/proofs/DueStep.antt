@@ -1,4 +1,4 @@
--- When a step is due: by each of its three tests, and what it shows. Assumes nothing.
+-- When a step is due: each of the three tests, and what holds where all pass. Assumes nothing.
 use mathlib.Core.Path.{_≡_}
 use mathlib.Core.Bool.{Bool, true, false, _&&_, _||_}
 use mathlib.Core.Logic.{_⊎_, inl, inr, ⊎-elim}

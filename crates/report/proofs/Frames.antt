@@ -1,5 +1,5 @@
--- The arrivals of an input are the one at the front, which takes a byte at least, and those of the bytes behind it; and so are their lines.
--- Assumes nothing.
+-- The arrivals of an input are the arrival at the front, which takes at least one byte, and the arrivals of the bytes behind it; and so with their
+-- lines. Assumes nothing.
 use mathlib.Core.Path.{_≡_, refl, sym, ap, _∙_}
 use mathlib.Core.Bool.{true, false}
 use mathlib.Core.List.{List, [], _∷_, _++_, append-nil}

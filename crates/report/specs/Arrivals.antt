@@ -10,41 +10,42 @@ use Rattle.base.specs.Number.{numberAt}
 use Rattle.setup.specs.Setup.{Setup, slotCount}
 use Rattle.block.specs.Limits.{maxBlockSize}
 
--- n and the owners
+-- how many bytes n and the owners take
 abbrev pub setupSize : ℕ
 setupSize = 1 + slotCount
 
--- the setup at the front; of a short input it has too few owners, and so is not lawful
+-- the setup at the front of the input; that of a short input has too few owners, and so is not lawful
 abbrev pub setupIn : Bytes → Setup
 setupIn input = record { sites = getD input 0 0; owners = take slotCount (drop 1 input) }
 
--- a block with the link's verdict; or no block, because its length is over 541 or the input's end cuts it
+-- an arrival: a block with the link's verdict; or no block, because its length is over 541 or the input's end cuts it
 pub data Arrival : Type 0 where
   arrived : Bytes → ℕ → Arrival
   unread : Arrival
 
--- the bytes of a length, and of a verdict
+-- how many bytes a length takes, and a verdict
 abbrev pub lengthSize : ℕ
 lengthSize = 2
 
 abbrev pub verdictSize : ℕ
 verdictSize = 1
 
--- the block's length, and how many bytes the arrival at the front takes
+-- the length that the arrival at the front tells for its block, and how many bytes the arrival takes
 abbrev pub blockLength : Bytes → ℕ
 blockLength input = numberAt input 0
 
 abbrev pub arrivalSize : Bytes → ℕ
 arrivalSize input = lengthSize + (verdictSize + blockLength input)
 
+-- the length of the arrival at the front is over 541
 abbrev pub overlong : Bytes → Bool
 overlong input = ltb maxBlockSize (blockLength input)
 
--- not all of its bytes are there
+-- not all bytes of the arrival at the front are there
 abbrev pub cut : Bytes → Bool
 cut input = ltb (length input) (arrivalSize input)
 
--- the verdict and the block, where all of their bytes are there, and the bytes behind the arrival
+-- the verdict and the block of the arrival at the front, where all of its bytes are there, and the bytes behind it
 abbrev pub firstVerdict : Bytes → ℕ
 firstVerdict input = getD input lengthSize 0
 
@@ -58,12 +59,12 @@ afterFirst input = drop (arrivalSize input) input
 unfoldable pub firstArrival : Bytes → Arrival
 firstArrival input = cond (overlong input || cut input) unread (arrived (firstBlock input) (firstVerdict input))
 
--- the first arrivals, at most so many; nothing follows one that is cut
+-- the first arrivals of an input, at most `most`; nothing follows an arrival that is cut
 unfoldable pub arrivals : ℕ → Bytes → List Arrival
 arrivals zero input = []
 arrivals (suc most) [] = []
 arrivals (suc most) (x ∷ input) = firstArrival (x ∷ input) ∷ arrivals most (afterFirst (x ∷ input))
 
--- all of them: each takes a byte at least
+-- all arrivals of an input; there are no more than bytes, as each takes at least one
 unfoldable pub arrivalsIn : Bytes → List Arrival
 arrivalsIn input = arrivals (length input) input

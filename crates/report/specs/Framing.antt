@@ -1,5 +1,5 @@
--- The listing one step at a time. A step gets the bytes that the state before it wants, or fewer where the input ends; it gives the next
--- state and its lines, and a setup or a whole arrival changes what the site holds.
+-- The listing one step at a time. A step gets a piece of the input: the bytes that the state before it wants, or fewer where the input ends. It gives
+-- the next state and its lines, and a setup or a whole arrival changes what the site holds.
 use mathlib.Core.Bool.{cond}
 use mathlib.Core.List.{[], _++_}
 use Prim.Native.Nat.{ℕ, zero, suc, _+_, _-_, _*_, _^_, _%_, min}
@@ -19,11 +19,11 @@ use Rattle.report.specs.declared.State.{State}
 use Rattle.report.specs.declared.Lines.{Lines}
 use Rattle.report.specs.declared.Stepped.{Stepped}
 
--- no piece is longer: a verdict and the longest block
+-- the length of the longest piece: a verdict and the longest block
 abbrev pub pieceSize : ℕ
 pieceSize = verdictSize + maxBlockSize
 
--- how many bytes are read next
+-- how many bytes the next step wants
 unfoldable pub wantedBy : Expected → ℕ
 wantedBy Setup = setupSize
 wantedBy Length = lengthSize
@@ -36,21 +36,22 @@ wanted s = wantedBy (s .expected)
 
 -- ---- the next state, and the lines
 
--- arrivals are counted by numbers of 64 bits
+-- arrivals are counted by numbers of 64 bits: after the last of these the count starts from 0 again
 abbrev pub countLimit : ℕ
 countLimit = 2 ^ 64
 
 abbrev pub following : ℕ → ℕ
 following arrival = suc arrival % countLimit
 
--- what is expected, and the number of the next arrival
+-- the state that expects this next, and in which the next arrival has this number
 abbrev pub expecting : Expected → ℕ → State
 expecting expected arrival = record { expected = expected; arrivals = arrival }
 
--- before the first byte
+-- the state before the first byte
 abbrev pub start : State
 start = expecting Setup 0
 
+-- what a step gives: the next state, and its lines
 pub record Outcome : Type 0 where
   pub state : State
   pub lines : Bytes
@@ -58,14 +59,14 @@ pub record Outcome : Type 0 where
 abbrev pub outcomeOf : Expected → ℕ → Bytes → Outcome
 outcomeOf expected arrival lines = record { state = expecting expected arrival; lines = lines }
 
--- the names, and the refusal of a setup; the answer is that of making an empty table in the lent one
+-- the step on a setup: the line of names, and behind it the refusal's line if making the lent table the empty one of this setup is refused
 unfoldable pub setupStep : Bytes → Bytes → Outcome
 setupStep table piece =
     cond (eqb (freshAnswer (setupIn piece) table .refusal) 0)
     (outcomeOf Length 0 names)
     (outcomeOf End 0 (names ++ setupLine (freshAnswer (setupIn piece) table .refusal)))
 
--- nothing more to read, a cut arrival, one that is too long, or how long the block is
+-- the step on the length of an arrival: nothing is left to read, or the arrival is cut, or it is too long, or its block of this length comes next
 unfoldable pub lengthStep : ℕ → Bytes → Outcome
 lengthStep arrival piece =
     cond (eqb (length piece) 0) (outcomeOf End arrival [])
@@ -74,19 +75,20 @@ lengthStep arrival piece =
     (outcomeOf (Skip (verdictSize + blockLength piece)) (following arrival) (unreadLine arrival))
     (outcomeOf (Block (blockLength piece)) arrival [])))
 
--- bytes of an arrival that is too long
+-- the step on bytes that are skipped, `left` being how many are still to be skipped of an arrival that is too long
 unfoldable pub skipStep : ℕ → ℕ → Bytes → Outcome
 skipStep left arrival piece =
     cond (ltb (length piece) (wantedBy (Skip left))) (outcomeOf End arrival [])
     (cond (leb left pieceSize) (outcomeOf Length arrival []) (outcomeOf (Skip (left - pieceSize)) arrival []))
 
 module _ (digest : Bytes → Bytes) where
-  -- the verdict and the block, or a cut arrival
+  -- the step on a verdict and a block of `size` bytes, or on fewer bytes of a cut arrival
   unfoldable pub blockStep : ℕ → ℕ → Site → Bytes → Outcome
   blockStep size arrival x piece =
       cond (ltb (length piece) (verdictSize + size)) (outcomeOf End arrival (unreadLine arrival))
       (outcomeOf Length (following arrival) (arrivalLines digest x (take size (drop verdictSize piece)) (getD piece 0 0) arrival))
 
+  -- a step, by what is expected
   unfoldable pub stepBy : Expected → ℕ → Site → Bytes → Outcome
   stepBy Setup arrival x piece = setupStep (x .table) piece
   stepBy Length arrival x piece = lengthStep arrival piece
@@ -97,7 +99,7 @@ module _ (digest : Bytes → Bytes) where
   abbrev pub stepped : State → Site → Bytes → Outcome
   stepped s x piece = stepBy (s .expected) (s .arrivals) x piece
 
-  -- ---- the site
+  -- ---- what a step leaves of the site
 
   unfoldable pub siteBy : Expected → Site → Bytes → Site
   siteBy Setup x piece = record { table = freshIn (setupIn piece) (x .table); records = x .records }
@@ -109,8 +111,9 @@ module _ (digest : Bytes → Bytes) where
   abbrev pub siteStepped : State → Site → Bytes → Site
   siteStepped s x piece = siteBy (s .expected) x piece
 
-  -- ---- the lines of so many steps, joined
+  -- ---- the lines of several steps, joined
 
+  -- the lines of so many steps on an input, from the state s and the site x on
   unfoldable pub run : ℕ → State → Site → Bytes → Bytes
   run zero s x input = []
   run (suc turns) s x input =
@@ -119,7 +122,7 @@ module _ (digest : Bytes → Bytes) where
 
 -- ---- how the lines are handed over
 
--- a number of 64 bits has at most so many digits
+-- how many digits a number of 64 bits has at most
 abbrev pub maxDigits : ℕ
 maxDigits = 20
 
@@ -133,7 +136,7 @@ lineSize = fieldCount * fieldSize
 abbrev pub linesSize : ℕ
 linesSize = slotCount * lineSize
 
--- at the front of an array of zeros, with their length
+-- the text at the front of an array of zeros, with its length
 unfoldable pub linesOf : Bytes → Lines
 linesOf text = record { bytes = splice (replicate linesSize 0) 0 text; length = length text }
 

@@ -1,5 +1,5 @@
--- The listing of bytes that come in parts. Steps are made on the bytes that came, one after the other, as long as the next one is due; the
--- bytes that no step got stay unread, and the next part comes behind them.
+-- The listing of bytes that come in parts. Steps are made on the bytes that came, one after the other, as long as the next step is due; the bytes
+-- that no step got stay unread, and the next part comes behind them.
 use mathlib.Core.Bool.{Bool, true, false, _&&_, _||_}
 use mathlib.Core.List.{List, [], _∷_, _++_}
 use Prim.Native.Nat.{ℕ, zero, suc, _+_, _-_}
@@ -11,7 +11,7 @@ use Rattle.report.specs.Framing.{wanted, Outcome, start, stepped, siteSt
 use Rattle.report.specs.declared.State.{State}
 use Rattle.report.specs.declared.Gathered.{Gathered}
 
--- a site by what is lent
+-- a site, by its lent table and records
 abbrev pub lentSite : Bytes → List ℕ → Site
 lentSite table records = record { table = table; records = records }
 
@@ -27,44 +27,44 @@ pub record Gathering : Type 0 where
 abbrev pub noSteps : State → Site → Gathering
 noSteps s x = record { state = s; site = x; used = 0; lines = []; steps = 0 }
 
--- whether the next step is due, where so many bytes are left and the output has so much room: the listing is not at its end; the bytes that
--- it wants are there, or no more will come; and there is room for a step's lines
+-- whether the next step is due, where `left` bytes are unread and the output has room for `room` more: the listing is not at its end; the bytes that
+-- the step wants are there, or no more will come; and there is room for a step's lines
 unfoldable pub isDue : Bool → State → ℕ → ℕ → Bool
 isDue isEnded s left room = ltb 0 (wanted s) && ((leb (wanted s) left || isEnded) && leb linesSize room)
 
--- what that step gets
+-- the piece that the next step gets, where `used` of the unread bytes have been used
 abbrev pub pieceAt : State → ℕ → Bytes → Bytes
 pieceAt s used unread = take (wanted s) (drop used unread)
 
--- between two turns of an input that comes in parts: the state, the site, the bytes that no step got yet, and all lines so far
+-- how far a listing has come, between two turns: the state, the site, the bytes that no step got yet, and all lines so far
 pub record Progress : Type 0 where
   pub state : State
   pub site : Site
   pub unread : Bytes
   pub lines : Bytes
 
--- the same of a site's table and records
+-- how far a listing has come, with the site by its table and records
 abbrev pub progress : State → Bytes → List ℕ → Bytes → Bytes → Progress
 progress s table records unread lines = record { state = s; site = lentSite table records; unread = unread; lines = lines }
 
--- before the first byte
+-- how far a listing has come before the first byte
 abbrev pub nothingRead : Site → Progress
 nothingRead x = record { state = start; site = x; unread = []; lines = [] }
 
 module _ (digest : Bytes → Bytes) where
-  -- that step's outcome, and the site after it
+  -- the outcome of the next step, and the site after it, where `used` of the unread bytes have been used
   abbrev pub outcomeAt : State → Site → ℕ → Bytes → Outcome
   outcomeAt s x used unread = stepped digest s x (pieceAt s used unread)
 
   abbrev pub siteSteppedAt : State → Site → ℕ → Bytes → Site
   siteSteppedAt s x used unread = siteStepped digest s x (pieceAt s used unread)
 
-  -- the unread bytes, whether no more will come, and the output's size
+  -- where these bytes are unread, `isEnded` says whether no more will come, and the output has this size
   module _ (unread : Bytes) (isEnded : Bool) (size : ℕ) where
     abbrev pub due : Gathering → Bool
     due g = isDue isEnded (g .state) (length unread - g .used) (size - length (g .lines))
 
-    -- one step more
+    -- what the steps come to with one step more
     abbrev pub oneMore : Gathering → Gathering
     oneMore g =
         record {
@@ -75,20 +75,21 @@ module _ (digest : Bytes → Bytes) where
           steps = suc (g .steps);
         }
 
-    -- as long as the next one is due, and at most so many
+    -- what the steps come to with all further steps, as long as the next step is due, and at most `most`
     unfoldable pub gatherOn : ℕ → Gathering → Gathering
     gatherOn zero g = g
     gatherOn (suc most) g = elim (due g) [ true ↦ gatherOn most (oneMore g) | false ↦ g ]
 
-    -- every step that is due takes a byte, or gets too few and so is the last one: one step more than there are bytes is enough
+    -- all steps that are due from the state s on. Every step takes at least one byte, or gets fewer than it wants and so is the last: one step more
+    -- than there are bytes is enough
     unfoldable pub gathering : State → Site → Gathering
     gathering s x = gatherOn (suc (length unread)) (noSteps s x)
 
   -- ---- an input that comes in parts
 
-  -- the output's size
+  -- where the output has this size
   module _ (size : ℕ) where
-    -- a turn: the steps that are due, and then a part, which may be of no bytes, comes behind what is unread
+    -- one turn: all steps that are due are made, and then the next part, which may have no bytes, comes behind the unread bytes
     abbrev pub turn : Bool → Progress → Bytes → Progress
     turn isEnded p part =
         record {
@@ -98,12 +99,12 @@ module _ (digest : Bytes → Bytes) where
           lines = p .lines ++ gathering (p .unread) isEnded size (p .state) (p .site) .lines;
         }
 
-    -- a turn for each part, while more may come
+    -- a turn for each part, each while more may come
     unfoldable pub turns : Progress → List Bytes → Progress
     turns p [] = p
     turns p (part ∷ parts) = turns (turn false p part) parts
 
-    -- so many turns after the last part: no more will come
+    -- k turns after the last part, when no more will come
     unfoldable pub lastTurns : ℕ → Progress → Progress
     lastTurns zero p = p
     lastTurns (suc k) p = lastTurns k (turn true p [])

@@ -1,4 +1,4 @@
--- The listing. All but Steps is what a reader must believe.
+-- Document 01, "Listing program and C host": the listing. All files but Steps are what a reader must believe.
 pub mod Text
 pub mod Arrivals
 pub mod Listing

@@ -1,5 +1,5 @@
--- What stands in the text of a listing: what `ListingShows` of specs/ListingCalls.antt says is shown is a line of it, and no other line shows a delivery.
--- proofs/ListingText.antt shows it.
+-- What stands in the text of a listing: a delivery's line for each number that the listing shows (`Shows` of specs/Shown.antt), and no other
+-- delivery's line. proofs/TextKept.antt shows it.
 use mathlib.Core.Path.{_≡_}
 use mathlib.Core.Bool.{true, cond}
 use mathlib.Core.Logic.{_↔_, _≢_, _⊎_}
@@ -18,16 +18,18 @@ use Rattle.report.specs.Arrivals.{setupSize, setupIn, arrivalsIn}
 use Rattle.report.specs.Listing.{listing}
 use Rattle.report.specs.ListingCalls.{ListingShows}
 
--- the lines of a text, each with its line feed, where `before` was met of the first; what stands behind the last line feed is in none
+-- the lines of a text, each with its line feed, where `before` is the beginning of the first line; what stands behind the last line feed is in no
+-- line
 unfoldable pub linesAfter : Bytes → Bytes → List Bytes
 linesAfter before [] = []
 linesAfter before (c ∷ rest) =
     cond (eqb c lineFeed) ((before ++ (c ∷ [])) ∷ linesAfter [] rest) (linesAfter (before ++ (c ∷ [])) rest)
 
+-- the lines of a text
 abbrev pub linesIn : Bytes → List Bytes
 linesIn text = linesAfter [] text
 
--- the text of a delivery's line is that of no other delivery's, of no refusal's, and not the names
+-- the text of this delivery's line is not that of another delivery, of a refusal, or of the names
 pub record Legible (d : Delivery) : Type 0 where
   pub delivery : (e : Delivery) → deliveryLine d ≡ deliveryLine e → d ≡ e
   pub notRefusal : (what : Field) (refusal : ℕ) → deliveryLine d ≢ refusalLine what refusal
@@ -38,22 +40,24 @@ module _ (buffer : List ℕ) (input : Bytes) where
   abbrev pub text : Bytes
   text = listing sha256 buffer input
 
-  -- a delivery's line of the text has this number in the slot
+  -- a delivery's line stands in the text with this slot and this number
   pub record LineShows (slot v : ℕ) : Type 0 where
     pub delivery : Delivery
     pub inSlot : delivery .slot ≡ slot
     pub isNumber : delivery .number ≡ v
     pub stands : List·Memᴰ (deliveryLine delivery) (linesIn text)
 
+  -- what holds of the text of a listing
   pub record TextKeeps : Type 0 where
     -- the text is its lines, with nothing behind the last
     pub whole : concat (linesIn text) ≡ text
-    -- each is the line of names, a delivery's or a refusal's
+    -- each line is the line of names, a delivery's line or a refusal's line
     pub kinds : (line : Bytes) → List·Memᴰ line (linesIn text)
         → (line ≡ names) ⊎ (((d : Delivery) × (line ≡ deliveryLine d)) ⊎ ((what : Field) × (refusal : ℕ) × (line ≡ refusalLine what refusal)))
-    -- and of a delivery's the text says which one
+    -- the text of a delivery's line tells which delivery it is
     pub legible : (d : Delivery) → Legible d
-    -- of a lawful setup a delivery's line stands there for each number that is shown, and no other delivery's does
+    -- where the setup is lawful, a delivery's line of a slot and a number stands in the text exactly if the listing shows that number for that slot;
+    -- and the slot of a delivery's line is always below 8
     pub shown : lawful (setupIn input) ≡ true → (slot v : ℕ) → slot < slotCount
         → ListingShows (started (setupIn input) buffer) (arrivalsIn (drop setupSize input)) slot v ↔ LineShows slot v
     pub slots : (d : Delivery) → List·Memᴰ (deliveryLine d) (linesIn text) → d .slot < slotCount

@@ -16,6 +16,7 @@ use Rattle.report.specs.declared.Delivery.{Delivery}
 use Rattle.report.specs.Text.{names, setupLine, refusedLine, unreadLine, deliveryText}
 use Rattle.report.specs.Arrivals.{Arrival, arrived, unread, setupSize, setupIn, arrivalsIn}
 
+-- the delivery of a block at a place in a slot; its number is 0 where nothing is delivered
 abbrev pub delivery : List ℕ → ℕ → ℕ → ℕ → ℕ → ℕ → Delivery
 delivery records arrival place site sequence slot =
     record {
@@ -27,14 +28,14 @@ delivery records arrival place site sequence slot =
       number = deliveredIn records place slot;
     }
 
--- "A line stands for each delivery (lower slot first)"
+-- the lines of a block's deliveries: "A line stands for each delivery (lower slot first)"
 unfoldable pub deliveryLines : List ℕ → ℕ → ℕ → ℕ → ℕ → Bytes
 deliveryLines records arrival place site sequence =
     concat (listBelow (λ slot. deliveryText (delivery records arrival place site sequence slot)) slotCount)
 
 module _ (digest : Bytes → Bytes) where
   module _ (x : Site) (b : Bytes) (verdict : ℕ) where
-    -- "Each admitted block is interpreted directly": the admission, and the interpretation of the place that it gave
+    -- "Each admitted block is interpreted directly": what the admission answers and leaves, and the call to interpret the place that it answered
     abbrev pub admissionAnswer : Answer
     admissionAnswer = siteAnswer digest x (admit b verdict)
 
@@ -44,30 +45,30 @@ module _ (digest : Bytes → Bytes) where
     abbrev pub interpretationCall : Call
     interpretationCall = interpret (admissionAnswer .value)
 
-    -- the site after both calls; a refused admission has changed nothing, and nothing follows it
+    -- the site after the arrival of a block: after both calls, or as it was where the admission is refused and no interpretation follows
     unfoldable pub siteArrived : Site
     siteArrived = cond (eqb (admissionAnswer .refusal) 0) (siteStep digest siteAdmitted interpretationCall) x
 
-    -- the refusal of the first call that was refused, 0 if none was
+    -- the refusal of the arrival of a block: that of the first of the two calls that is refused, 0 if neither is
     unfoldable pub arrivalRefusal : ℕ
     arrivalRefusal =
         cond (eqb (admissionAnswer .refusal) 0) (siteAnswer digest siteAdmitted interpretationCall .refusal) (admissionAnswer .refusal)
 
-    -- "A line stands for each delivery .. and each refused arrival"
+    -- the lines of the arrival of a block: "A line stands for each delivery .. and each refused arrival"
     unfoldable pub arrivalLines : ℕ → Bytes
     arrivalLines arrival =
         cond (eqb arrivalRefusal 0)
         (deliveryLines (siteArrived .records) arrival (admissionAnswer .value) (siteOf b) (sequenceOf b))
         (refusedLine arrival arrivalRefusal)
 
-  -- the lines of the arrivals, the first of which has this number
+  -- the lines of a list of arrivals, the first of which has this number, at the site x
   unfoldable pub listingFrom : ℕ → Site → List Arrival → Bytes
   listingFrom arrival x [] = []
   listingFrom arrival x (unread ∷ rest) = unreadLine arrival ++ listingFrom (suc arrival) x rest
   listingFrom arrival x (arrived b verdict ∷ rest) =
       arrivalLines x b verdict arrival ++ listingFrom (suc arrival) (siteArrived x b verdict) rest
 
-  -- the whole listing, at a site with this record buffer; "arrivals count from 0"
+  -- the text of the listing of an input, at a site with this record buffer; "arrivals count from 0"
   unfoldable pub listing : List ℕ → Bytes → Bytes
   listing buffer input =
       names

@@ -1,5 +1,5 @@
--- The calls that the arrivals of a listing make, and what its lines show. proofs/InterpretationInvariant.antt shows that no interpretation is refused, and
--- proofs/Deliveries.antt that what is shown is delivered in the ledger of these calls.
+-- The calls that the arrivals of a listing make, and the deliveries that its lines show. proofs/Steady.antt shows that no interpretation is refused,
+-- and proofs/Shown.antt that what is shown is delivered in the ledger of these calls.
 use mathlib.Core.Path.{_≡_}
 use mathlib.Core.Bool.{cond}
 use mathlib.Core.Logic.{_≢_}
@@ -14,7 +14,7 @@ use Rattle.run.specs.Run.{Site}
 use Rattle.report.specs.Arrivals.{Arrival, arrived, unread}
 use Rattle.report.specs.Listing.{admissionAnswer, interpretationCall, siteArrived, arrivalRefusal}
 
--- the calls that arrivals make at a site
+-- the calls that arrivals make at a site: an admission for each block, and after each admission that succeeds an interpretation
 unfoldable pub arrivalCalls : Site → List Arrival → List Call
 arrivalCalls x [] = []
 arrivalCalls x (unread ∷ rest) = arrivalCalls x rest
@@ -23,14 +23,14 @@ arrivalCalls x (arrived b verdict ∷ rest) =
     ∷ (cond (eqb (admissionAnswer sha256 x b verdict .refusal) 0) (interpretationCall sha256 x b verdict ∷ []) []
     ++ arrivalCalls (siteArrived sha256 x b verdict) rest)
 
--- no interpretation is refused: what a line's refusal shows is the admission's
+-- no interpretation is refused: the refusal of each arrival is that of its admission
 unfoldable pub NoneRefused : Site → List Arrival → Type 0
 NoneRefused x [] = Unit {0}
 NoneRefused x (unread ∷ rest) = NoneRefused x rest
 NoneRefused x (arrived b verdict ∷ rest) =
     (arrivalRefusal sha256 x b verdict ≡ admissionAnswer sha256 x b verdict .refusal) × NoneRefused (siteArrived sha256 x b verdict) rest
 
--- a line of the listing shows this number delivered in the slot
+-- the listing of these arrivals, from this site on, shows the number as delivered in the slot, in a line of one of the arrivals
 pub data ListingShows : Site → List Arrival → ℕ → ℕ → Type 0 where
   here : {x : Site} {b : Bytes} {verdict slot v : ℕ} {rest : List Arrival} → arrivalRefusal sha256 x b verdict ≡ 0
       → deliveredIn (siteArrived sha256 x b verdict .records) (admissionAnswer sha256 x b verdict .value) slot ≡ v → v ≢ 0

@@ -1,4 +1,5 @@
--- What the steps promise together, also on an input that comes in parts; proofs/Promises.antt shows it for every digest, and so for SHA-256.
+-- What all steps of a listing promise together, also where the input comes in parts; proofs/Promises.antt shows it for every digest, and so for
+-- SHA-256.
 use mathlib.Core.Path.{_≡_}
 use mathlib.Core.Bool.{Bool, true, false}
 use mathlib.Core.Logic.{_⊎_}
@@ -13,7 +14,7 @@ use Rattle.report.specs.Framing.{pieceSize, wanted, countLimit, start, r
 use Rattle.report.specs.Gathering.{Gathering, gathering, nothingRead, turns, lastTurns}
 use Rattle.report.specs.declared.State.{State}
 
--- why the next step is not due
+-- the next step is not due: the listing is at its end, or fewer bytes are unread than it wants and more may come, or the output lacks room
 abbrev pub Stopped : Bytes → Bool → ℕ → Gathering → Type 0
 Stopped unread isEnded size g =
     (wanted (g .state) ≡ 0)
@@ -22,30 +23,30 @@ Stopped unread isEnded size g =
 
 module _ (digest : Bytes → Bytes) where
   pub record Promises : Type 0 where
-    -- the lines of the steps, joined, are the listing of the whole input. The lent table is of a table's length and may hold anything; the
-    -- record buffer may be of any length and content. Every step but the last takes a byte, so one step more than there are bytes is enough,
-    -- and later ones write nothing
+    -- the lines of the steps, joined, are the listing of the whole input. The lent table is of a table's length and may hold anything; the record
+    -- buffer may be of any length and content. Every step but the last takes a byte, so one step more than there are bytes is enough, and further
+    -- steps write nothing
     pub listed : (input : Bytes) (x : Site) (turns : ℕ) → length input < countLimit → length (x .table) ≡ tableSize → length input < turns
         → run digest turns start x input ≡ listing digest (x .records) input
-    -- what is gathered are the steps' lines in their order, and what is left are the bytes that no step got: a run on the bytes that came, and
-    -- on any more behind them, writes the lines that were gathered, and then what a run writes from the state that was reached on the bytes
-    -- that are left and the same more. Where no more will come, there are none
+    -- gathering loses no byte and uses none twice: a run of steps on the unread bytes, with `more` behind them, writes the lines that are gathered,
+    -- and then what a run writes from the state that is reached, on the bytes that no step used, with `more` behind them. Where `isEnded` says that
+    -- no more will come, `more` is empty
     pub gathered : (unread more : Bytes) (isEnded : Bool) (size : ℕ) (s : State) (x : Site) (turns : ℕ) → (isEnded ≡ true → more ≡ [])
         → run digest (gathering digest unread isEnded size s x .steps + turns) s x (unread ++ more)
         ≡ gathering digest unread isEnded size s x .lines
         ++ run digest turns (gathering digest unread isEnded size s x .state) (gathering digest unread isEnded size s x .site)
         (drop (gathering digest unread isEnded size s x .used) unread ++ more)
-    -- no more bytes are used than came
+    -- no more bytes are used than are unread
     pub usedThere : (unread : Bytes) (isEnded : Bool) (size : ℕ) (s : State) (x : Site) → gathering digest unread isEnded size s x .used ≤ length unread
-    -- gathering stops only where the listing is at its end, where fewer bytes are left than it wants and more may come, or where the output
-    -- lacks room for a step's lines
+    -- gathering stops only where the next step is not due
     pub allDue : (unread : Bytes) (isEnded : Bool) (size : ℕ) (s : State) (x : Site) → Stopped unread isEnded size (gathering digest unread isEnded size s x)
-    -- an input that comes in parts, however it is cut, and whatever the output's size: once the state that is reached wants nothing, the lines
-    -- of all turns, joined, are the listing of the parts, joined. The premises are those of `listed`
+    -- an input that comes in parts, however it is cut, and whatever the output's size: once a state is reached that wants nothing, the lines of all
+    -- turns, joined, are the listing of the parts, joined. Input and table are as `listed` asks
     pub listedInParts : (parts : List Bytes) (x : Site) (size last : ℕ) → length (concat parts) < countLimit → length (x .table) ≡ tableSize
         → wanted (lastTurns digest size last (turns digest size (nothingRead x) parts) .state) ≡ 0
         → lastTurns digest size last (turns digest size (nothingRead x) parts) .lines ≡ listing digest (x .records) (concat parts)
-    -- and it is reached: where the output has room for a step's lines, one turn more than there are bytes, after the last part, is enough
+    -- a state that wants nothing is reached: where the output has room for a step's lines, one turn more than there are bytes, after the last part,
+    -- is enough
     pub reached : (parts : List Bytes) (x : Site) (size last : ℕ) → linesSize ≤ size → length (concat parts) < last
         → wanted (lastTurns digest size last (turns digest size (nothingRead x) parts) .state) ≡ 0
     -- no step asks for more than a verdict and the longest block

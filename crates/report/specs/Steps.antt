@@ -6,7 +6,7 @@ use Rattle.run.specs.Run.{Site}
 use Rattle.report.specs.Gathering.{pieceAt, outcomeAt}
 use Rattle.report.specs.declared.Gathered.{Gathered}
 
--- one step more of what is gathered, of whose lines only the length is kept
+-- what is gathered with one step more, where of the lines only their length is kept
 abbrev pub advanced : (Bytes → Bytes) → Gathered → Site → Bytes → Gathered
 advanced digest done x unread =
     record {

@@ -22,16 +22,16 @@ space = 32
 abbrev pub lineFeed : ℕ
 lineFeed = 10
 
--- the digit of a number up to 9
+-- the character of a digit from 0 to 9
 abbrev pub digit : ℕ → ℕ
 digit d = 48 + d
 
--- the decimal digits of n, without leading zeros, where it has at most `most` of them
+-- the decimal digits of n, without leading zeros, where n has at most `most` digits
 unfoldable pub digits : ℕ → ℕ → Bytes
 digits zero n = []
 digits (suc most) n = elim (ltb n 10) [ true ↦ digit n ∷ [] | false ↦ digits most (n / 10) ++ (digit (n % 10) ∷ []) ]
 
--- a number n has at most n + 1 digits
+-- a number in decimal; n has at most n + 1 digits
 unfoldable pub decimal : ℕ → Bytes
 decimal n = digits (suc n) n
 
@@ -44,11 +44,11 @@ fieldText Empty = ascii "-"
 abbrev pub fieldCount : ℕ
 fieldCount = 7
 
--- what stands after a field: one space, or a line feed after the last
+-- what stands after field i: one space, or a line feed after the last
 unfoldable pub ending : ℕ → ℕ
 ending i = cond (eqb i (fieldCount - 1)) lineFeed space
 
--- the seven values in the order of the names
+-- a line of seven values, in the order of the names
 unfoldable pub line : List Field → Bytes
 line fields = concat (listBelow (λ i. fieldText (getD fields i (Number 0)) ++ (ending i ∷ [])) fieldCount)
 
@@ -64,7 +64,7 @@ refusalLine what refusal = line (what ∷ Empty ∷ Empty ∷ Empty ∷ Empty �
 abbrev pub refusedLine : ℕ → ℕ → Bytes
 refusedLine arrival refusal = refusalLine (Number arrival) refusal
 
--- an arrival without a block: "refused with 3", "gets 3"
+-- the line of an arrival without a block: too long it is "refused with 3", and "a cut arrival gets 3"
 abbrev pub unreadLine : ℕ → Bytes
 unreadLine arrival = refusedLine arrival 3
 
@@ -85,6 +85,6 @@ deliveryLine d =
     ∷ Number 0
     ∷ [])
 
--- where no number was delivered, there is no line
+-- a delivery's line, and nothing where no number was delivered
 unfoldable pub deliveryText : Delivery → Bytes
 deliveryText d = cond (eqb (d .number) 0) [] (deliveryLine d)

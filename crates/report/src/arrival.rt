@@ -16,7 +16,7 @@ ghost use Rattle.report.specs.Text.{deliveryText};
 ghost use Rattle.report.specs.Listing.{deliveryLines, siteArrived, arrivalLines};
 ghost use Rattle.report.specs.Framing.{lineSize, linesOf};
 
-// The line of a delivery, none where no number was delivered.
+// Puts the line of a delivery at index `at`, and answers where it ends; puts nothing where no number was delivered.
 fn put_delivery(out: &mut [u8], at: usize, d: Delivery) -> usize
     requires { ⌜ at + lineSize ≤ length (now out) ⌝ }
     ensures { λ r. ⌜ (r ≡ at + length (deliveryText d)) × (r ≤ at + lineSize) ⌝ }
@@ -37,7 +37,7 @@ fn put_delivery(out: &mut [u8], at: usize, d: Delivery) -> usize
     text::put_line(out, at, fields)
 }
 
-// The lines of a block's deliveries, lower slots first.
+// The lines of the deliveries of the block at a place, lower slots first.
 fn delivery_lines(records: &[u16], arrival: u64, place: usize, site: u8, sequence: u16) -> Lines
     requires { ⌜ (length (now records) ≡ bufferSize) × (place < maxPlaces) ⌝ }
     ensures { λ r. ⌜ r ≡ linesOf (deliveryLines (now (records .entry)) arrival place site sequence) ⌝ }
@@ -61,7 +61,7 @@ fn delivery_lines(records: &[u16], arrival: u64, place: usize, site: u8, sequenc
     Lines { bytes, length }
 }
 
-// The lines of a block that arrives with the link's verdict.
+// Admits a block that arrives, interprets it, and answers with its lines: those of its deliveries, or that of its refusal.
 pub fn arrive(
     arrival: u64,
     table: &mut [u8],

@@ -1,4 +1,4 @@
-// A step for each thing that is expected. A piece that is shorter than was wanted is the input's end.
+// A step for each kind of piece that is expected. A piece that is shorter than the state wanted is the last of the input.
 use crate::Expected;
 use crate::LENGTH_SIZE;
 use crate::Lines;
@@ -19,7 +19,7 @@ ghost use Rattle.report.specs.Arrivals.{setupIn};
 ghost use Rattle.report.specs.Framing.{following as Framing·following, linesOf, setupStep, lengthStep, skipStep, blockStep, siteBy, handed};
 ghost use Rattle.report.specs.declared.Expected.the-variants.{Block};
 
-// The number of the next arrival.
+// The number of the arrival after this one; after the greatest number of 64 bits it is 0.
 fn following(arrivals: u64) -> u64
     ensures { λ r. ⌜ r ≡ Framing·following arrivals ⌝ }
 {
@@ -29,7 +29,7 @@ fn following(arrivals: u64) -> u64
     arrivals + 1
 }
 
-// The next state, and these lines.
+// A step that goes on to this state and writes these lines.
 fn stepped(expected: Expected, arrivals: u64, lines: Lines) -> Stepped
     ensures { λ r. ⌜ r ≡ record { state = record { expected = expected; arrivals = arrivals }; lines = lines } ⌝ }
 {
@@ -39,14 +39,15 @@ fn stepped(expected: Expected, arrivals: u64, lines: Lines) -> Stepped
     }
 }
 
-// The next state, and no line.
+// A step that goes on to this state and writes no line.
 pub fn quiet(expected: Expected, arrivals: u64) -> Stepped
     ensures { λ r. ⌜ r ≡ record { state = record { expected = expected; arrivals = arrivals }; lines = linesOf [] } ⌝ }
 {
     stepped(expected, arrivals, text::none())
 }
 
-// The setup: an empty table, or the end.
+// The step on a setup: makes the table the empty table of the setup, and writes the line of names; or writes the refusal's line too and ends the
+// listing.
 pub fn setup_step(table: &mut [u8], piece: &[u8]) -> Stepped
     ensures { λ r. ⌜ r ≡ handed (setupStep (now (table .entry)) (now (piece .entry))) ⌝ }
     ensures { λ _. ⌜ now (table .exit) ≡ freshIn (setupIn (now (piece .entry))) (now (table .entry)) ⌝ }
@@ -61,7 +62,7 @@ pub fn setup_step(table: &mut [u8], piece: &[u8]) -> Stepped
     stepped(Expected::Length, 0, text::names())
 }
 
-// The length of an arrival, or the end.
+// The step on the length of an arrival. Without a byte the listing is at its end; a cut or too long arrival is refused with 3.
 pub fn length_step(arrivals: u64, piece: &[u8]) -> Stepped
     ensures { λ r. ⌜ r ≡ handed (lengthStep arrivals (now (piece .entry))) ⌝ }
 {
@@ -82,7 +83,7 @@ pub fn length_step(arrivals: u64, piece: &[u8]) -> Stepped
     quiet(Expected::Block(size), arrivals)
 }
 
-// The verdict and the block of an arrival.
+// The step on the verdict and the block of an arrival. A cut arrival is refused with 3 and ends the listing.
 pub fn block_step(
     size: usize,
     arrivals: u64,
@@ -108,7 +109,7 @@ pub fn block_step(
     stepped(Expected::Length, following(arrivals), lines)
 }
 
-// Bytes of an arrival that is too long.
+// The step on bytes of an arrival that is too long, of which `left` are still to be skipped.
 pub fn skip_step(left: usize, arrivals: u64, piece: &[u8]) -> Stepped
     ensures { λ r. ⌜ r ≡ handed (skipStep left arrivals (now (piece .entry))) ⌝ }
 {

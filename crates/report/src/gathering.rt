@@ -1,4 +1,4 @@
-// Steps on the bytes that came, as many as are due, with their lines one behind the other in the output.
+// All steps that are due on the bytes that came, with their lines one behind the other in the output.
 use crate::Gathered;
 use crate::LINES_SIZE;
 use crate::State;
@@ -11,7 +11,7 @@ ghost use Rattle.report.specs.Framing.{linesSize};
 ghost use Rattle.report.specs.Gathering.{lentSite, isDue, outcomeAt, siteSteppedAt, gathering as Gathering·gathering, gatheredOf};
 ghost use Rattle.report.specs.Steps.{advanced};
 
-// Whether the next step is due, with so many bytes that came, and an output of this size.
+// Whether the next step is due, where `count` bytes came and the output has this size.
 fn is_due(done: Gathered, count: usize, is_ended: bool, size: usize) -> bool
     requires { ⌜ (done .used ≤ count) × (done .length ≤ size) ⌝ }
     ensures { λ r. ⌜ r ≡ isDue «is_ended» (done .state) (count - done .used) (size - done .length) ⌝ }
@@ -28,7 +28,7 @@ fn is_due(done: Gathered, count: usize, is_ended: bool, size: usize) -> bool
     LINES_SIZE <= size - done.length
 }
 
-// Where a piece of so many bytes ends, or all that came.
+// Where the next piece ends: `wanted` bytes behind those that are used, or at the end of all that came.
 fn piece_end(used: usize, wanted: usize, count: usize) -> usize
     requires { ⌜ used ≤ count ⌝ }
     ensures { λ r. ⌜ r ≡ used + min wanted (count - used) ⌝ }
@@ -39,7 +39,7 @@ fn piece_end(used: usize, wanted: usize, count: usize) -> usize
     count
 }
 
-// One step on the bytes that are not used yet; its lines go behind those that stand in the output.
+// Makes one step on the bytes that are not used yet, and puts its lines behind those that stand in the output.
 fn advance(
     done: Gathered,
     table: &mut [u8],
@@ -72,7 +72,7 @@ fn advance(
     }
 }
 
-// Steps on the bytes that came, one after the other, as long as the next one is due: the listing is not at its end, the bytes that it wants
+// Makes steps on the unread bytes, one after the other, as long as the next step is due: the listing is not at its end, the bytes that the step wants
 // are there or no more will come, and the output has room for a step's lines.
 pub fn gather(
     state: State,

@@ -1,9 +1,9 @@
-// The listing of a campaign, one step at a time. The input is a setup and then arrivals; a state says what is expected next, and `wanted`
-// how many bytes that takes. Promises: `step` does and writes what specs/Framing.antt says, for any state, table, record buffer and bytes;
-// the steps' lines, joined, are the listing of the whole input, and `gather` makes the steps that are due on the bytes that came: no byte is
-// lost or used twice, and the lines stand in their order, in however many parts the input comes (specs/Promises.antt); no interpretation is
-// refused, and what a listing shows is delivered in the ledger of its calls (specs/ListingCalls.antt); and the deliveries' lines of its text are what
-// it shows (specs/Lines.antt). Assumes nothing.
+// The listing of a campaign, one step at a time. The input is a setup and then arrivals; a state says what is expected next, and `wanted` how many
+// bytes that takes. Promises: `step` does and writes what specs/Framing.antt says, for any state, table, record buffer and bytes; the steps' lines,
+// joined, are the listing of the whole input, and `gather` makes the steps that are due on the bytes that came: no byte is lost or used twice, and
+// the lines stand in their order, in however many parts the input comes (specs/Promises.antt); no interpretation is refused, and what a listing shows
+// is delivered in the ledger of its calls (specs/Shown.antt); and the deliveries' lines of a listing's text are what the listing shows
+// (specs/Lines.antt). Assumes nothing.
 mod arrival;
 mod framing;
 mod gathering;
@@ -26,7 +26,7 @@ pub const VERDICT_SIZE: usize = 1;
 
 pub const PIECE_SIZE: usize = VERDICT_SIZE + MAX_BLOCK_SIZE;
 
-// Room for the lines of a step: a line for each slot, a number of 64 bits and one byte more for each field.
+// Room for the lines of a step: a line for each slot, and in a line for each field the digits of a number of 64 bits and the byte that ends it.
 pub const FIELDS: usize = 7;
 
 pub const MAX_DIGITS: usize = 20;
@@ -35,7 +35,7 @@ pub const LINE_SIZE: usize = FIELDS * (MAX_DIGITS + 1);
 
 pub const LINES_SIZE: usize = SLOTS * LINE_SIZE;
 
-// A field of a line.
+// A field of a line: a number, or none, which is written as `-`.
 pub enum Field {
     Number(u64),
     Empty,
@@ -51,8 +51,8 @@ pub struct Delivery {
     pub number: u16,
 }
 
-// What the next piece of the input is: the setup; the length of an arrival; its verdict and a block of this size; bytes that are skipped,
-// so many; or none, since the listing is at its end.
+// What is expected of the input next: the setup; the length of an arrival; a verdict and a block of this size; so many bytes that are skipped; or
+// nothing, since the listing is at its end.
 pub enum Expected {
     Setup,
     Length,
@@ -61,25 +61,26 @@ pub enum Expected {
     End,
 }
 
-// What is expected next, and how many arrivals there were.
+// The state between two steps: what is expected next, and how many arrivals there were.
 pub struct State {
     pub expected: Expected,
     pub arrivals: u64,
 }
 
-// The lines to write: the first bytes of an array, so many.
+// The lines to write: the first `length` bytes of an array.
 pub struct Lines {
     pub bytes: [u8; LINES_SIZE],
     pub length: usize,
 }
 
+// What a step gives: the next state, and the lines to write.
 pub struct Stepped {
     pub state: State,
     pub lines: Lines,
 }
 
-// What gathering came to: the next state, how many of the unread bytes the steps used, and how many bytes of lines stand at the front of the
-// output.
+// What the steps of one gathering came to: the next state, how many of the unread bytes were used, and how many bytes of lines stand at the front of
+// the output.
 pub struct Gathered {
     pub state: State,
     pub used: usize,
@@ -116,7 +117,8 @@ pub fn wanted(state: State) -> usize
     }
 }
 
-// One step: the next state, and the lines to write.
+// Makes one step on a piece of the input, which has as many bytes as `wanted` says, or fewer where the input ends. Gives the next state and the lines
+// to write.
 pub fn step(state: State, table: &mut [u8], records: &mut [u16], piece: &[u8]) -> Stepped
     ensures { λ r. ⌜ r ≡ handed (stepped sha256 state (record { table = now (table .entry); records = now (records .entry) }) (now (piece .entry))) ⌝ }
     ensures { λ _. ⌜ now (table .exit) ≡ siteStepped sha256 state (record { table = now (table .entry); records = now (records .entry) }) (now (piece .entry)) .table ⌝ }

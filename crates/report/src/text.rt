@@ -1,4 +1,5 @@
-// Lines of text in a lent buffer: each function puts its text at an index and answers where the text ends.
+// The text of a listing's lines. Each function whose name begins with `put` puts its text at an index of a lent buffer and answers where the text
+// ends.
 use crate::FIELDS;
 use crate::Field;
 use crate::LINES_SIZE;
@@ -12,7 +13,7 @@ ghost use Rattle.base.specs.Bytes.{splice};
 ghost use Rattle.report.specs.Text.{decimal, fieldText, ending as Text·ending, line, refusalLine, refusedLine, setupLine, names as Text·names};
 ghost use Rattle.report.specs.Framing.{maxDigits, fieldSize, lineSize, linesOf};
 
-// The last bytes of an array, from an index on.
+// The last bytes of an array, from index `start` on.
 struct Tail {
     bytes: [u8; MAX_DIGITS],
     start: usize,
@@ -35,7 +36,7 @@ fn digits(n: u64) -> Tail
     Tail { bytes, start }
 }
 
-// A number in decimal.
+// Puts a number in decimal.
 fn put_decimal(out: &mut [u8], at: usize, n: u64) -> usize
     requires { ⌜ at + maxDigits ≤ length (now out) ⌝ }
     ensures { λ r. ⌜ (r ≡ at + length (decimal n)) × (r ≤ at + maxDigits) ⌝ }
@@ -48,7 +49,7 @@ fn put_decimal(out: &mut [u8], at: usize, n: u64) -> usize
     at + (MAX_DIGITS - start)
 }
 
-// A field.
+// Puts a field: its number in decimal, or `-`.
 fn put_value(out: &mut [u8], at: usize, field: Field) -> usize
     requires { ⌜ at + maxDigits ≤ length (now out) ⌝ }
     ensures { λ r. ⌜ (r ≡ at + length (fieldText field)) × (r ≤ at + maxDigits) ⌝ }
@@ -63,7 +64,7 @@ fn put_value(out: &mut [u8], at: usize, field: Field) -> usize
     }
 }
 
-// A field, and the byte that ends it.
+// Puts a field, and the byte that ends it.
 fn put_field(out: &mut [u8], at: usize, field: Field, ending: u8) -> usize
     requires { ⌜ at + fieldSize ≤ length (now out) ⌝ }
     ensures { λ r. ⌜ (r ≡ at + length (fieldText field ++ (ending ∷ []))) × (r ≤ at + fieldSize) ⌝ }
@@ -74,7 +75,7 @@ fn put_field(out: &mut [u8], at: usize, field: Field, ending: u8) -> usize
     end + 1
 }
 
-// What stands after field i.
+// The byte that ends field i: a space, or a line feed after the last field.
 fn ending(i: usize) -> u8
     ensures { λ r. ⌜ r ≡ Text·ending i ⌝ }
 {
@@ -84,7 +85,7 @@ fn ending(i: usize) -> u8
     b' '
 }
 
-// A line of seven fields, one space between them and a line feed at the end.
+// Puts a line of seven fields, with one space between them and a line feed at the end.
 pub fn put_line(out: &mut [u8], at: usize, fields: [Field; FIELDS]) -> usize
     requires { ⌜ at + lineSize ≤ length (now out) ⌝ }
     ensures { λ r. ⌜ (r ≡ at + length (line fields)) × (r ≤ at + lineSize) ⌝ }
@@ -100,7 +101,7 @@ pub fn put_line(out: &mut [u8], at: usize, fields: [Field; FIELDS]) -> usize
     end
 }
 
-// The line of a refusal.
+// Puts the line of a refusal: what was refused, and the refusal's number.
 fn put_refusal(out: &mut [u8], at: usize, what: Field, refusal: u8) -> usize
     requires { ⌜ at + lineSize ≤ length (now out) ⌝ }
     ensures { λ r. ⌜ (r ≡ at + length (refusalLine what refusal)) × (r ≤ at + lineSize) ⌝ }
@@ -118,7 +119,7 @@ fn put_refusal(out: &mut [u8], at: usize, what: Field, refusal: u8) -> usize
     put_line(out, at, fields)
 }
 
-// The names, at the front.
+// Puts the line of names at the front.
 fn put_names(out: &mut [u8]) -> usize
     requires { ⌜ lineSize ≤ length (now out) ⌝ }
     ensures { λ r. ⌜ (r ≡ length Text·names) × (r ≤ lineSize) ⌝ }
@@ -139,7 +140,7 @@ pub fn none() -> Lines
     }
 }
 
-// A refused arrival.
+// The line of a refused arrival.
 pub fn refused(arrival: u64, refusal: u8) -> Lines
     ensures { λ r. ⌜ r ≡ linesOf (refusedLine arrival refusal) ⌝ }
 {
@@ -157,7 +158,7 @@ pub fn names() -> Lines
     Lines { bytes, length }
 }
 
-// The line of names, and a setup that is refused.
+// The line of names, and the line of a refused setup.
 pub fn names_and_refusal(refusal: u8) -> Lines
     ensures { λ r. ⌜ r ≡ linesOf (Text·names ++ setupLine refusal) ⌝ }
 {

@@ -46,12 +46,12 @@ pub record Promises : Type 0 where
   pub causes : (t : Bytes) (buffer : List ℕ) → Causes t buffer
   -- a refusal changes nothing
   pub refused : (t : Bytes) (buffer : List ℕ) → retiring t buffer .refusal ≢ 0 → (retiredTable t buffer ≡ t) × (retiredRecords t buffer ≡ buffer)
-  -- the table shows all places but the first, and the parts go with their places
+  -- the table shows all places but place 0, each one place lower, and the parts of the records move with their places
   pub shown : (t : Bytes) (buffer : List ℕ) → retiring t buffer .refusal ≡ 0 → Shows (setupOf t) (withoutFirst (viewOf t)) (retiredTable t buffer)
   pub parts : (t : Bytes) (buffer : List ℕ) → retiring t buffer .refusal ≡ 0 → Moved buffer (retiredRecords t buffer) (countOf t)
-  -- form is kept, and the buffer's length
+  -- a table in form is in form after any retiring, refused or not, and the buffer keeps its length
   pub kept : (t : Bytes) (buffer : List ℕ) → inForm t ≡ true → inForm (retiredTable t buffer) ≡ true
   pub sized : (t : Bytes) (buffer : List ℕ) → length (retiredRecords t buffer) ≡ length buffer
-  -- a campaign can go on: where every place is interpreted, and the site of place 0 has a later block, it is retired
+  -- a campaign can go on: where every place is interpreted, and the site of place 0 has a held block of greater sequence number, place 0 is retired
   pub goesOn : (t : Bytes) (buffer : List ℕ) → RecordsSized t buffer → ((i : ℕ) → i < countOf t → markAt t i ≡ 1)
       → (i : ℕ) → i < countOf t → siteAt t i ≡ siteAt t 0 → sequenceAt t 0 < sequenceAt t i → retiring t buffer .refusal ≡ 0

@@ -1,5 +1,5 @@
--- Request Eleven: "Retire place 0 and move every other place and record down by one; the buffer from the new count on stays". The checks are
--- made over a view, so that a ledger makes the same ones.
+-- Request Eleven: "Retire place 0 and move every other place and record down by one; the buffer from the new count on stays". The checks are made
+-- over a view, so that the ledger of crates/run makes the same checks.
 use mathlib.Core.Bool.{Bool, cond, not, _&&_}
 use mathlib.Core.List.{List, [], _∷_}
 use Prim.Native.Nat.{ℕ}
@@ -18,11 +18,11 @@ use Rattle.records.specs.Moving.{movedParts}
 
 -- ---- 29: whether place 0 may be retired
 
--- place i refers to it and is not interpreted
+-- place i refers to place 0 and is not interpreted
 abbrev pub waitsForFirst : View → ℕ → Bool
 waitsForFirst v i = v .row i .refersTo 0 && not (interpreted (v .row i))
 
--- place i holds an interpreted block of its site, of greater sequence number
+-- place i holds an interpreted block of the site of place 0, of greater sequence number
 abbrev pub followsFirst : View → ℕ → Bool
 followsFirst v i = eqb (v .row i .site) (v .row 0 .site) && (interpreted (v .row i) && ltb (v .row 0 .sequence) (v .row i .sequence))
 
@@ -38,6 +38,7 @@ referrersInterpreted v = not (anyBelow (waitsForFirst v) (v .held))
 abbrev pub siteGoesOn : View → Bool
 siteGoesOn v = anyBelow (followsFirst v) (v .held)
 
+-- place 0 may be retired: all three hold
 unfoldable pub retirable : View → Bool
 retirable v = firstInterpreted v && (referrersInterpreted v && siteGoesOn v)
 
@@ -52,11 +53,14 @@ retiringChecks formed v size =
     ∷ check 29 (retirable v) 0
     ∷ []
 
+-- the answer of a retiring
 unfoldable pub retiring : Bytes → List ℕ → Answer
 retiring t buffer = answerTo (retiringChecks (inForm t) (viewOf t) (length buffer)) 0
 
+-- the table after a retiring: without place 0, or by a refusal as it was
 unfoldable pub retiredTable : Bytes → List ℕ → Bytes
 retiredTable t buffer = cond (eqb (retiring t buffer .refusal) 0) (moveDown t) t
 
+-- the record buffer after a retiring: every part of a later place one place lower, or by a refusal as it was
 unfoldable pub retiredRecords : Bytes → List ℕ → List ℕ
 retiredRecords t buffer = cond (eqb (retiring t buffer .refusal) 0) (movedParts buffer (countOf t)) buffer

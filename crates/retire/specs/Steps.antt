@@ -5,6 +5,6 @@ use lib.Dec.{eqb, ltb}
 use Rattle.base.specs.Bytes.{Bytes}
 use Rattle.table.specs.Layout.{siteAt, sequenceAt, markAt}
 
--- place i holds an interpreted block of this site, of greater sequence number
+-- place i holds an interpreted block of this site, with a sequence number greater than this one
 abbrev pub followsOne : Bytes → ℕ → ℕ → ℕ → Bool
 followsOne t site sequence i = eqb (siteAt t i) site && (eqb (markAt t i) 1 && ltb sequence (sequenceAt t i))

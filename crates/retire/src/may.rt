@@ -1,4 +1,4 @@
-// Whether place 0 may be retired.
+// Check 29: whether place 0 of a table may be retired.
 use table::rows;
 ghost use mathlib.Core.Path.{_≡_};
 ghost use Prim.Native.Nat.{_<_};
@@ -19,7 +19,7 @@ fn waits(table: &[u8], i: usize) -> bool
     rows::mark_at(table, i) != 1
 }
 
-// Whether a place below k refers to place 0 and is not interpreted.
+// Whether some place below k refers to place 0 and is not interpreted.
 fn any_waits(table: &[u8], k: usize) -> bool
     requires { ⌜ Places (now table) k ⌝ }
     ensures { λ r. ⌜ r ≡ anyBelow (waitsForFirst (viewOf (now (table .entry)))) k ⌝ }
@@ -34,7 +34,7 @@ fn any_waits(table: &[u8], k: usize) -> bool
     false
 }
 
-// Whether place i holds an interpreted block of this site, of greater sequence number.
+// Whether place i holds an interpreted block of this site, with a sequence number greater than this one.
 fn follows(table: &[u8], i: usize, site: u8, sequence: u16) -> bool
     requires { ⌜ Place (now table) i ⌝ }
     ensures { λ r. ⌜ r ≡ followsOne (now (table .entry)) site sequence i ⌝ }
@@ -48,7 +48,7 @@ fn follows(table: &[u8], i: usize, site: u8, sequence: u16) -> bool
     sequence < rows::sequence_at(table, i)
 }
 
-// Whether a place below k holds an interpreted block of this site, of greater sequence number.
+// Whether some place below k holds an interpreted block of this site, with a sequence number greater than this one.
 fn any_follows(table: &[u8], k: usize, site: u8, sequence: u16) -> bool
     requires { ⌜ Places (now table) k ⌝ }
     ensures { λ r. ⌜ r ≡ anyBelow (followsOne (now (table .entry)) site sequence) k ⌝ }
@@ -63,7 +63,8 @@ fn any_follows(table: &[u8], k: usize, site: u8, sequence: u16) -> bool
     false
 }
 
-// Whether place 0 may be retired, of a table with k places.
+// Whether place 0 of a table that holds k blocks may be retired: it is interpreted, and so is every block that refers to it, and its site has a later
+// block that is interpreted.
 pub fn may_retire(table: &[u8], k: usize) -> bool
     requires { ⌜ Places (now table) k × (0 < k) × (k ≡ countOf (now table)) ⌝ }
     ensures { λ r. ⌜ r ≡ retirable (viewOf (now (table .entry))) ⌝ }

@@ -1,4 +1,5 @@
--- An admission that passes: the new place has the history of the block that was admitted, and the other places keep theirs. Assumes nothing.
+-- An admission that passes: the next place gets the history of the block that is admitted, and the other places keep their histories. Assumes
+-- nothing.
 use mathlib.Core.Path.{_≡_, refl, sym, ap, _∙_, subst}
 use mathlib.Core.Bool.{true, cond, _&&_}
 use mathlib.Core.Logic.{_⊎_, _≢_, inl, inr}

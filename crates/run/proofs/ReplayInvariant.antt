@@ -1,4 +1,5 @@
--- What holds at each turn of a replay: the calls that are left make of the present site what all calls make of the first. Assumes nothing.
+-- What holds at each turn of a replay: the calls that are left lead from the site as it is to the site that all calls lead to from the first. Assumes
+-- nothing.
 use mathlib.Core.Path.{_≡_, refl, sym, ap, _∙_}
 use mathlib.Core.Logic.{_≢_}
 use mathlib.Core.List.{List, [], _∷_}

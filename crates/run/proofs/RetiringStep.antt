@@ -1,4 +1,5 @@
--- A retiring that passes: every other place keeps its history one place lower, and that of place 0 is the last retired one. Assumes nothing.
+-- A retiring that passes: every other place keeps its history one place lower, and the history of place 0 is the last that was retired. Assumes
+-- nothing.
 use mathlib.Core.Path.{_≡_, sym, ap₂, _∙_, subst}
 use mathlib.Core.Bool.{true}
 use mathlib.Core.Logic.{_≢_}

@@ -1,4 +1,4 @@
--- The checks of the calls read of a view only what is held: two views that agree there give one answer. Assumes nothing.
+-- The checks of the calls read of a view only the rows that are held: two views that agree on these give one answer. Assumes nothing.
 use mathlib.Core.Path.{_≡_, refl, ap, ap₂, _∙_}
 use mathlib.Core.Bool.{Bool, true, false, not, _&&_}
 use mathlib.Core.List.{List, [], _∷_}

@@ -1,4 +1,4 @@
--- A taking back that passes: every other place keeps its history, and that of the last place is no longer among them. Assumes nothing.
+-- A taking back that passes: every place but the last keeps its history. Assumes nothing.
 use mathlib.Core.Path.{_≡_, ap, subst}
 use mathlib.Core.List.{List, _++_}
 use Prim.Native.Nat.{ℕ, _-_}

@@ -28,18 +28,18 @@ retiringByte = 2
 abbrev pub takingBackByte : ℕ
 takingBackByte = 3
 
--- what stands before the block of an admission
+-- how many bytes stand before the block of an admission
 abbrev pub admissionHeader : ℕ
 admissionHeader = 2 + wordSize
 
 abbrev pub interpretationSize : ℕ
 interpretationSize = 1 + wordSize
 
--- a call that has nothing to tell
+-- how many bytes a retiring or a taking back has: its first byte alone
 abbrev pub bareSize : ℕ
 bareSize = 1
 
--- a whole admission stands at the front, a whole interpretation, or a call that is its first byte alone
+-- at the front of the bytes stands a whole admission; a whole interpretation; a retiring or a taking back
 abbrev pub admissionFirst : Bytes → Bool
 admissionFirst b = eqb (getD b 0 0) admissionByte && (leb admissionHeader (length b) && leb (admissionHeader + lowFirstAt b 2) (length b))
 
@@ -53,6 +53,7 @@ bareFirst b = (eqb (getD b 0 0) retiringByte || eqb (getD b 0 0) takingBackByte)
 unfoldable pub firstSize : Bytes → ℕ
 firstSize b = cond (admissionFirst b) (admissionHeader + lowFirstAt b 2) (cond (interpretationFirst b) interpretationSize (cond (bareFirst b) bareSize 0))
 
+-- the call at the front, where there is one
 unfoldable pub firstCall : Bytes → Call
 firstCall b =
     cond (eqb (getD b 0 0) admissionByte)
@@ -60,11 +61,11 @@ firstCall b =
     (cond (eqb (getD b 0 0) interpretationByte) (interpret (lowFirstAt b 1))
     (cond (eqb (getD b 0 0) retiringByte) retire takeBack))
 
--- the first k calls
+-- the first k calls, or fewer where the list ends before
 unfoldable pub firstCalls : ℕ → Bytes → List Call
 firstCalls zero b = []
 firstCalls (suc k) b = elim (eqb (firstSize b) 0) [ true ↦ [] | false ↦ firstCall b ∷ firstCalls k (drop (firstSize b) b) ]
 
--- all of them: each takes a byte at least
+-- all calls of a list; there are no more than bytes, as each call takes at least one
 unfoldable pub callsIn : Bytes → List Call
 callsIn b = firstCalls (length b) b

@@ -1,5 +1,5 @@
--- Document 01, "Interpreting a place": "A site's ledger is fed the setup, the buffer's length and the calls alone". It makes the checks of
--- the calls, over a view of its own places and marks that is computed from the blocks' bytes.
+-- Document 01, "Interpreting a place": "A site's ledger is fed the setup, the buffer's length and the calls alone". It makes the checks of the calls
+-- over a view of its own places and marks, which is computed from the bytes of its blocks.
 use mathlib.Core.Bool.{cond, _&&_}
 use mathlib.Core.List.{List, [], _∷_}
 use Prim.Native.Nat.{ℕ, suc, _-_}
@@ -27,9 +27,9 @@ pub data Call : Type 0 where
 pub record Ledger : Type 0 where
   -- the blocks that count, the newest first: "a block counts only if some admission of it .. was not taken back"
   pub blocks : List Bytes
-  -- those without a place, the last that was retired first: each was marked when it was retired, and keeps its mark
+  -- the blocks that were retired and have no place, the last retired first; each was marked when it was retired, and keeps its mark
   pub retired : List Bytes
-  -- how many places there are, and of each the block's bytes and the mark: 1 if it is interpreted, 0 if not
+  -- how many places there are, and for each place the bytes of its block and its mark: 1 if it is interpreted, 0 if not
   pub held : ℕ
   pub block : ℕ → Bytes
   pub mark : ℕ → ℕ
@@ -38,7 +38,8 @@ pub record Ledger : Type 0 where
 abbrev pub empty : Ledger
 empty = record { blocks = []; retired = []; held = 0; block = λ i. []; mark = λ i. 0 }
 
--- what a call that passes its checks does: "puts the block's bytes at the next place", "marks the block at the place named"
+-- the ledger after a call that passes its checks: an admission "puts the block's bytes at the next place", an interpretation "marks the block at the
+-- place named"
 unfoldable pub taken : Ledger → Call → Ledger
 taken l (admit b verdict) =
     record {
@@ -59,17 +60,18 @@ taken l retire =
       block = λ i. l .block (suc i);
       mark = λ i. l .mark (suc i);
     }
--- "the ledger then loses that last place": the block there is the newest
+-- "the ledger then loses that last place": the block at the last place is the first of `blocks`
 taken l takeBack = record { blocks = drop 1 (l .blocks); retired = l .retired; held = l .held - 1; block = l .block; mark = l .mark }
 
--- whether something was retired, as a table keeps it
+-- 1 if something was retired, 0 if not, as a table keeps it
 abbrev pub retiredMark : List Bytes → ℕ
 retiredMark [] = 0
 retiredMark (b ∷ bs) = 1
 
 module _ (digest : Bytes → Bytes) where
-  -- what the ledger shows of each place, from the bytes of its blocks: it refers to the lower places whose digests its block lists. A block
-  -- that is admitted again after it was retired stands above those that referred to it, and they do not refer to it any more
+  -- what the ledger shows of each place, from the bytes of its blocks: a place refers to the lower places whose digests are among its block's
+  -- references. A block that is admitted again after it was retired stands above the blocks that referred to it, so their places do not refer to its
+  -- place
   abbrev pub viewIn : Ledger → View
   viewIn l =
       record {

@@ -22,7 +22,7 @@ pub record Interpreted (l : Ledger) (place : ℕ) : Type 0 where
   pub below : place < l .held
   pub mark : l .mark place ≡ 1
 
--- a block stands at a place
+-- the block b stands at a place of the ledger
 abbrev pub Placed : Ledger → Bytes → Type 0
 Placed l b = (place : ℕ) × (place < l .held) × (b ≡ l .block place)
 
@@ -30,7 +30,7 @@ Placed l b = (place : ℕ) × (place < l .held) × (b ≡ l .block place)
 abbrev pub InterpretedBlock : Ledger → Bytes → Type 0
 InterpretedBlock l b = ((place : ℕ) × Interpreted l place × (b ≡ l .block place)) ⊎ List·Memᴰ b (l .retired)
 
--- entry 3 of a record
+-- the entry of a record that has the delivered number
 abbrev pub deliveredEntry : ℕ
 deliveredEntry = 3
 
@@ -58,19 +58,19 @@ module _ (digest : Bytes → Bytes) where
     pub byOwner : siteOf requester ≡ ownerOf s slot
     pub requests : requestFor requester slot ≡ v
 
-  -- a history of blocks of the ledger: each refers, in order and none missing, to blocks with the digests that it lists
+  -- h is a history of blocks of the ledger, in which each block's children are, in order and none missing, blocks with the digests that it refers to
   pub record LedgerHistory (l : Ledger) (h : History) : Type 0 where
     pub among : (a : History) → (a ≡ h) ⊎ Ancestor a h → List·Memᴰ (blockOf a) (l .blocks)
     pub listed : (a : History) → (a ≡ h) ⊎ Ancestor a h → map (λ c. digest (blockOf c)) (children a) ≡ referencesOf (blockOf a)
 
-  -- what a list of calls leaves in a ledger and at a site that starts with this record buffer
+  -- the ledger after a list of calls, and the site after it, where both start with this setup and a record buffer of this length and content
   abbrev pub ledgerOf : Setup → List ℕ → List Call → Ledger
   ledgerOf s buffer calls = ledgerAfter digest s (length buffer) empty calls
 
   abbrev pub siteWith : Setup → List ℕ → List Call → Site
   siteWith s buffer calls = siteAfter digest (started s buffer) calls
 
-  -- one site, told by its ledger
+  -- what holds of a site x after a list of calls, told by its ledger l
   pub record SiteKeeps (s : Setup) (l : Ledger) (x : Site) : Type 0 where
     -- setup, whether something was retired, count and all six fields of every place are the ledger's, and all bytes from the count on are zero
     pub setup : setupOf (x .table) ≡ s
@@ -82,21 +82,21 @@ module _ (digest : Bytes → Bytes) where
     pub placed : (b : Bytes) → List·Memᴰ b (l .blocks) ↔ (Placed l b ⊎ List·Memᴰ b (l .retired))
     -- "At every marked place the place's part of the buffer equals its block's meaning"
     pub shown : RetiredClear l → (place : ℕ) → Interpreted l place → partOf (x .records) place ≡ meaning s (historyAt l place)
-    -- whatever the digests, it equals the meaning of a history of that block: the one that it was admitted with
+    -- whatever the digests are, a marked place's part equals the meaning of some history of its block: the history that the block was admitted with
     pub admittedWith : (place : ℕ) → Interpreted l place
         → (h : History) × LedgerHistory l h × (blockOf h ≡ l .block place) × (partOf (x .records) place ≡ meaning s h)
-    -- a history's children are, in order and none missing, the blocks of the ledger with the digests that the block lists
+    -- the children of a block's history are, in order and none missing, the blocks of the ledger with the digests that the block refers to
     pub listed : RetiredClear l → (b : Bytes) → List·Memᴰ b (l .blocks) → map (λ c. digest (blockOf c)) (children (historyOf digest (l .blocks) b)) ≡ referencesOf b
     pub held : RetiredClear l → (b : Bytes) → List·Memᴰ b (l .blocks) → (c : History) → List·Memᴰ c (children (historyOf digest (l .blocks) b))
         → List·Memᴰ (blockOf c) (l .blocks) × (c ≡ historyOf digest (l .blocks) (blockOf c))
     -- a delivered number was requested by the owner in an ancestor
     pub requested : RetiredClear l → (slot v : ℕ) → slot < slotCount → (d : Delivered s l slot v) → OwnerRequested s l (d .block) slot v
-    -- where nothing was retired, none of this asks anything of digests
+    -- where nothing was retired, RetiredClear holds, so none of these promises asks anything of digests
     pub unretired : l .retired ≡ [] → RetiredClear l
 
-  -- the answers of its calls
+  -- what holds of the answers of a site's calls
   pub record AnswersKeep (s : Setup) (buffer : List ℕ) (calls : List Call) : Type 0 where
-    -- each is the ledger's, number and value
+    -- each answer is the ledger's, number and value
     pub same : siteAnswers digest (started s buffer) calls ≡ ledgerAnswers digest s (length buffer) empty calls
-    -- and none is 2
+    -- no answer is 2: the table is always in form
     pub formed : (a : Answer) → List·Memᴰ a (siteAnswers digest (started s buffer) calls) → a .refusal ≢ 2

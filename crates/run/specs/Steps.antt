@@ -6,7 +6,7 @@ use Rattle.base.specs.Bytes.{Bytes}
 use Rattle.base.specs.LowFirst.{lowFirstAt}
 use Rattle.run.specs.Encoding.{admissionByte, interpretationByte, admissionHeader, interpretationSize, bareSize}
 
--- a whole call stands at the front
+-- a whole call stands at the front of the bytes
 pub record WholeCall (b : Bytes) : Type 0 where
   pub some : bareSize ≤ length b
   pub word : getD b 0 0 ≡ interpretationByte → interpretationSize ≤ length b

@@ -1,4 +1,4 @@
-// The call at the front of an encoded list.
+// The call at the front of an encoded list: how many bytes it takes, and running it.
 use answer::Answer;
 ghost use mathlib.Core.Path.{_≡_};
 ghost use Prim.Native.Nat.{_+_, _≤_};
@@ -21,7 +21,7 @@ const ADMISSION_HEADER: usize = 2 + base::WORD_SIZE;
 
 const INTERPRETATION_SIZE: usize = 1 + base::WORD_SIZE;
 
-// A retiring or a taking back: its first byte alone.
+// A retiring or a taking back is its first byte alone.
 const BARE_SIZE: usize = 1;
 
 // The number of the eight bytes from an index on.
@@ -64,7 +64,7 @@ pub fn first_size(calls: &[u8]) -> usize
     ADMISSION_HEADER + length
 }
 
-// Runs the call at the front.
+// Runs the call at the front of the list on the table and the records.
 pub fn run_first(table: &mut [u8], records: &mut [u16], calls: &[u8]) -> Answer
     requires { ⌜ WholeCall (now calls) ⌝ }
     ensures { λ r. ⌜ r ≡ siteAnswer sha256 (record { table = now (table .entry); records = now (records .entry) }) (firstCall (now (calls .entry))) ⌝ }

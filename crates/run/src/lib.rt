@@ -10,8 +10,8 @@ ghost use Rattle.answer.specs.Buffer.{putAnswers};
 ghost use Rattle.run.specs.Run.{siteAfter, siteAnswers};
 ghost use Rattle.run.specs.Encoding.{callsIn};
 
-// Runs the calls of an encoded list, one after the other, and answers how many there were. The answers are put into the buffer, two
-// numbers for each, as far as they fit.
+// Runs the calls of an encoded list (specs/Encoding.antt), one after the other, and answers how many there were. Their answers are put into
+// `answers`, two numbers for each, as far as they fit.
 pub fn replay(table: &mut [u8], records: &mut [u16], calls: &[u8], answers: &mut [u64]) -> usize
     ensures { λ r. ⌜ r ≡ length (callsIn (now (calls .entry))) ⌝ }
     ensures { λ _. ⌜ now (table .exit) ≡ siteAfter sha256 (record { table = now (table .entry); records = now (records .entry) }) (callsIn (now (calls .entry))) .table ⌝ }

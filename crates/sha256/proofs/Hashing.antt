@@ -1,6 +1,5 @@
--- The hash value reads its blocks only: those after the first n are the first of what the list has after them, and what stands behind the
--- last of them does not matter.
--- Assumes nothing.
+-- The hash value depends on its blocks alone: the blocks after the first n are the first blocks of the list without these n, and what stands behind
+-- the last block does not matter. Assumes nothing.
 use native.Mathlib.Omega.{arith}
 use Prim.Native.Nat.{ℕ, zero, suc, _+_, _*_, _≤_, _<_}
 use native.Mathlib.Nat.{add-assoc, add-zero, add-suc}

@@ -31,6 +31,6 @@ pub record Promises : Type 0 where
   -- 7 + 8 * zeros len, the low bits of the byte 0x80 and the zero bytes after it
   pub zerosFill : (len : ℕ) → (8 * len + 1 + (7 + 8 * zeros len)) % 512 ≡ 448
   pub zerosLeast : (len k : ℕ) → (8 * len + 1 + k) % 512 ≡ 448 → 7 + 8 * zeros len ≤ k
-  -- a digest is 32 bytes
+  -- a digest has 32 elements, and each is a byte
   pub size : (m : List ℕ) → length (sha256 m) ≡ 32
   pub bytes : (m : List ℕ) → AllBytes (sha256 m)

@@ -73,7 +73,7 @@ zeros len = (119 - len % 64) % 64
 unfoldable pub pad : List ℕ → List ℕ
 pad m = m ++ (0x80 ∷ (replicate (zeros (length m)) 0 ++ bytesOf 8 (8 * length m % 2 ^ 64)))
 
--- 5.2.1 Parsing the message: the word of four bytes at place i, and the first t words of the block that starts at place i
+-- 5.2.1 Parsing the message: the word of the four bytes from byte i on, and the first t words of the block that starts at byte i
 abbrev pub word : List ℕ → ℕ → ℕ
 word m i = getD m i 0 * 2 ^ 24 + getD m (i + 1) 0 * 2 ^ 16 + getD m (i + 2) 0 * 2 ^ 8 + getD m (i + 3) 0
 
@@ -95,8 +95,8 @@ H0 =
       h = 0x5be0cd19;
     }
 
--- 6.2.2 SHA-256 hash computation, step 1: W t for t from 16 on, out of the words before it; and the schedule of the block M with the first n
--- of these
+-- 6.2.2 SHA-256 hash computation, step 1: word W t of the schedule, for t from 16 on, out of the words before it; and the schedule's first 16 + n
+-- words, which begin with the sixteen words M of the block
 unfoldable pub next : List ℕ → ℕ → ℕ
 next W t = (σ1 (getD W (t - 2) 0) + getD W (t - 7) 0 + σ0 (getD W (t - 15) 0) + getD W (t - 16) 0) % 2 ^ 32
 
@@ -143,7 +143,7 @@ plus s t =
       h = (s .h + t .h) % 2 ^ 32;
     }
 
--- steps 1 to 4: the hash value s after the block that starts at place i
+-- steps 1 to 4: the hash value that follows s by the block that starts at byte i of m
 unfoldable pub compress : State → List ℕ → ℕ → State
 compress s m i = plus (rounds s (schedule (words m i 16) 48) 64) s
 
@@ -152,7 +152,7 @@ unfoldable pub hash : State → List ℕ → ℕ → State
 hash s m zero = s
 hash s m (suc n) = compress (hash s m n) m (64 * n)
 
--- the digest, H0 to H7 of the last hash value, one after another
+-- the digest: the words H0 to H7 of the last hash value, one after another, each as four bytes
 unfoldable pub wordBytes : List ℕ → List ℕ
 wordBytes [] = []
 wordBytes (w ∷ ws) = bytesOf 4 w ++ wordBytes ws

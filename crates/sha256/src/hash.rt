@@ -1,4 +1,4 @@
-// The hash value, block by block: 5.3.3 and 6.2.2.
+// The hash value, block by block: 5.3.3 and 6.2.2 of FIPS 180-4.
 ghost use mathlib.Core.Path.{_≡_};
 ghost use Prim.Native.Nat.{_+_, _*_, _≤_};
 ghost use lib.ListN.{length};
@@ -8,7 +8,7 @@ use crate::rounds::rounds_of;
 use crate::schedule::schedule_of;
 use crate::words::add;
 
-// H(0)
+// H(0), the initial hash value.
 pub fn initial() -> State
     ensures { λ r. ⌜ r ≡ H0 ⌝ }
 {
@@ -24,7 +24,7 @@ pub fn initial() -> State
     }
 }
 
-// The hash value s after the first n blocks of m.
+// The hash value that follows s by the first n blocks of m.
 pub fn hash_of(s: State, m: &[u8], n: usize) -> State
     requires { ⌜ 64 * n ≤ length (now m) ⌝ }
     ensures { λ r. ⌜ r ≡ hash s (now (m .entry)) n ⌝ }
@@ -38,7 +38,7 @@ pub fn hash_of(s: State, m: &[u8], n: usize) -> State
     v
 }
 
-// The hash value s after the block of m that starts at place `at`.
+// The hash value that follows s by the block of m that starts at byte `at`.
 fn compress_of(s: State, m: &[u8], at: usize) -> State
     requires { ⌜ at + 64 ≤ length (now m) ⌝ }
     ensures { λ r. ⌜ r ≡ compress s (now (m .entry)) at ⌝ }
@@ -47,7 +47,7 @@ fn compress_of(s: State, m: &[u8], at: usize) -> State
     plus_of(rounds_of(s, &w), s)
 }
 
-// Step 4.
+// Step 4: the working variables s added to the hash value t.
 fn plus_of(s: State, t: State) -> State
     ensures { λ r. ⌜ r ≡ plus s t ⌝ }
 {

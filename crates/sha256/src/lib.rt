@@ -1,8 +1,7 @@
 // SHA-256, as FIPS 180-4 defines it.
 //
-// It promises that `digest` answers the standard's digest of every message that a slice can hold, and that it ends: no index,
-// sum or cast in it can go wrong. The contract cites specs/Sha256.antt, which is the standard in its own steps and names.
-// It assumes nothing, neither of its callers nor as an axiom.
+// Promises: `digest` answers the standard's digest of every message that a slice can hold, and it ends: no index, sum or cast in it can go wrong. The
+// contract cites specs/Sha256.antt, which is the standard in its own steps and names. Assumes nothing, neither of its callers nor as an axiom.
 mod hash;
 mod padding;
 mod rounds;
@@ -18,7 +17,7 @@ use padding::tail_blocks;
 use rounds::State;
 use words::put_word;
 
-// The digest of the message, which is read in place: first its whole blocks, then one or two with its rest and the padding.
+// The digest of the message, which is read in place: first its whole blocks, then one or two blocks with the message's rest and the padding.
 pub fn digest(message: &[u8]) -> [u8; 32]
     ensures { λ r. ⌜ r ≡ sha256 (now (message .entry)) ⌝ }
 {
@@ -28,7 +27,7 @@ pub fn digest(message: &[u8]) -> [u8; 32]
     bytes_of(hash_of(s, &tail, tail_blocks(message.len())))
 }
 
-// The eight words of the last hash value, each as four bytes, the highest first.
+// The eight words of the last hash value, each as four bytes, the high byte first.
 fn bytes_of(s: State) -> [u8; 32]
     ensures { λ r. ⌜ r ≡ bytes s ⌝ }
 {

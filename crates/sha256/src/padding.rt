@@ -1,4 +1,4 @@
-// The padding: 5.1.1. Of the message only its rest is copied, the bytes after its last whole block: at most 63.
+// The padding: 5.1.1 of FIPS 180-4. Of the message only the rest is copied, the bytes after its last whole block: at most 63.
 ghost use mathlib.Core.Path.{_≡_};
 ghost use Prim.Native.Nat.{_+_, _-_, _*_, _/_, _%_, _^_, _≤_, _<_};
 ghost use mathlib.Core.List.{_∷_, _++_};
@@ -8,14 +8,14 @@ ghost use Rattle.sha256.specs.Steps.{tailBlocks};
 use crate::words::low;
 use crate::words::put_word;
 
-// How many blocks follow the message's whole ones: as many as its rest, the one bit's byte and the length's eight bytes need.
+// How many blocks follow the message's whole blocks: as many as its rest, the byte with the one bit and the eight bytes of the length need.
 pub fn tail_blocks(len: usize) -> usize
     ensures { λ r. ⌜ r ≡ tailBlocks len ⌝ }
 {
     (len % 64 + 9 + 63) / 64
 }
 
-// Puts what the padded message has after the message's whole blocks into two blocks of zeros. It takes one of them or both.
+// Puts what the padded message has after the message's whole blocks into two blocks of zeros: it fills the first of them, or both.
 pub fn put_tail(message: &[u8], tail: &mut [u8])
     requires { ⌜ now tail ≡ replicate 128 0 ⌝ }
     ensures { λ _. do n ← ⟦message.len()⟧ .entry; ⌜ take (64 * tailBlocks n) (now (tail .exit)) ≡ drop (64 * (n / 64)) (pad (now (message .entry))) ⌝ }
@@ -28,7 +28,7 @@ pub fn put_tail(message: &[u8], tail: &mut [u8])
     put_word(tail, end - 4, low(bits));
 }
 
-// Puts the message from place `at` on, then the one bit. What is left are zeros.
+// Puts the message from byte `at` on, then the byte with the one bit. The bytes behind it stay zeros.
 fn put_rest(message: &[u8], at: usize, tail: &mut [u8])
     requires { ⌜ (at ≤ length (now message)) × (length (now message) < at + 64) × (now tail ≡ replicate 128 0) ⌝ }
     ensures { λ _. do n ← ⟦message.len()⟧ .entry; ⌜ now (tail .exit) ≡ drop at (now (message .entry)) ++ (0x80 ∷ replicate (127 - (n - at)) 0) ⌝ }
@@ -37,7 +37,7 @@ fn put_rest(message: &[u8], at: usize, tail: &mut [u8])
     tail[n] = 0x80;
 }
 
-// The length in bits, modulo 2 ^ 64. It is cut before it is multiplied, so that the product fits.
+// The message's length in bits, modulo 2 ^ 64. The length in bytes is cut before it is multiplied, so that the product fits.
 fn bit_count(len: usize) -> u64
     ensures { λ r. ⌜ r ≡ 8 * len % 2 ^ 64 ⌝ }
 {

@@ -1,4 +1,4 @@
-// The 64 rounds on the working variables: 6.2.2, steps 2 and 3.
+// The 64 rounds on the working variables: 6.2.2 of FIPS 180-4, steps 2 and 3.
 ghost use mathlib.Core.Path.{_≡_};
 ghost use Prim.Native.Nat.{_<_};
 ghost use lib.ListN.{getD};
@@ -22,7 +22,7 @@ pub struct State {
     pub h: u32,
 }
 
-// 4.2.2
+// The constants of 4.2.2, one for each round.
 const K: [u32; 64] = [
     0x428a_2f98,
     0x7137_4491,
@@ -90,8 +90,8 @@ const K: [u32; 64] = [
     0xc671_78f2,
 ];
 
-// The working variables after 64 rounds on the hash value s. The table is bound before the loop, since a constant that is
-// indexed in a loop is built anew each turn. Four rounds a turn are faster than one: the working variables move less.
+// The working variables after 64 rounds on the hash value s. The constants are bound to `k` before the loop, since a constant that is indexed in a
+// loop is built anew each turn. Four rounds a turn are faster than one: the working variables move less.
 pub fn rounds_of(s: State, w: &[u32; 64]) -> State
     ensures { λ r. ⌜ r ≡ rounds s (now (w .entry)) 64 ⌝ }
 {
@@ -108,7 +108,7 @@ pub fn rounds_of(s: State, w: &[u32; 64]) -> State
     v
 }
 
-// Round t, with the words t of both tables.
+// Round t, with word t of the constants and word t of the schedule.
 fn round_at(s: State, k: &[u32; 64], w: &[u32; 64], t: usize) -> State
     requires { ⌜ t < 64 ⌝ }
     ensures { λ r. ⌜ r ≡ round s (getD (now (k .entry)) t 0) (getD (now (w .entry)) t 0) ⌝ }

@@ -1,4 +1,4 @@
-// The message schedule: 6.2.2, step 1.
+// The message schedule: 6.2.2 of FIPS 180-4, step 1.
 ghost use mathlib.Core.Path.{_≡_};
 ghost use Prim.Native.Nat.{_+_, _%_, _^_, _≤_};
 ghost use lib.ListN.{length, take};
@@ -8,7 +8,7 @@ use crate::words::small_sigma0;
 use crate::words::small_sigma1;
 use crate::words::word_at;
 
-// The schedule of the block that starts at place `at`.
+// The schedule of the block that starts at byte `at` of m.
 pub fn schedule_of(m: &[u8], at: usize) -> [u32; 64]
     requires { ⌜ at + 64 ≤ length (now m) ⌝ }
     ensures { λ r. ⌜ r ≡ schedule (words (now (m .entry)) at 16) 48 ⌝ }
@@ -16,7 +16,7 @@ pub fn schedule_of(m: &[u8], at: usize) -> [u32; 64]
     extend(load(m, at))
 }
 
-// The block's sixteen words, with room for the rest of the schedule behind them.
+// The block's sixteen words, with room for the other 48 words of the schedule behind them.
 fn load(m: &[u8], at: usize) -> [u32; 64]
     requires { ⌜ at + 64 ≤ length (now m) ⌝ }
     ensures { λ r. ⌜ take 16 r ≡ words (now (m .entry)) at 16 ⌝ }
@@ -30,7 +30,7 @@ fn load(m: &[u8], at: usize) -> [u32; 64]
     w
 }
 
-// The two newest words stay in `a` and `b`, so that no word waits for the last store.
+// The whole schedule from its first sixteen words. The last two words stay in `a` and `b`, so that no word waits for the store of the one before.
 fn extend(block: [u32; 64]) -> [u32; 64]
     ensures { λ r. ⌜ r ≡ schedule (take 16 block) 48 ⌝ }
 {
@@ -48,7 +48,7 @@ fn extend(block: [u32; 64]) -> [u32; 64]
     w
 }
 
-// A word of the schedule, from those that stand 2, 7, 15 and 16 places before it.
+// A word of the schedule, from the words that stand 2, 7, 15 and 16 before it.
 fn next_of(w2: u32, w7: u32, w15: u32, w16: u32) -> u32
     ensures { λ r. ⌜ r ≡ (σ1 w2 + w7 + σ0 w15 + w16) % 2 ^ 32 ⌝ }
 {

@@ -1,4 +1,4 @@
-// Words of 32 bits: the functions on them (4.1.2), sums, and how bytes hold them (3.1, 5.2.1).
+// Words of 32 bits: the functions on them (4.1.2 of FIPS 180-4), sums, and how bytes hold them (3.1, 5.2.1).
 ghost use mathlib.Core.Path.{_≡_};
 ghost use Prim.Native.Nat.{_+_, _*_, _%_, _^_, _≤_};
 ghost use lib.ListN.{length};
@@ -41,7 +41,7 @@ pub fn small_sigma1(x: u32) -> u32
     (x >> 17 | x << 15) ^ (x >> 19 | x << 13) ^ (x >> 10)
 }
 
-// The low word. A sum modulo 2 ^ 32 is taken in 64 bits, where it cannot wrap, and then cut.
+// The low 32 bits. A sum modulo 2 ^ 32 is taken in 64 bits, where it cannot wrap, and then cut by this.
 pub fn low(x: u64) -> u32
     ensures { λ r. ⌜ r ≡ x % 2 ^ 32 ⌝ }
 {
@@ -54,7 +54,7 @@ pub fn add(x: u32, y: u32) -> u32
     low(x as u64 + y as u64)
 }
 
-// The word of four bytes, the highest first.
+// The word of four bytes, the high byte first.
 fn word_of(a: u8, b: u8, c: u8, d: u8) -> u32
     ensures { λ r. ⌜ r ≡ a * 2 ^ 24 + b * 2 ^ 16 + c * 2 ^ 8 + d ⌝ }
 {
@@ -68,7 +68,7 @@ pub fn word_at(m: &[u8], i: usize) -> u32
     word_of(m[i], m[i + 1], m[i + 2], m[i + 3])
 }
 
-// Puts the word's four bytes at place i.
+// Puts the word's four bytes at byte i of m, the high byte first.
 pub fn put_word(m: &mut [u8], i: usize, w: u32)
     requires { ⌜ i + 4 ≤ length (now m) ⌝ }
     ensures { λ _. ⌜ now (m .exit) ≡ splice (now (m .entry)) i (bytesOf 4 w) ⌝ }

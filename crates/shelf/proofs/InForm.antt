@@ -1,4 +1,4 @@
--- What it means that a shelf is in form, as a record, and the other way round. Assumes nothing.
+-- A shelf in form as a record of what holds of it, and the other way round. Assumes nothing.
 use mathlib.Core.Path.{_≡_}
 use mathlib.Core.Bool.{true, _&&_}
 use mathlib.Core.List.{List}

@@ -1,4 +1,4 @@
--- Request Three: the rules of the shelf, over what waits.
+-- Request Three: the rules of the shelf, over the list of what waits.
 use mathlib.Core.Bool.{Bool, cond, true, not, _&&_}
 use mathlib.Core.List.{List, [], _∷_}
 use Prim.Native.Nat.{ℕ, _-_}
@@ -26,7 +26,7 @@ reserved = 2
 abbrev pub maxShare : ℕ
 maxShare = 10
 
--- what waits for a campaign
+-- whether an entry waits for this campaign
 abbrev pub isFor : ℕ → Waiting → Bool
 isFor c w = eqb (w .campaign) c
 
@@ -42,7 +42,7 @@ free ws = maxWaiting - length ws
 abbrev pub lack : ℕ → List Waiting → ℕ
 lack c ws = reserved - holds c ws
 
--- "what the campaigns lack of their 2", and "what the others lack of their 2"
+-- "what the campaigns lack of their 2", summed; and "what the others lack of their 2", summed over all campaigns but c
 abbrev pub allLack : List Waiting → ℕ
 allLack ws = sumBelow (λ d. lack d ws) campaignCount
 
@@ -53,7 +53,7 @@ othersLack c ws = sumBelow (λ d. cond (eqb d c) 0 (lack d ws)) campaignCount
 unfoldable pub hasPlace : ℕ → List Waiting → Bool
 hasPlace c ws = ltb (holds c ws) maxShare && ltb (othersLack c ws) (free ws)
 
--- "its bytes already wait for that campaign"
+-- "its bytes already wait for that campaign": whether one entry has these bytes, and whether some entry has
 abbrev pub isSame : ℕ → Bytes → Waiting → Bool
 isSame c b w = isFor c w && sameBytes (w .block) b
 
@@ -75,6 +75,6 @@ eachSound (w ∷ ws) =
 unfoldable pub shared : List Waiting → Bool
 shared ws = allBelow (λ c. leb (holds c ws) maxShare) campaignCount && leb (allLack ws) (free ws)
 
--- and no more wait than there are places
+-- the rules of form: no more blocks wait than there are places, each is sound, and the campaigns share the places
 unfoldable pub rulesHold : List Waiting → Bool
 rulesHold ws = leb (length ws) maxWaiting && (eachSound ws && shared ws)

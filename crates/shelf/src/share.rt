@@ -27,7 +27,7 @@ fn places_held(shelf: &[u8], campaign: u8) -> usize
     held
 }
 
-// What it lacks of its 2.
+// How many places a campaign lacks of its 2.
 fn lacked(shelf: &[u8], campaign: u8) -> usize
     requires { ⌜ ShelfSized (now shelf) ⌝ }
     ensures { λ r. ⌜ (r ≡ lack campaign (waitingIn (now (shelf .entry)))) × (r ≤ reserved) ⌝ }
@@ -39,7 +39,7 @@ fn lacked(shelf: &[u8], campaign: u8) -> usize
     RESERVED - held
 }
 
-// What the others lack of theirs.
+// How many places all other campaigns together lack of their 2.
 fn others_lack(shelf: &[u8], campaign: u8) -> usize
     requires { ⌜ ShelfSized (now shelf) ⌝ }
     ensures { λ r. ⌜ r ≡ othersLack campaign (waitingIn (now (shelf .entry))) ⌝ }
@@ -66,7 +66,7 @@ pub fn has_place(shelf: &[u8], campaign: u8) -> bool
     others_lack(shelf, campaign) < MAX_WAITING - entries::count_of(shelf)
 }
 
-// Whether no campaign holds more than 10 places, and the free ones cover what the campaigns lack of their 2.
+// Whether no campaign holds more than 10 places, and the free places cover what the campaigns lack of their 2.
 pub fn shared(shelf: &[u8]) -> bool
     requires { ⌜ ShelfSized (now shelf) ⌝ }
     ensures { λ r. ⌜ r ≡ shared (waitingIn (now (shelf .entry))) ⌝ }

@@ -1,5 +1,5 @@
--- What a table shows after a row was put at its next place: the same setup, one place more, the rows below as they were, the row
--- that was put, and what stands behind it as it was. So a table in form stays in form where the new row is. Assumes nothing.
+-- What a table shows after a row was put at its next place: the same setup, one place more, the rows below as they were, the row that was put, and
+-- what stands behind it as it was. So a table in form stays in form where the row that is put is in form. Assumes nothing.
 use mathlib.Core.Path.{_≡_, sym, ap, ap₂, _∙_, subst}
 use mathlib.Core.Bool.{true}
 use mathlib.Core.List.{[], _∷_}

@@ -1,6 +1,6 @@
--- Tables whose rows stand as the bytes of the rows that they show. A row put at the next place and a mark keep that, so every table that
--- calls reach is one; a table in form that is one is the layout of its contents, and two of them that show the same are equal. Assumes
--- nothing.
+-- Tables whose rows stand as the bytes of the rows that they show, here called canonical. A row put at the next place and a mark keep a table
+-- canonical, so every table that calls reach is; a canonical table in form is the layout of its contents, and two of them that show the same are
+-- equal. Assumes nothing.
 use mathlib.Core.Path.{_≡_, sym, ap, ap₂, _∙_, subst}
 use mathlib.Core.Bool.{Bool, true, false}
 use mathlib.Core.Logic.{inl, inr}

@@ -1,4 +1,4 @@
--- The group and the print of a place's digest: both are in range, and a digest whose print is new in its group is held by no lower place.
+-- The group and the print of a place's digest: both are in range, and a digest whose print no lower place has in its group is held by no lower place.
 -- Assumes nothing.
 use mathlib.Core.Path.{_≡_, sym, ap, _∙_}
 use mathlib.Core.Bool.{false}

@@ -1,4 +1,5 @@
--- Document 01, "What is turned down", row 1: the empty table of a setup, or all zeros; and the same into a lent buffer.
+-- Document 01, "What is turned down", row 1: the empty table of a setup, or all zeros, handed back by value; and the empty table put into a lent
+-- buffer.
 use mathlib.Core.Bool.{cond}
 use mathlib.Core.List.{[], _∷_}
 use lib.Dec.{eqb}
@@ -11,13 +12,15 @@ use Rattle.table.specs.View.{View}
 use Rattle.table.specs.Layout.{tableSize, rowAt, layout}
 use Rattle.table.specs.declared.FreshTable.{FreshTable}
 
--- nothing is held
+-- the view of a table in which no block is held and nothing has been retired
 abbrev pub nothing : View
 nothing = record { retired = 0; held = 0; row = rowAt [] }
 
+-- the bytes of the empty table
 unfoldable pub emptyTable : Setup → Bytes
 emptyTable s = layout s nothing
 
+-- the empty table of a lawful setup; "the table handed back is all zero" for any other
 unfoldable pub freshTable : Setup → FreshTable
 freshTable s =
     cond (lawful s)
@@ -26,10 +29,10 @@ freshTable s =
 
 -- ---- into a lent buffer
 
--- 1: setup not lawful; 2: a buffer that is no table's length
+-- 1: setup not lawful; 2: the lent buffer does not have a table's length
 unfoldable pub freshAnswer : Setup → Bytes → Answer
 freshAnswer s t = answerTo (check 1 (lawful s) 0 ∷ check 2 (eqb (length t) tableSize) 0 ∷ []) 0
 
--- the empty table, or the buffer as it was
+-- the buffer afterwards: the empty table, or by a refusal the buffer as it was
 unfoldable pub freshIn : Setup → Bytes → Bytes
 freshIn s t = cond (eqb (freshAnswer s t .refusal) 0) (emptyTable s) t

@@ -38,7 +38,7 @@ countOffset = retiredOffset + 1
 abbrev pub rowsOffset : ℕ
 rowsOffset = countOffset + 1
 
--- within a row, which begins with the digest
+-- the offsets within a row, which begins with the digest
 abbrev pub siteOffset : ℕ
 siteOffset = referenceSize
 
@@ -112,6 +112,7 @@ viewOf t = record { retired = retiredOf t; held = countOf t; row = rowAt t }
 
 -- ---- the bytes of a setup and of what is held
 
+-- the bytes of a row
 unfoldable pub rowBytes : Row → Bytes
 rowBytes r =
     r .digest
@@ -121,7 +122,7 @@ rowBytes r =
     ++ (concat (listBelow (λ slot. pair (r .request slot)) slotCount)
     ++ (r .mark ∷ [])))))
 
--- "Entries from the count on are zero"
+-- the table of this setup that holds what the view shows. "Entries from the count on are zero"
 unfoldable pub layout : Setup → View → Bytes
 layout s v =
     s .sites

@@ -39,7 +39,7 @@ pub record Empty (s : Setup) (t : Bytes) : Type 0 where
   pub retired : retiredOf t ≡ 0
   pub count : countOf t ≡ 0
 
--- t shows this setup and this view, and zeros behind it
+-- t shows this setup and this view, and zeros behind the last row of the view
 pub record Shows (s : Setup) (v : View) (t : Bytes) : Type 0 where
   pub size : length t ≡ tableSize
   pub setup : setupOf t ≡ s
@@ -48,7 +48,7 @@ pub record Shows (s : Setup) (v : View) (t : Bytes) : Type 0 where
   pub rows : SameBelow (viewOf t) v (v .held)
   pub zeros : allZero (drop (rowStart (v .held)) t) ≡ true
 
--- `fresh` of a setup
+-- what `fresh` answers for a setup
 pub record FreshCauses (s : Setup) : Type 0 where
   -- 1 comes under its cause and under no other
   pub one : (freshTable s .refusal ≡ 1) ↔ (lawful s ≡ false)
@@ -57,13 +57,13 @@ pub record FreshCauses (s : Setup) : Type 0 where
   pub zeros : freshTable s .refusal ≡ 1 → freshTable s .table ≡ replicate tableSize 0
   pub shown : freshTable s .refusal ≡ 0 → Empty s (freshTable s .table)
 
--- `fresh_in` of a setup and a lent buffer
+-- what `fresh_in` answers for a setup and a lent buffer, and what it leaves
 pub record FreshInCauses (s : Setup) (t : Bytes) : Type 0 where
   pub one : (freshAnswer s t .refusal ≡ 1) ↔ (lawful s ≡ false)
   pub two : (freshAnswer s t .refusal ≡ 2) ↔ ((lawful s ≡ true) × (length t ≢ tableSize))
   pub none : (freshAnswer s t .refusal ≡ 0) ↔ ((lawful s ≡ true) × (length t ≡ tableSize))
   pub noValue : freshAnswer s t .value ≡ 0
-  -- a refusal leaves the buffer
+  -- a refusal leaves the buffer as it was
   pub refused : freshAnswer s t .refusal ≢ 0 → freshIn s t ≡ t
   pub shown : freshAnswer s t .refusal ≡ 0 → Empty s (freshIn s t)
 
@@ -72,9 +72,9 @@ pub record Promises : Type 0 where
   pub freshIn : (s : Setup) (t : Bytes) → FreshInCauses s t
   -- a table in form is the layout of its own contents: none of its bytes is left to choose
   pub laid : (t : Bytes) → AllBytes t → inForm t ≡ true → t ≡ layout (setupOf t) (viewOf t)
-  -- the empty table of a lawful setup
+  -- the empty table of a lawful setup is in form, shows that setup, and holds no block
   pub empty : (s : Setup) → lawful s ≡ true → Empty s (emptyTable s)
-  -- a row at the next place is read back as it was put
+  -- a row that is put at the next place is read back as it was put, and nothing else has changed
   pub grown : (t : Bytes) (r : Row) → length t ≡ tableSize → countOf t < maxPlaces → length (r .digest) ≡ referenceSize → Grown t (withRow t r) r
-  -- a mark is read back, and nothing else
+  -- a mark that is set at a place is read back, and nothing else has changed
   pub marked : (t : Bytes) (i : ℕ) → length t ≡ tableSize → i < maxPlaces → Marked t (withMark t i) i

@@ -35,12 +35,12 @@ pub record LastPlace (t : Bytes) (last : ℕ) : Type 0 where
   pub count : countOf t ≡ suc last
   pub few : suc last ≤ maxPlaces
 
--- a row as far as the rules on references read it
+-- a row of this site and sequence number with these references; the rules on references read none of its other fields
 abbrev pub rowOf : ℕ → ℕ → ℕ → Row
 rowOf site sequence references =
     record { digest = []; site = site; sequence = sequence; refersTo = inMask references; request = λ slot. 0; mark = 0 }
 
--- the row of place i with these references
+-- the row of place i with these references in place of its own
 abbrev pub rowWith : Bytes → ℕ → ℕ → Row
 rowWith t i references =
     record {
@@ -52,11 +52,11 @@ rowWith t i references =
       mark = rowAt t i .mark;
     }
 
--- the two bytes of each slot's counted request
+-- the two bytes of each slot's counted request, out of a request list
 abbrev pub countedRequestBytes : Bytes → Bytes
 countedRequestBytes list = concat (listBelow (λ slot. pair (countedRequest (requestsIn list) slot)) slotCount)
 
--- a row with the places referred to as a mask, uninterpreted
+-- the row of a block that is admitted: the references are a mask of places, the requests a request list, and it is uninterpreted
 abbrev pub newRow : Bytes → ℕ → ℕ → ℕ → Bytes → Row
 newRow d site sequence references requests =
     record {
@@ -72,7 +72,7 @@ newRow d site sequence references requests =
 abbrev pub withReferences : Bytes → ℕ → Bytes
 withReferences row references = take referencesOffset row ++ (lowFirstBytes wordSize references ++ drop requestsOffset row)
 
--- for a block of this site and sequence number, that at place j is a parent
+-- the block at place j is a parent for a block of this site and sequence number
 abbrev pub parentAt : Bytes → ℕ → ℕ → ℕ → Bool
 parentAt t site sequence j = isParent site sequence (siteAt t j) (sequenceAt t j)
 
@@ -80,14 +80,14 @@ parentAt t site sequence j = isParent site sequence (siteAt t j) (sequenceAt t j
 abbrev pub marksBelow : Bytes → ℕ → ℕ
 marksBelow t k = maskBelow (λ j. eqb (markAt t j) 1) k
 
--- the mask of the places below k of this site, and that of each site
+-- the mask of the places below k that hold a block of this site, and the list of these masks, one for each site
 abbrev pub siteBelow : Bytes → ℕ → ℕ → ℕ
 siteBelow t site k = maskBelow (λ j. eqb (siteAt t j) site) k
 
 abbrev pub sitesBelow : Bytes → ℕ → List ℕ
 sitesBelow t k = listBelow (λ site. siteBelow t site k) maxSites
 
--- a digest's group and its print, by its first two bytes
+-- the group of a place is told by the first byte of its digest, and its print by the second
 abbrev pub groupCount : ℕ
 groupCount = 16
 
@@ -97,12 +97,12 @@ groupAt t i = getD t (rowStart i) 0 % groupCount
 abbrev pub printAt : Bytes → ℕ → ℕ
 printAt t i = getD t (rowStart i + 1) 0 % printCount
 
--- the mask of the prints in the group of place i that the lower places have
+-- the mask of the prints that the places below i have in the group of place i
 abbrev pub printsMet : Bytes → ℕ → ℕ
 printsMet t i = printsBelow (groupAt t) (printAt t) i (groupAt t i)
 
--- what the check of a row asks of a caller: its site below n, which of the lower places are interpreted and which of its own site, and the
--- prints of its group
+-- what the check of the row of place i asks of a caller: its site is below n, and of the lower places the masks are known of those that are
+-- interpreted, of those of its own site, and of the prints in its group
 pub record RowContext (t : Bytes) (i marked own prints : ℕ) : Type 0 where
   pub site : siteAt t i < setupOf t .sites
   pub marks : marked ≡ marksBelow t i
@@ -114,7 +114,8 @@ unfoldable pub lastOf : Bytes → ℕ → ℕ → ℕ
 lastOf t byte zero = 0
 lastOf t byte (suc k) = cond (eqb (getD (digestAt t k) 0 0) byte) (suc k) (lastOf t byte k)
 
--- that of each byte, and so for all places held: the table's index
+-- the index of a table: for each byte, one more than the highest place whose digest begins with the byte. First for the places below k, then for all
+-- places held
 abbrev pub byteCount : ℕ
 byteCount = 256
 
@@ -129,11 +130,11 @@ pub record Indexed (t : Bytes) (index : List ℕ) : Type 0 where
   pub formed : inForm t ≡ true
   pub indexed : index ≡ indexOf t
 
--- what the rule below asks of a caller: references to lower places only, and which of these are interpreted
+-- what `marksClosed` asks of a caller: place i refers to lower places only, and the mask of the lower places that are interpreted is known
 pub record Lower (t : Bytes) (i references marked : ℕ) : Type 0 where
   pub lower : references / 2 ^ i ≡ 0
   pub marks : marked ≡ marksBelow t i
 
--- the rule on the references of an interpreted place
+-- "an interpreted place has all its references interpreted", for place i with these references
 abbrev pub marksClosed : Bytes → ℕ → ℕ → Bool
 marksClosed t i references = not (eqb (markAt t i) 1 && anyBelow (refersUninterpreted (viewOf t) (rowOf 0 0 references)) i)

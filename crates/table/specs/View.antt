@@ -1,5 +1,5 @@
--- What document 01's rules read of the blocks that are held. A table's bytes have a view, and so have a ledger's blocks: the rules are
--- stated once, over it.
+-- What document 01's rules read of the blocks that are held, as a view. A table's bytes have a view, and so has the ledger of crates/run: the rules
+-- are stated once, over views.
 use mathlib.Core.Path.{_≡_}
 use mathlib.Core.Bool.{Bool, cond}
 use Prim.Native.Nat.{ℕ, _<_}
@@ -11,7 +11,7 @@ use Rattle.setup.specs.Setup.{slotCount}
 abbrev pub maxPlaces : ℕ
 maxPlaces = 64
 
--- what is held of one block
+-- what a table keeps of one block
 pub record Row : Type 0 where
   pub digest : Bytes
   pub site : ℕ
@@ -20,19 +20,19 @@ pub record Row : Type 0 where
   pub refersTo : ℕ → Bool
   -- the counted request of each slot, 0 if none
   pub request : ℕ → ℕ
-  -- 1 if it is interpreted, 0 if not
+  -- 1 if the block is interpreted, 0 if not
   pub mark : ℕ
 
 abbrev pub interpreted : Row → Bool
 interpreted r = eqb (r .mark) 1
 
--- whether something has been retired (1 if so, 0 if not), how many blocks are held, and the row of each place
+-- a view: whether something has been retired (1 if so, 0 if not), how many blocks are held, and the row of each place
 pub record View : Type 0 where
   pub retired : ℕ
   pub held : ℕ
   pub row : ℕ → Row
 
--- two rows show the same
+-- two rows are equal in every field, as far as there are places and slots
 pub record SameRow (r q : Row) : Type 0 where
   pub digest : r .digest ≡ q .digest
   pub site : r .site ≡ q .site

@@ -1,5 +1,5 @@
--- What is written into a table beyond a row at the next place and a mark: request Twelve takes the last place back, and request Eleven retires
--- place 0, "References to it vanish from the sets" and every other place moves down by one.
+-- What requests Twelve and Eleven write into a table. Twelve takes the last place back. Eleven retires place 0: "References to it vanish from the
+-- sets", and every other place moves down by one.
 use mathlib.Core.Bool.{_&&_}
 use mathlib.Core.List.{[], _∷_, _++_}
 use Prim.Native.Nat.{ℕ, suc, _-_}
@@ -14,7 +14,7 @@ use Rattle.table.specs.Layout.{retiredOffset, countOffset, referencesOff
 
 -- ---- the last place is taken back
 
--- all places but the last; whether something has been retired stays
+-- the view without its last place; whether something has been retired stays
 abbrev pub withoutLast : View → View
 withoutLast v = record { retired = v .retired; held = v .held - 1; row = v .row }
 
@@ -24,7 +24,7 @@ withoutRow t = splice (splice t (rowStart (countOf t - 1)) (replicate rowSize 0)
 
 -- ---- place 0 is retired
 
--- a row that moved down with all places: "References to it vanish from the sets", the others go with their places, which are below 64
+-- a row after every place has moved down by one: references to place 0 vanish, and a reference to place j + 1, which is below 64, is to place j
 abbrev pub movedRow : Row → Row
 movedRow r =
     record {
@@ -36,18 +36,19 @@ movedRow r =
       mark = r .mark;
     }
 
--- "A table keeps whether it has retired anything"
+-- the view without place 0, all other places one lower; "A table keeps whether it has retired anything"
 abbrev pub withoutFirst : View → View
 withoutFirst v = record { retired = 1; held = v .held - 1; row = λ i. movedRow (v .row (suc i)) }
 
--- the bytes of such a row: the places referred to changed, all others as they are
+-- the bytes of the row of place i after every place has moved down by one: only the places referred to change
 unfoldable pub movedBytes : Bytes → ℕ → Bytes
 movedBytes t i = splice (take rowSize (drop (rowStart i) t)) referencesOffset (lowFirstBytes wordSize (maskBelow (movedRow (rowAt t i) .refersTo) maxPlaces))
 
--- those of the places 1 to k
+-- the bytes of the rows of the places 1 to k, after every place has moved down by one
 abbrev pub movedRows : Bytes → ℕ → Bytes
 movedRows t k = concat (listBelow (λ i. movedBytes t (suc i)) k)
 
--- the table that has retired something, with the count one less, the other rows one place lower, and zeros at the old last place
+-- the table without place 0: something has been retired, the count is one less, the other rows stand one place lower, and zeros stand at the place
+-- that was the last
 unfoldable pub moveDown : Bytes → Bytes
 moveDown t = splice t retiredOffset (1 ∷ ((countOf t - 1) ∷ (movedRows t (countOf t - 1) ++ replicate rowSize 0)))

@@ -1,4 +1,4 @@
-// Whether what a table holds is in form.
+// The parts of a table's form: whether its setup, its count and every row are in form.
 use crate::ROW_SIZE;
 use crate::ROWS_OFFSET;
 use crate::rows;
@@ -16,7 +16,8 @@ ghost use Rattle.table.specs.Layout.{tableSize, setupOf, retiredOf, dige
 ghost use Rattle.table.specs.Rules.{hasDigest, parentInForm, rowInForm, heldInForm};
 ghost use Rattle.table.specs.Steps.{Place, Places, Lower, RowContext, rowWith, groupAt, printAt, printsMet, marksClosed};
 
-// A digest is of one of these groups and has a print in it, by its first two bytes. Equal digests have both in common, and others seldom do.
+// How many groups of digests there are. A digest's first byte tells its group, and its second byte its print in the group. Equal digests have group
+// and print in common, and different digests seldom do.
 const GROUPS: usize = 16;
 
 fn group_at(table: &[u8], i: usize) -> usize
@@ -33,8 +34,8 @@ fn print_at(table: &[u8], i: usize) -> usize
     base::wide(table[ROWS_OFFSET + ROW_SIZE * i + 1]) % base::PRINTS
 }
 
-// Whether a lower place holds the digest of place i, where `prints` is the mask of the prints in its group that the lower places have. No
-// digest is compared where its own print is not among them.
+// Whether a lower place holds the digest of place i, where `prints` is the mask of the prints that the lower places have in its group. Where the
+// digest's own print is not among these, no digest is compared.
 fn is_repeated(table: &[u8], i: usize, prints: u64) -> bool
     requires { ⌜ Place (now table) i × (prints ≡ printsMet (now table) i) ⌝ }
     ensures { λ r. ⌜ r ≡ anyBelow (hasDigest (viewOf (now (table .entry))) (digestAt (now (table .entry)) i)) i ⌝ }
@@ -45,7 +46,7 @@ fn is_repeated(table: &[u8], i: usize, prints: u64) -> bool
     rules::place_of(table, i, rows::digest_at(table, i)) < i
 }
 
-// Whether all references of an interpreted place are interpreted, where `marked` is the mask of the lower places that are.
+// Whether place i, if it is interpreted, has all its references interpreted, where `marked` is the mask of the lower places that are interpreted.
 fn marks_closed(table: &[u8], i: usize, references: u64, marked: u64) -> bool
     requires { ⌜ Place (now table) i ⌝ }
     requires { ⌜ Lower (now table) i references marked ⌝ }
@@ -57,7 +58,7 @@ fn marks_closed(table: &[u8], i: usize, references: u64, marked: u64) -> bool
     (marked | references) == marked
 }
 
-// Whether the parent of place i may have been retired.
+// Whether the parent of place i may have been retired: the table has retired something, and place i is interpreted.
 fn may_lack_parent(table: &[u8], i: usize) -> bool
     requires { ⌜ Place (now table) i ⌝ }
     ensures { λ r. ⌜ r ≡ (eqb (retiredOf (now (table .entry))) 1 && interpreted (rowAt (now (table .entry)) i)) ⌝ }
@@ -68,8 +69,8 @@ fn may_lack_parent(table: &[u8], i: usize) -> bool
     rows::mark_at(table, i) == 1
 }
 
-// The parent rule of form for the row of place i with these references: one parent, or none where it may have been retired. The references are
-// gone over once.
+// The parent rule of form for the row of place i with these references: one parent, or none where the parent may have been retired. The references
+// are gone over once.
 fn parent_in_form(table: &[u8], i: usize, references: u64) -> bool
     requires { ⌜ Place (now table) i ⌝ }
     ensures { λ r. ⌜ r ≡ parentInForm (viewOf (now (table .entry))) i (rowWith (now (table .entry)) i references) ⌝ }
@@ -88,9 +89,9 @@ fn parent_in_form(table: &[u8], i: usize, references: u64) -> bool
     parents == 0
 }
 
-// Whether the row of place i is in form, where its site is below n. Of the lower places `marked` is the mask of the interpreted ones and
-// `own` that of the row's own site: a parent is among these, so the parent rule goes over no other reference. `prints` is the mask of the
-// prints in the group of its digest.
+// Whether the row of place i is in form, where its site is below n. Of the lower places `marked` is the mask of those that are interpreted, and `own`
+// the mask of those of the row's own site: a parent is among the latter, so the parent rule goes over no other reference. `prints` is the mask of the
+// prints that the lower places have in the group of the row's digest.
 fn row_in_form(table: &[u8], i: usize, marked: u64, own: u64, prints: u64) -> bool
     requires { ⌜ Place (now table) i ⌝ }
     requires { ⌜ RowContext (now table) i marked own prints ⌝ }
@@ -115,8 +116,8 @@ fn row_in_form(table: &[u8], i: usize, marked: u64, own: u64, prints: u64) -> bo
     parent_in_form(table, i, references & own)
 }
 
-// Whether every row below k is. The marks met so far are kept as a mask, the places met of each site as another, and the prints met of each
-// group, so that no row looks through those below it.
+// Whether every row below k is in form. Three kinds of masks are kept of the rows gone over: the interpreted places, the places of each site, and the
+// prints of each group. So no row looks through the rows below it.
 fn rows_in_form(table: &[u8], k: usize) -> bool
     requires { ⌜ Places (now table) k ⌝ }
     requires { ⌜ setupOf (now table) .sites ≤ maxSites ⌝ }
@@ -148,7 +149,7 @@ fn rows_in_form(table: &[u8], k: usize) -> bool
     true
 }
 
-// Whether the setup is lawful, the retired byte 0 or 1, the count up to 64, and every row below it in form.
+// Whether the setup is lawful, the byte for what has been retired 0 or 1, the count up to 64, and every row below the count in form.
 pub fn held_in_form(table: &[u8]) -> bool
     requires { ⌜ length (now table) ≡ tableSize ⌝ }
     ensures { λ r. ⌜ r ≡ heldInForm (setupOf (now (table .entry))) (viewOf (now (table .entry))) ⌝ }

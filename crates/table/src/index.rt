@@ -1,4 +1,4 @@
-// Where a digest is held, found by its first byte.
+// The place of a digest, found by the digest's first byte.
 use crate::rows;
 ghost use mathlib.Core.Path.{_≡_};
 ghost use mathlib.Core.Bool.{true};
@@ -8,10 +8,10 @@ ghost use Rattle.table.specs.Rules.{placeOf};
 ghost use Rattle.table.specs.Form.{inForm};
 ghost use Rattle.table.specs.Steps.{Indexed, indexOf};
 
-// As many as there are bytes.
+// The index has an entry for each of the 256 bytes.
 pub const INDEX_SIZE: usize = 256;
 
-// The first byte of a digest.
+// The first byte of a digest, 0 if it has none.
 fn first_of(digest: &[u8]) -> u8
     ensures { λ r. ⌜ r ≡ getD (now (digest .entry)) 0 0 ⌝ }
 {
@@ -21,7 +21,7 @@ fn first_of(digest: &[u8]) -> u8
     digest[0]
 }
 
-// For each byte one more than the highest place whose digest begins with it, 0 if there is none.
+// The table's index: for each byte, one more than the highest place whose digest begins with the byte, 0 if there is none.
 pub fn index_of(table: &[u8]) -> [u8; INDEX_SIZE]
     requires { ⌜ inForm (now table) ≡ true ⌝ }
     ensures { λ r. ⌜ r ≡ indexOf (now (table .entry)) ⌝ }
@@ -36,8 +36,8 @@ pub fn index_of(table: &[u8]) -> [u8; INDEX_SIZE]
     index
 }
 
-// The place that holds the block of this digest, or the count. No place above the one in the index begins with the digest's first byte, so the
-// search goes down from there, and mostly ends at once: few digests begin alike.
+// The place that holds the block of this digest, or the count. No digest above the place in the index begins with this digest's first byte, so the
+// search goes down from that place, and mostly ends at once: few digests begin alike.
 pub fn find(table: &[u8], index: &[u8], digest: &[u8]) -> usize
     requires { ⌜ Indexed (now table) (now index) ⌝ }
     ensures { λ r. ⌜ r ≡ placeOf (viewOf (now (table .entry))) (countOf (now (table .entry))) (now (digest .entry)) ⌝ }

@@ -1,7 +1,7 @@
-// A site's table: the setup and what is held of each block, as bytes that the caller lends. No other library computes an index into them.
-// Promises: a lent buffer of any length and content is judged as specs/Form.antt says, a fresh table is the layout of its setup, a table in
-// form is the layout of its own contents (proofs/TableLayout.antt), and what is written is what specs/Layout.antt and specs/Writing.antt say. Assumes
-// nothing of the bytes.
+// A site's table: the setup and what is held of each block, as bytes that the caller lends. No other library computes an index into a table.
+// Promises: whether a lent buffer of any length and content is a table in form is as specs/Form.antt says, a fresh table is the layout of its setup,
+// a table in form is the layout of its own contents (proofs/Laid.antt), and what is written is what specs/Layout.antt and specs/Writing.antt say.
+// Assumes nothing of the bytes.
 mod form;
 pub mod index;
 pub mod moving;
@@ -21,7 +21,7 @@ ghost use Rattle.table.specs.Fresh.{emptyTable, freshTable, freshAnswer,
 
 pub const MAX_PLACES: usize = 64;
 
-// Where each field stands: of the table, then of a row, which begins with the digest.
+// Where each field of the table stands, then where each field of a row stands. A row begins with the digest.
 const OWNERS_OFFSET: usize = 1;
 
 const RETIRED_OFFSET: usize = OWNERS_OFFSET + SLOTS;
@@ -50,7 +50,7 @@ pub struct FreshTable {
     pub table: [u8; TABLE_SIZE],
 }
 
-// The empty table of a setup.
+// The empty table of a setup, by value; all zeros and refusal 1 if the setup is not lawful.
 pub fn fresh(sites: u8, owners: [u8; SLOTS]) -> FreshTable
     ensures { λ r. ⌜ r ≡ freshTable (record { sites = sites; owners = owners }) ⌝ }
 {
@@ -62,7 +62,7 @@ pub fn fresh(sites: u8, owners: [u8; SLOTS]) -> FreshTable
     FreshTable { refusal: 0, table }
 }
 
-// Puts the site count and the owners before zeros.
+// Makes a buffer of zeros the empty table of a setup, by putting the site count and the owners at its front.
 fn put_setup(sites: u8, owners: &[u8], table: &mut [u8])
     requires { ⌜ (length (now owners) ≡ slotCount) × (now table ≡ replicate tableSize 0) ⌝ }
     ensures { λ _. ⌜ now (table .exit) ≡ emptyTable (record { sites = sites; owners = now (owners .entry) }) ⌝ }

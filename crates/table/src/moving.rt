@@ -1,4 +1,4 @@
-// Rows one place lower.
+// A table without its place 0: every other row moves one place down.
 use crate::REFERENCES_OFFSET;
 use crate::RETIRED_OFFSET;
 use crate::ROW_SIZE;
@@ -13,7 +13,7 @@ ghost use Rattle.table.specs.Layout.{rowsOffset, tableSize};
 ghost use Rattle.table.specs.Writing.{movedBytes, movedRows, moveDown};
 ghost use Rattle.table.specs.Steps.{Place, LastPlace};
 
-// The bytes of a row one place lower.
+// The bytes that the row of place i has one place lower. Its references move down by one too, and a reference to place 0 vanishes.
 fn moved_bytes(table: &[u8], i: usize) -> [u8; ROW_SIZE]
     requires { ⌜ Place (now table) i ⌝ }
     ensures { λ r. ⌜ r ≡ movedBytes (now (table .entry)) i ⌝ }
@@ -30,7 +30,7 @@ fn moved_bytes(table: &[u8], i: usize) -> [u8; ROW_SIZE]
     row
 }
 
-// The rows of the places 1 to k, one place lower; all other bytes stay.
+// Moves the rows of the places 1 to k one place down; all other bytes stay.
 fn move_rows(table: &mut [u8], k: usize)
     requires { ⌜ (length (now table) ≡ tableSize) × (k < maxPlaces) ⌝ }
     ensures { λ _. ⌜ now (table .exit) ≡ splice (now (table .entry)) rowsOffset (movedRows (now (table .entry)) k) ⌝ }
@@ -43,8 +43,8 @@ fn move_rows(table: &mut [u8], k: usize)
     }
 }
 
-// The whole table one place lower: the rows, zeros at the old last place, and then that something has been retired and how many places are
-// left.
+// Takes place 0 out of the table: the other rows move one place down, zeros come to stand at the place that was the last, and the table keeps that
+// something has been retired, and that `left` places are left.
 pub fn move_down(table: &mut [u8], left: usize)
     requires { ⌜ LastPlace (now table) left ⌝ }
     ensures { λ _. ⌜ now (table .exit) ≡ moveDown (now (table .entry)) ⌝ }

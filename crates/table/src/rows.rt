@@ -37,7 +37,7 @@ pub fn owners_of(table: &[u8]) -> &[u8]
     &table[OWNERS_OFFSET..RETIRED_OFFSET]
 }
 
-// 1 if something has been retired.
+// 1 if the table has retired something, 0 if not.
 pub fn retired_of(table: &[u8]) -> u8
     requires { ⌜ length (now table) ≡ tableSize ⌝ }
     ensures { λ r. ⌜ r ≡ retiredOf (now (table .entry)) ⌝ }
@@ -75,7 +75,7 @@ pub fn sequence_at(table: &[u8], i: usize) -> u16
     base::number_of(table[at], table[at + 1])
 }
 
-// The places referred to, as a mask.
+// The mask of the places that the block at place i refers to.
 pub fn references_at(table: &[u8], i: usize) -> u64
     requires { ⌜ Place (now table) i ⌝ }
     ensures { λ r. ⌜ r ≡ referencesAt (now (table .entry)) i ⌝ }
@@ -84,7 +84,7 @@ pub fn references_at(table: &[u8], i: usize) -> u64
     base::low_first(&table[at..at + base::WORD_SIZE])
 }
 
-// The counted request of a slot, 0 if none.
+// The counted request of the block at place i in a slot, 0 if none.
 pub fn request_at(table: &[u8], i: usize, slot: usize) -> u16
     requires { ⌜ Place (now table) i × (slot < slotCount) ⌝ }
     ensures { λ r. ⌜ r ≡ countedRequestAt (now (table .entry)) i slot ⌝ }
@@ -93,7 +93,7 @@ pub fn request_at(table: &[u8], i: usize, slot: usize) -> u16
     base::number_of(table[at], table[at + 1])
 }
 
-// 1 if the block is interpreted.
+// 1 if the block at place i is interpreted, 0 if not.
 pub fn mark_at(table: &[u8], i: usize) -> u8
     requires { ⌜ Place (now table) i ⌝ }
     ensures { λ r. ⌜ r ≡ markAt (now (table .entry)) i ⌝ }

@@ -1,4 +1,4 @@
-// The rules on what is held that several calls share.
+// Searches and rules on what is held, which several calls share.
 use crate::rows;
 ghost use mathlib.Core.Path.{_≡_};
 ghost use mathlib.Core.Bool.{_&&_};
@@ -9,7 +9,7 @@ ghost use Rattle.table.specs.Layout.{viewOf, rowAt};
 ghost use Rattle.table.specs.Rules.{placeOf, parentRow, parents, parentRule, refersUninterpreted};
 ghost use Rattle.table.specs.Steps.{Place, Places, rowOf, parentAt};
 
-// The place below k that holds the block of this digest, or k.
+// The lowest place below k that holds the block of this digest, or k.
 pub fn place_of(table: &[u8], k: usize, digest: &[u8]) -> usize
     requires { ⌜ Places (now table) k ⌝ }
     ensures { λ r. ⌜ r ≡ placeOf (viewOf (now (table .entry))) k (now (digest .entry)) ⌝ }
@@ -24,7 +24,7 @@ pub fn place_of(table: &[u8], k: usize, digest: &[u8]) -> usize
     k
 }
 
-// Whether the block at place j is a parent for one of this site and sequence number.
+// Whether the block at place j is a parent for a block of this site and sequence number.
 fn parent_at(table: &[u8], j: usize, site: u8, sequence: u16) -> bool
     requires { ⌜ Place (now table) j ⌝ }
     ensures { λ r. ⌜ r ≡ parentAt (now (table .entry)) site sequence j ⌝ }
@@ -35,7 +35,8 @@ fn parent_at(table: &[u8], j: usize, site: u8, sequence: u16) -> bool
     (rows::sequence_at(table, j) as u32) + 1 == (sequence as u32)
 }
 
-// Whether the block at place j is among the references of a block and a parent for it.
+// Whether the block at place j is the parent of a block with these references, site and sequence number: it is among the references, of that site,
+// and its sequence number is one less.
 pub fn is_parent(table: &[u8], j: usize, references: u64, site: u8, sequence: u16) -> bool
     requires { ⌜ Place (now table) j ⌝ }
     ensures { λ r. ⌜ r ≡ (inMask references j && parentRow (rowOf site sequence references) (rowAt (now (table .entry)) j)) ⌝ }
@@ -46,7 +47,7 @@ pub fn is_parent(table: &[u8], j: usize, references: u64, site: u8, sequence: u1
     parent_at(table, j, site, sequence)
 }
 
-// Whether place j is below k and holds a parent.
+// Whether place j is below k and holds a parent for a block of this site and sequence number.
 fn parent_below(table: &[u8], k: usize, j: usize, site: u8, sequence: u16) -> bool
     requires { ⌜ Place (now table) j ⌝ }
     ensures { λ r. ⌜ r ≡ (ltb j k && parentAt (now (table .entry)) site sequence j) ⌝ }
@@ -57,7 +58,8 @@ fn parent_below(table: &[u8], k: usize, j: usize, site: u8, sequence: u16) -> bo
     parent_at(table, j, site, sequence)
 }
 
-// How many of the references below k are parents. A turn is taken for each reference, from the highest down, and for no other place.
+// How many of the references below k are parents of a block of this site and sequence number. The loop takes a turn for each reference, from the
+// highest down, and for no other place.
 pub fn parents_among(table: &[u8], k: usize, references: u64, site: u8, sequence: u16) -> usize
     requires { ⌜ Places (now table) k ⌝ }
     ensures { λ r. ⌜ r ≡ parents (viewOf (now (table .entry))) k (rowOf site sequence references) ⌝ }
@@ -74,7 +76,7 @@ pub fn parents_among(table: &[u8], k: usize, references: u64, site: u8, sequence
     count
 }
 
-// The parent rule for a block with references among the places below k.
+// Whether a block of this site and sequence number keeps the parent rule, where its references are among the places below k.
 pub fn parent_rule(table: &[u8], k: usize, references: u64, site: u8, sequence: u16) -> bool
     requires { ⌜ Places (now table) k ⌝ }
     ensures { λ r. ⌜ r ≡ parentRule (viewOf (now (table .entry))) k (rowOf site sequence references) ⌝ }
@@ -85,7 +87,7 @@ pub fn parent_rule(table: &[u8], k: usize, references: u64, site: u8, sequence: 
     parents_among(table, k, references, site, sequence) == 1
 }
 
-// Whether place j is among the references and not interpreted.
+// Whether place j is among the references and is not interpreted.
 fn refers_uninterpreted(table: &[u8], j: usize, references: u64) -> bool
     requires { ⌜ Place (now table) j ⌝ }
     ensures { λ r. ⌜ r ≡ refersUninterpreted (viewOf (now (table .entry))) (rowOf 0 0 references) j ⌝ }
@@ -96,7 +98,7 @@ fn refers_uninterpreted(table: &[u8], j: usize, references: u64) -> bool
     rows::mark_at(table, j) != 1
 }
 
-// The lowest place below k that is, or k.
+// The lowest of the references below k that is not interpreted, or k if there is none.
 pub fn first_uninterpreted(table: &[u8], k: usize, references: u64) -> usize
     requires { ⌜ Places (now table) k ⌝ }
     ensures { λ r. ⌜ r ≡ firstBelow (refersUninterpreted (viewOf (now (table .entry))) (rowOf 0 0 references)) k ⌝ }

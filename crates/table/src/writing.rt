@@ -1,4 +1,4 @@
-// What is written into a table: a row at the next place, of a block or of another table, a mark, and zeros over the last row.
+// What is written into a table: a row at the next place, made from a block or carried from another table; a mark; and zeros over the last row.
 use crate::COUNT_OFFSET;
 use crate::MARK_OFFSET;
 use crate::REFERENCES_OFFSET;
@@ -19,7 +19,7 @@ ghost use Rattle.table.specs.Layout.{countOf, rowSize, rowBytes, withRow
 ghost use Rattle.table.specs.Writing.{withoutRow};
 ghost use Rattle.table.specs.Steps.{Place, LastPlace, rowWith, countedRequestBytes, newRow, withReferences};
 
-// Puts the counted request of each slot of the list, two bytes each.
+// Puts the counted request of each slot, out of a request list, two bytes each from index `at` on.
 fn put_requests(table: &mut [u8], at: usize, list: &[u8])
     requires { ⌜ at + 2 * slotCount ≤ length (now table) ⌝ }
     ensures { λ _. ⌜ now (table .exit) ≡ splice (now (table .entry)) at (countedRequestBytes (now (list .entry))) ⌝ }
@@ -36,7 +36,7 @@ fn put_requests(table: &mut [u8], at: usize, list: &[u8])
     }
 }
 
-// Writes an uninterpreted row from the index on.
+// Writes the bytes of an uninterpreted row from index `at` on.
 fn write_row(
     table: &mut [u8],
     at: usize,
@@ -64,7 +64,7 @@ fn write_row(
     base::put(table, at + MARK_OFFSET, &[0u8]);
 }
 
-// Puts an uninterpreted row at the next place, and the count one more.
+// Puts an uninterpreted row at the next place, and makes the count one more.
 pub fn put_row(
     table: &mut [u8],
     digest: &[u8],
@@ -82,7 +82,7 @@ pub fn put_row(
     base::put(table, COUNT_OFFSET, &[(place + 1) as u8]);
 }
 
-// Writes the bytes of a row at index `at`, with these references in place of its own.
+// Writes the bytes of a row from index `at` on, with these references in place of its own.
 fn write_carried(table: &mut [u8], at: usize, row: &[u8], references: u64)
     requires { ⌜ (at + rowSize ≤ length (now table)) × (length (now row) ≡ rowSize) ⌝ }
     ensures { λ _. ⌜ now (table .exit) ≡ splice (now (table .entry)) at (withReferences (now (row .entry)) references) ⌝ }
@@ -96,7 +96,7 @@ fn write_carried(table: &mut [u8], at: usize, row: &[u8], references: u64)
     base::put(table, at + REQUESTS_OFFSET, &row[REQUESTS_OFFSET..]);
 }
 
-// Puts the row of place j of another table at the next place, with these references, and the count one more.
+// Puts the row of place j of another table at the next place, with these references in place of its own, and makes the count one more.
 pub fn put_carried(table: &mut [u8], other: &[u8], j: usize, references: u64)
     requires { ⌜ Place (now table) (countOf (now table)) × Place (now other) j ⌝ }
     ensures { λ _. ⌜ now (table .exit) ≡ withRow (now (table .entry)) (rowWith (now (other .entry)) j references) ⌝ }
@@ -120,7 +120,7 @@ pub fn set_mark(table: &mut [u8], place: usize)
     base::put(table, ROWS_OFFSET + ROW_SIZE * place + MARK_OFFSET, &[1u8]);
 }
 
-// Zeros at the last place, and the count one less.
+// Puts zeros at the last place, and makes the count one less.
 pub fn clear_last(table: &mut [u8], last: usize)
     requires { ⌜ LastPlace (now table) last ⌝ }
     ensures { λ _. ⌜ now (table .exit) ≡ withoutRow (now (table .entry)) ⌝ }

@@ -1,4 +1,5 @@
--- Straight after an admission a taking back passes and leaves the table before it, all bytes, and after many admissions as many do. Assumes nothing.
+-- Straight after an admission a taking back succeeds and leaves the table before the admission, all bytes; and after several admissions as many
+-- takings back do. Assumes nothing.
 use mathlib.Core.Path.{_≡_, refl, sym, ap, _∙_, subst}
 use mathlib.Core.Bool.{true}
 use mathlib.Core.List.{List, [], _∷_}

@@ -1,3 +1,3 @@
--- Request Twelve: the last place is taken back. All of it is what a reader must believe.
+-- Request Twelve: the last place is taken back. Both files are what a reader must believe.
 pub mod TakingBack
 pub mod Promises

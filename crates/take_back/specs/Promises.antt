@@ -29,9 +29,9 @@ pub record Causes (t : Bytes) : Type 0 where
   pub none : (takingBack t .refusal ≡ 0) ↔ (SomeHeld t × (markAt t (countOf t - 1) ≢ 1))
   pub noValue : takingBack t .value ≡ 0
 
--- ---- what is undone
+-- ---- admissions undone by takings back
 
--- so many takings back, one after the other, pass and lead from one table to another, all bytes
+-- k takings back, one after the other, all succeed and lead from the table t to a table that equals t′ in every byte
 unfoldable pub UndoneBy : ℕ → Bytes → Bytes → Type 0
 UndoneBy zero t t′ = t ≡ t′
 UndoneBy (suc k) t t′ = (takingBack t ≡ success 0) × UndoneBy k (takenBack t) t′
@@ -42,7 +42,7 @@ pub record Brought : Type 0 where
   pub verdict : ℕ
 
 module _ (digest : Bytes → Bytes) where
-  -- the table after blocks were brought, one after the other, and how many of them were admitted
+  -- the table after blocks were brought to t, one after the other; and how many of the blocks were admitted
   unfoldable pub loaded : Bytes → List Brought → Bytes
   loaded t [] = t
   loaded t (b ∷ bs) = loaded (admitted digest t (b .block) (b .verdict)) bs
@@ -58,12 +58,12 @@ pub record Promises : Type 0 where
   pub refused : (t : Bytes) → takingBack t .refusal ≢ 0 → takenBack t ≡ t
   -- the table shows all places but the last
   pub shown : (t : Bytes) → takingBack t .refusal ≡ 0 → Shows (setupOf t) (withoutLast (viewOf t)) (takenBack t)
-  -- form is kept
+  -- a table in form is in form after any taking back, refused or not
   pub kept : (t : Bytes) → inForm t ≡ true → inForm (takenBack t) ≡ true
-  -- "straight after an admission that is the table before it", on any table, by whatever digest of 32 bytes
+  -- "straight after an admission that is the table before it", for any table, and for any digest of 32 bytes
   pub undone : (digest : Bytes → Bytes) → ((b : Bytes) → length (digest b) ≡ referenceSize) → (t b : Bytes) (verdict : ℕ)
       → admission digest t b verdict .refusal ≡ 0 → UndoneBy 1 (admitted digest t b verdict) t
-  -- "Observers load the wrong campaign's file": whatever it brought, refused blocks among it, as many takings back as it had blocks admitted leave
-  -- nothing of it
+  -- "Observers load the wrong campaign's file": whatever blocks the file brought, some of them perhaps refused, as many takings back as blocks of it
+  -- were admitted lead to the table before the file
   pub fileUndone : (digest : Bytes → Bytes) → ((b : Bytes) → length (digest b) ≡ referenceSize) → (t : Bytes) (file : List Brought)
       → UndoneBy (admittedOf digest t file) (loaded digest t file) t

@@ -1,5 +1,5 @@
--- Request Twelve: "Taking back the last place gives the table without it, all fields". The checks are made over a view, so that a ledger makes the
--- same ones.
+-- Request Twelve: "Taking back the last place gives the table without it, all fields". The checks are made over a view, so that the ledger of
+-- crates/run makes the same checks.
 use mathlib.Core.Bool.{Bool, cond, not}
 use mathlib.Core.List.{List, [], _∷_}
 use Prim.Native.Nat.{_-_}
@@ -20,8 +20,10 @@ takingBackChecks formed v =
     ∷ check 33 (not (interpreted (v .row (v .held - 1)))) 0
     ∷ []
 
+-- the answer of a taking back
 unfoldable pub takingBack : Bytes → Answer
 takingBack t = answerTo (takingBackChecks (inForm t) (viewOf t)) 0
 
+-- the table after a taking back: without its last place, or by a refusal as it was
 unfoldable pub takenBack : Bytes → Bytes
 takenBack t = cond (eqb (takingBack t .refusal) 0) (withoutRow t) t

@@ -6,7 +6,7 @@ use table::rows;
 ghost use mathlib.Core.Path.{_≡_};
 ghost use Rattle.take_back.specs.TakingBack.{takingBack, takenBack};
 
-// Takes back the last place. Refuses with 2, 32 or 33, in that order; a refusal changes nothing.
+// Takes the block at the last place out of the table. Refuses with 2, 32 or 33, in that order; a refusal changes nothing.
 pub fn take_back(table: &mut [u8]) -> Answer
     ensures { λ r. ⌜ r ≡ takingBack (now (table .entry)) ⌝ }
     ensures { λ _. ⌜ now (table .exit) ≡ takenBack (now (table .entry)) ⌝ }

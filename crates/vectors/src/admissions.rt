@@ -25,12 +25,12 @@ fn show_setups() {
     show_fresh(b"fresh, 0 sites, owner 0", 0, 0);
 }
 
-// A block of site 0 and sequence 0 that asks for a number in slot 0. Other numbers make other blocks of the same site and sequence.
+// A block of site 0 and sequence 0 that requests a number in slot 0. Blocks of different numbers are forks.
 fn requesting(number: u8) -> [u8; 8] {
     [0, 0, 0, 0, 1, 0, 0, number]
 }
 
-// A block of site 0 and sequence 1 that refers to the two blocks of these numbers.
+// A block of site 0 and sequence 1 that refers to the two blocks which request these numbers.
 fn referring(first: u8, second: u8) -> [u8; 69] {
     let mut b = [0u8; 69];
     b[2] = 1;
@@ -40,7 +40,7 @@ fn referring(first: u8, second: u8) -> [u8; 69] {
     b
 }
 
-// Sequence 1 without references, and with both forks of sequence 0.
+// Blocks of sequence 1: without references, with a reference that is not held, and with references to both forks of sequence 0.
 fn show_parents() {
     let fresh = table::fresh(4, [0; SLOTS]);
     let mut table = fresh.table;
@@ -66,7 +66,7 @@ fn show_parents() {
     );
 }
 
-// The blocks of the numbers up to the limit, one after the other.
+// Admits the blocks that request the numbers from 1 up to the limit, one after the other; the limit itself is left out.
 fn admit_up_to(table: &mut [u8], limit: u8) {
     let mut number = 1;
     while number < limit {
@@ -75,7 +75,7 @@ fn admit_up_to(table: &mut [u8], limit: u8) {
     }
 }
 
-// A full table looks at 5, 9 and 10 before 11.
+// Blocks for a full table that get 9, 10 and 5, and not 11.
 fn show_before_full(table: &mut [u8]) {
     show_admitted(
         table,

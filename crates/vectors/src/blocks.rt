@@ -3,7 +3,7 @@ use crate::line::Line;
 use block::MAX_BLOCK_SIZE;
 use block::Reading;
 
-// Room for a block of one reference too many.
+// Room for a block of 17 references, one too many.
 const ROOM: usize = 549;
 
 // Where the requests of a block of 16 references begin.
@@ -32,14 +32,15 @@ fn show(name: &[u8], bytes: &[u8]) {
         .show();
 }
 
-// The same for the first n bytes.
+// Shows what reading answers for the first n bytes of an array.
 fn show_front(name: &[u8], block: [u8; ROOM], n: usize) {
     if n <= ROOM {
         show(name, &block[..n]);
     }
 }
 
-// A block of 16 references and 8 requests, with zeros after its 541 bytes: reference i is 32 times i + 1, request i asks for i + 1 in slot i.
+// A block of 16 references and 8 requests, with zeros after its 541 bytes: reference i is 32 times the byte i + 1, request i asks for i + 1 in slot
+// i.
 fn full() -> [u8; ROOM] {
     let mut b = [0u8; ROOM];
     b[0] = 3;
@@ -56,7 +57,7 @@ fn full() -> [u8; ROOM] {
     b
 }
 
-// The block with request i asking for a number in a slot.
+// The block with request i asking for this number in this slot.
 fn with_request(block: [u8; ROOM], i: usize, slot: u8, number: u8) -> [u8; ROOM] {
     let mut b = block;
     if i < 8 {
@@ -66,7 +67,7 @@ fn with_request(block: [u8; ROOM], i: usize, slot: u8, number: u8) -> [u8; ROOM]
     b
 }
 
-// The block with reference i made what reference j of a full block is.
+// The block with reference i equal to what reference j of a full block is.
 fn with_reference(block: [u8; ROOM], i: usize, j: usize) -> [u8; ROOM] {
     let mut b = block;
     if i < 16 {
@@ -79,7 +80,7 @@ fn with_reference(block: [u8; ROOM], i: usize, j: usize) -> [u8; ROOM] {
     b
 }
 
-// The block with other counts.
+// The block with p and r as its counts.
 fn with_counts(block: [u8; ROOM], p: u8, r: u8) -> [u8; ROOM] {
     let mut b = block;
     b[3] = p;

@@ -1,4 +1,5 @@
-// Campaigns in which sites build their own blocks, what the watch says of them, and what building refuses.
+// Campaigns in which sites build their own blocks, what the watch says of them, and what building refuses. campaigns.rt says how a campaign is
+// written.
 use crate::campaigns::show;
 use crate::line::show_answer;
 use block::MAX_REQUEST_LIST_SIZE;
@@ -13,7 +14,7 @@ fn show_alone() {
     );
 }
 
-// Site 0 requests 42, and then each builds in turn until all have delivered it.
+// Site 0 requests 42, and then the sites build in turn until all four have delivered it.
 fn show_turns() {
     show(
         b"n 4, the sites build in turn",
@@ -22,7 +23,7 @@ fn show_turns() {
     );
 }
 
-// Site 0 forks, then site 1 too; only who did not fork builds.
+// Site 0 forks, then site 1 too; only the sites that did not fork can build.
 fn show_forked() {
     show(
         b"n 4, one site forks, and another",
@@ -31,7 +32,7 @@ fn show_forked() {
     );
 }
 
-// The fork is below the site's greatest block.
+// The fork of site 0 has a lower sequence number than its greatest block.
 fn show_older_fork() {
     show(
         b"n 4, a fork below the greatest block",
@@ -40,7 +41,7 @@ fn show_older_fork() {
     );
 }
 
-// 18 blocks of other sites wait; 16 are referred to, then the rest.
+// Site 0's first block refers to 16 of the 18 blocks of other sites, its second to the other two.
 fn show_many() {
     show(
         b"n 16, more blocks than a block refers to",
@@ -49,7 +50,7 @@ fn show_many() {
     );
 }
 
-// Each check in the order of document 01, where later ones fail too.
+// Each check of building in the order of document 01, where later checks fail too.
 fn show_refusals() {
     let fresh = table::fresh(4, [0; SLOTS]);
     show_site_refusals(&fresh.table);

@@ -1,7 +1,7 @@
-// A test program: the digests of published messages, what reading answers of blocks at every limit, what admission answers of a table that
-// fills up, what one message does to a record, what the blocks of document 01's starred cases make, what the watch names and building writes in
-// campaigns of their own, and what a campaign of 240 blocks delivers that goes on by retiring. The file stdout has what it must write; the
-// values there are the standard's and those of documents 01 and 02. Promises: safe, and ends. Assumes: the contracts of io and libc.
+// A test program: the digests of published messages, what reading answers for blocks at every limit, what admission answers while a table fills up,
+// what one message does to a record, what the blocks of document 01's campaigns make, what the watch names and what building writes in further
+// campaigns, and what retiring answers and leaves, also in a campaign of 240 blocks. The file stdout has what the program must write; the values
+// there are those of the standard and of documents 01 and 02. Promises: it is safe, and it ends. Assumes: the contracts of io and libc.
 mod admissions;
 mod blocks;
 mod building;

@@ -1,5 +1,5 @@
-// One message by itself, on a record of numbers of which most were never sent or heard: interpretation makes no message of number 0 or of a site
-// that there is not, and no SEND of a site that is not the owner. A line has the record's 40 numbers after the message.
+// One message by itself, on a record that no calls reach, and also messages that interpretation does not make: of number 0, from a sender that is no
+// site, and a SEND of a site that is not the owner. A line has the record's 40 numbers after the message.
 use crate::campaigns::wide;
 use crate::line::Line;
 use broadcast::Kind;
@@ -7,7 +7,7 @@ use broadcast::Sent;
 use broadcast::SlotRecord;
 use setup::MAX_SITES;
 
-// SEND 1 was sent. Sites 0 and 9 were heard with 42, though n 4 has no site 9, and four numbers stand for what was made.
+// The record before the message: SEND 1 was sent, 42 was heard from sites 0 and 9, though n 4 has no site 9, and 2 to 5 stand as made in this block.
 fn before() -> SlotRecord {
     SlotRecord {
         sent: Sent {
@@ -58,7 +58,7 @@ fn show_record(name: &[u8], r: SlotRecord) {
     sent_numbers(heard, r.made).show();
 }
 
-// Each kind, from this sender with this number, where there are n sites.
+// Shows the record after a message of each kind, from this sender with this number, where there are n sites.
 fn show_kinds(name: &[u8], n: u8, owner: u8, sender: u8, number: u16) {
     Line::new().text(name).show();
     show_record(

@@ -6,7 +6,7 @@ use records::BUFFER_SIZE;
 use setup::SLOTS;
 use table::MAX_PLACES;
 
-// Retires as long as place 0 can be retired; how many retirings passed.
+// Retires as long as place 0 can be retired, and answers how many blocks were retired.
 fn retire_all(table: &mut [u8], records: &mut [u16]) -> usize {
     let mut passed = 0;
     while passed < MAX_PLACES {
@@ -23,7 +23,8 @@ fn show_number(name: &[u8], number: usize) {
     Line::new().text(name).number(number).show();
 }
 
-// Admits a block, and where the table is full retires before that; its place. A refusal would show in the numbers at the end.
+// Admits a block, where the table is full after retiring all that can be retired, and answers with its place. A refusal would show in the numbers at
+// the end.
 fn admit(table: &mut [u8], records: &mut [u16], block: &[u8]) -> usize {
     let answer = admission::admit(table, block, 1);
     if answer.refusal != 11 {
@@ -47,7 +48,7 @@ fn made_delivery(place: usize, slot: usize, records: &[u16]) -> u16 {
     records::delivered_in(records, place, slot)
 }
 
-// What the block at a place delivers in a slot, if anything.
+// Shows what the block at a place delivers in a slot, if anything.
 fn show_delivery(place: usize, slot: usize, records: &[u16]) {
     let delivery = made_delivery(place, slot, records);
     if delivery == 0 {
@@ -79,14 +80,14 @@ fn bring_front(table: &mut [u8], records: &mut [u16], room: &[u8], length: usize
     bring(table, records, &room[0..length]);
 }
 
-// Four sites build in turn, each by the rule from the one table.
+// One turn of a campaign in which four sites build in turn from one table: the site of this turn builds a block, which is brought to that table.
 fn take_turn(table: &mut [u8], records: &mut [u16], turn: usize, requests: &[u8]) {
     let mut room = [0u8; MAX_BLOCK_SIZE];
     let answer = build::build(table, (turn % 4) as u8, requests, &mut room);
     bring_front(table, records, &room, answer.value);
 }
 
-// The turns from one on up to another, of which the last has requests.
+// All turns from `from` to `last`; only the last has requests.
 fn take_turns(table: &mut [u8], records: &mut [u16], from: usize, last: usize, requests: &[u8]) {
     let mut turn = from;
     while turn < last {
@@ -96,8 +97,8 @@ fn take_turns(table: &mut [u8], records: &mut [u16], from: usize, last: usize, r
     take_turn(table, records, turn, requests);
 }
 
-// 60 rounds. Site 0 requests 42 in round 0, site 1 requests 1610 in round 40, and site 3 requests 7 in round 45, by a block with which the
-// table is full: the number is delivered after a retiring.
+// A campaign of 60 rounds. Site 0 requests 42 in round 0, site 1 requests 1610 in round 40, and site 3 requests 7 in round 45, by a block with which
+// the table is full: its number is delivered after a retiring.
 fn run_campaign(table: &mut [u8], records: &mut [u16]) {
     take_turns(table, records, 0, 0, &[0, 0, 42]);
     take_turns(table, records, 1, 161, &[5, 6, 74]);
@@ -105,7 +106,8 @@ fn run_campaign(table: &mut [u8], records: &mut [u16]) {
     take_turns(table, records, 184, 239, &[]);
 }
 
-// The 7 at place 59 is of its own block: no block that stood there before a retiring had it.
+// Shows that campaign, and what is delivered at place 59 after it. The 7 is the work of the block that stands there: no block that stood at place 59
+// before a retiring had it.
 pub fn show_all() {
     Line::new().text(b"n 4, 60 rounds").show();
     let fresh = table::fresh(4, [0, 1, 2, 3, 0, 1, 2, 3]);

@@ -1,4 +1,4 @@
-// What the watch says of a table.
+// What the watch says of a table: the sites that forked, and the ancestors of a place.
 use crate::line::Line;
 
 fn places(sites: u16) -> u64 {

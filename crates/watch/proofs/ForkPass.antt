@@ -1,5 +1,5 @@
--- The turns of the pass that finds the forked sites: a block whose print is new at its site repeats no sequence number, and one place more adds
--- at most its own site to the mask. Assumes nothing.
+-- The turns of the pass that finds the forked sites: a block whose print no earlier block of its site has repeats no sequence number, and one place
+-- more adds at most its own site to the mask. Assumes nothing.
 use mathlib.Core.Path.{_≡_, sym, ap, _∙_}
 use mathlib.Core.Bool.{true, false, and-false}
 use Prim.Native.Nat.{ℕ, _+_, _*_, _%_, _^_, _≤_, _<_}

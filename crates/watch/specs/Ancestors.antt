@@ -21,15 +21,16 @@ module _ (v : View) where
   reached zero i a = false
   reached (suc k) i a = v .row i .refersTo a || anyBelow (λ c. v .row i .refersTo c && reached k c a) (v .held)
 
-  -- as many references as there are places reach every ancestor
+  -- place a is an ancestor of place i. Every ancestor is reached by at most as many references as blocks are held
   abbrev pub isAncestor : ℕ → ℕ → Bool
   isAncestor i a = reached (v .held) i a
 
-  -- the same as a relation: the held places that place i refers to, and theirs
+  -- Ancestor a i, as a relation: place a is held, and place i refers to it, or to a held place that has it as an ancestor
   pub data PlaceAncestor : ℕ → ℕ → Type 0 where
     direct : {a i : ℕ} → a < v .held → v .row i .refersTo a ≡ true → PlaceAncestor a i
     further : {a c i : ℕ} → PlaceAncestor a c → c < v .held → v .row i .refersTo c ≡ true → PlaceAncestor a i
 
+  -- the mask of the ancestors of place i
   abbrev pub ancestorMask : ℕ → ℕ
   ancestorMask i = maskBelow (isAncestor i) (v .held)
 
@@ -37,9 +38,11 @@ module _ (v : View) where
 abbrev pub ancestorChecks : Bool → View → ℕ → List Check
 ancestorChecks formed v i = check 2 formed 0 ∷ check 13 (ltb i (v .held)) 0 ∷ []
 
+-- the refusal of `ancestors`, 0 if there is none
 abbrev pub ancestorAnswer : Bytes → ℕ → Answer
 ancestorAnswer t i = answerTo (ancestorChecks (inForm t) (viewOf t) i) 0
 
+-- what `ancestors` answers: the mask and the count, or a refusal beside which both are 0
 unfoldable pub ancestors : Bytes → ℕ → AncestorPlaces
 ancestors t i =
     cond (eqb (ancestorAnswer t i .refusal) 0)

@@ -1,5 +1,5 @@
--- Document 01, "Watch for forks": the sites with two held blocks of one sequence number. `seen` says which places are looked at: the watch looks
--- at every one, and so does a site that builds its next block.
+-- Document 01, "Watch for forks": the sites with two held blocks of one sequence number. `seen` says which places are looked at: the watch looks at
+-- every place, and so does a site that builds its next block.
 use mathlib.Core.Bool.{Bool, false, cond, _&&_}
 use Prim.Native.Nat.{ℕ}
 use lib.Count.{ones}
@@ -22,11 +22,11 @@ module _ (v : View) (seen : ℕ → Bool) where
   abbrev pub ofSite : ℕ → ℕ → Bool
   ofSite p i = seen i && eqb (v .row i .site) p
 
-  -- and that block has this sequence number
+  -- place i is looked at and holds a block of site p with this sequence number
   abbrev pub ofSequence : ℕ → ℕ → ℕ → Bool
   ofSequence p sequence i = ofSite p i && eqb (v .row i .sequence) sequence
 
-  -- place i holds a block of site p, and a lower place holds one of the same sequence number
+  -- place i holds a block of site p, and a lower place holds a block of site p with the same sequence number
   abbrev pub sequenceRepeatedAt : ℕ → ℕ → Bool
   sequenceRepeatedAt p i = ofSite p i && anyBelow (ofSequence p (v .row i .sequence)) i
 
@@ -42,7 +42,7 @@ forkedMask s v = maskBelow (forkedIn v everywhere) (s .sites)
 abbrev pub reported : Setup → ℕ → ForkedSites
 reported s mask = record { refusal = 0; sites = mask; count = ones mask; «at_most_f» = leb (ones mask) (faults (s .sites)) }
 
--- 2: table not in form
+-- what `forks` answers; 2: table not in form, beside which all else is 0 and false
 unfoldable pub forks : Bytes → ForkedSites
 forks t =
     cond (inForm t)

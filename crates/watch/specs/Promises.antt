@@ -33,13 +33,13 @@ pub record Promises : Type 0 where
   -- beside a refusal mask and count are 0
   pub noSites : (t : Bytes) → forks t .refusal ≢ 0 → (forks t .sites ≡ 0) × (forks t .count ≡ 0)
   pub noPlaces : (t : Bytes) (i : ℕ) → ancestors t i .refusal ≢ 0 → (ancestors t i .places ≡ 0) × (ancestors t i .count ≡ 0)
-  -- the mask's bits are exactly the sites that forked
+  -- the set bits of the mask of `forks` are exactly the sites that forked
   pub forked : (t : Bytes) → inForm t ≡ true → (p : ℕ) → (inMask (forks t .sites) p ≡ true) ↔ Shares (viewOf t) everywhere p
-  -- the count is how many they are, and the last field whether that is at most f
+  -- the count of `forks` is how many sites the mask has, and the last field whether that is at most f
   pub counted : (t : Bytes) → forks t .count ≡ countBelow (inMask (forks t .sites)) (setupOf t .sites)
   pub atMost : (t : Bytes) → (forks t .«at_most_f» ≡ true) ↔ ((inForm t ≡ true) × (forks t .count ≤ faults (setupOf t .sites)))
-  -- the mask's bits are exactly the ancestors, and the count is how many they are
+  -- the set bits of the mask of `ancestors` are exactly the ancestors of place i, and the count is how many they are
   pub ancestor : (t : Bytes) (i : ℕ) → inForm t ≡ true → i < countOf t → (a : ℕ) → (inMask (ancestors t i .places) a ≡ true) ↔ PlaceAncestor (viewOf t) a i
   pub ancestorsCounted : (t : Bytes) (i : ℕ) → ancestors t i .count ≡ countBelow (inMask (ancestors t i .places)) (countOf t)
-  -- itself left out
+  -- place i is not among its own ancestors
   pub itself : (t : Bytes) (i : ℕ) → inMask (ancestors t i .places) i ≡ false

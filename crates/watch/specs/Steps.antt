@@ -9,21 +9,22 @@ use Rattle.setup.specs.Setup.{maxSites}
 use Rattle.table.specs.Layout.{setupOf, countOf, siteAt, sequenceAt, referencesAt}
 use Rattle.table.specs.Steps.{Places}
 
--- a table with its places, and sites that a mask of sixteen bits has room for
+-- a table of the right length and count whose blocks are of sites below n, and n is at most 16, so that a mask of sixteen bits has room
 pub record Watchable (t : Bytes) : Type 0 where
   pub sized : Places t (countOf t)
   pub few : setupOf t .sites ≤ maxSites
   pub sites : (i : ℕ) → i < countOf t → siteAt t i < setupOf t .sites
 
--- a block's print among those of its site, by its sequence number
+-- the print of a block among the blocks of its site, made from its sequence number
 abbrev pub sequencePrint : Bytes → ℕ → ℕ
 sequencePrint t i = sequenceAt t i % printCount
 
--- the mask of the prints of its site that the lower places have
+-- the mask of the prints that the blocks of its site at lower places have
 abbrev pub sequencePrintsMet : Bytes → ℕ → ℕ
 sequencePrintsMet t i = printsBelow (siteAt t) (sequencePrint t) i (siteAt t i)
 
--- a mask of places after each place below k that is in it, from the highest on, has added the places that it refers to
+-- the mask that a mask of places grows to: for each place below k, from the highest down, if the place is in the mask, the places that it refers to
+-- are added
 unfoldable pub gathered : Bytes → ℕ → ℕ → ℕ
 gathered t zero mask = mask
 gathered t (suc k) mask = gathered t k (cond (inMask mask k) (bitOr mask (referencesAt t k)) mask)

@@ -1,6 +1,6 @@
-// The watch for forks: which sites have two blocks of one sequence number, and what a block rests on. Promises: `forks` and `ancestors`
-// answer what specs/Forks.antt and specs/Ancestors.antt say, for any table and place; the masks' bits are exactly the forked sites and the
-// ancestors (specs/Promises.antt). Assumes nothing; the table is read only.
+// The watch for forks: which sites have two blocks of one sequence number, and which places are the ancestors of a place. Promises: `forks` and
+// `ancestors` answer what specs/Forks.antt and specs/Ancestors.antt say, for any table and place; the set bits of the masks are exactly the forked
+// sites and the ancestors (specs/Promises.antt). Assumes nothing; the table is read only.
 mod ancestry;
 pub mod sites;
 
@@ -9,7 +9,7 @@ ghost use mathlib.Core.Path.{_≡_};
 ghost use Rattle.watch.specs.Forks.{forks};
 ghost use Rattle.watch.specs.Ancestors.{ancestors};
 
-// The sites that forked, as a mask, how many they are, and whether that is at most f. Beside a refusal all of it is 0 and false.
+// The mask of the sites that forked, how many they are, and whether that is at most f. Beside a refusal mask and count are 0, and the last is false.
 #[repr(C)]
 pub struct ForkedSites {
     pub refusal: u8,
@@ -18,7 +18,7 @@ pub struct ForkedSites {
     pub at_most_f: bool,
 }
 
-// The places of a block's ancestors, as a mask, and how many they are. Beside a refusal both are 0.
+// The mask of the places of a block's ancestors, and how many they are. Beside a refusal both are 0.
 #[repr(C)]
 pub struct AncestorPlaces {
     pub refusal: u8,
@@ -26,7 +26,7 @@ pub struct AncestorPlaces {
     pub count: u32,
 }
 
-// The sites with two held blocks of one sequence number. Refuses a table that is not in form.
+// The sites with two held blocks of one sequence number. Refuses a table that is not in form with 2.
 pub fn forks(table: &[u8]) -> ForkedSites
     ensures { λ r. ⌜ r ≡ forks (now (table .entry)) ⌝ }
 {
@@ -48,7 +48,7 @@ pub fn forks(table: &[u8]) -> ForkedSites
     }
 }
 
-// All ancestors of a place, itself left out. Refuses in the order of document 01.
+// All ancestors of a place, itself left out. Refuses with 2 or 13, in that order.
 pub fn ancestors(table: &[u8], place: usize) -> AncestorPlaces
     ensures { λ r. ⌜ r ≡ ancestors (now (table .entry)) place ⌝ }
 {

@@ -1,4 +1,4 @@
-// Which sites have two blocks of one sequence number. The mask `seen` says which places are looked at.
+// Which sites have two held blocks of one sequence number. The mask `seen` says which places are looked at.
 use setup::MAX_SITES;
 use table::rows;
 ghost use mathlib.Core.Path.{_≡_};
@@ -9,10 +9,10 @@ ghost use Rattle.table.specs.Steps.{Place, Places};
 ghost use Rattle.watch.specs.Forks.{everywhere, ofSite, ofSequence, sequenceRepeatedAt, forkedIn, forkedMask};
 ghost use Rattle.watch.specs.Steps.{Watchable, sequencePrint, sequencePrintsMet};
 
-// Every place is looked at.
+// The mask by which every place is looked at.
 pub const EVERYWHERE: u64 = 0xffff_ffff_ffff_ffff;
 
-// Whether the place is looked at and holds a block of the site.
+// Whether place i is looked at and holds a block of the site.
 pub fn of_site(table: &[u8], seen: u64, i: usize, site: u8) -> bool
     requires { ⌜ Place (now table) i ⌝ }
     ensures { λ r. ⌜ r ≡ ofSite (viewOf (now (table .entry))) (inMask seen) site i ⌝ }
@@ -23,7 +23,7 @@ pub fn of_site(table: &[u8], seen: u64, i: usize, site: u8) -> bool
     rows::site_at(table, i) == site
 }
 
-// Whether it has this sequence number too.
+// Whether place i is looked at and holds a block of the site with this sequence number.
 fn of_sequence(table: &[u8], seen: u64, i: usize, site: u8, sequence: u16) -> bool
     requires { ⌜ Place (now table) i ⌝ }
     ensures { λ r. ⌜ r ≡ ofSequence (viewOf (now (table .entry))) (inMask seen) site sequence i ⌝ }
@@ -34,7 +34,7 @@ fn of_sequence(table: &[u8], seen: u64, i: usize, site: u8, sequence: u16) -> bo
     rows::sequence_at(table, i) == sequence
 }
 
-// Whether a place below k does.
+// Whether some place below k is looked at and holds a block of the site with this sequence number.
 fn any_of_sequence(table: &[u8], seen: u64, k: usize, site: u8, sequence: u16) -> bool
     requires { ⌜ Places (now table) k ⌝ }
     ensures { λ r. ⌜ r ≡ anyBelow (ofSequence (viewOf (now (table .entry))) (inMask seen) site sequence) k ⌝ }
@@ -49,7 +49,7 @@ fn any_of_sequence(table: &[u8], seen: u64, k: usize, site: u8, sequence: u16) -
     false
 }
 
-// Whether the place is looked at and holds a block of the site, and a lower one holds another of its sequence number.
+// Whether place i is looked at and holds a block of the site, and so does a lower place, with the same sequence number.
 fn repeats(table: &[u8], seen: u64, i: usize, site: u8) -> bool
     requires { ⌜ Place (now table) i ⌝ }
     ensures { λ r. ⌜ r ≡ sequenceRepeatedAt (viewOf (now (table .entry))) (inMask seen) site i ⌝ }
@@ -60,7 +60,7 @@ fn repeats(table: &[u8], seen: u64, i: usize, site: u8) -> bool
     any_of_sequence(table, seen, i, site, rows::sequence_at(table, i))
 }
 
-// Whether two blocks of the site at places looked at share a sequence number.
+// Whether two blocks of the site, at places that are looked at, share a sequence number.
 pub fn forked(table: &[u8], seen: u64, site: u8) -> bool
     requires { ⌜ Places (now table) (countOf (now table)) ⌝ }
     ensures { λ r. ⌜ r ≡ forkedIn (viewOf (now (table .entry))) (inMask seen) site ⌝ }
@@ -76,7 +76,7 @@ pub fn forked(table: &[u8], seen: u64, site: u8) -> bool
     false
 }
 
-// A block's print among those of its site: blocks with one sequence number have it in common.
+// The print of the block at place i, made from its sequence number: blocks with one sequence number have their print in common.
 fn sequence_print(table: &[u8], i: usize) -> usize
     requires { ⌜ Place (now table) i ⌝ }
     ensures { λ r. ⌜ r ≡ sequencePrint (now (table .entry)) i ⌝ }
@@ -84,8 +84,8 @@ fn sequence_print(table: &[u8], i: usize) -> usize
     (rows::sequence_at(table, i) as usize) % base::PRINTS
 }
 
-// Whether a lower place holds a block of the same site and sequence number, where `prints` is the mask of the prints of its site that the lower
-// places have. No place is looked at where its own print is not among them.
+// Whether a lower place holds a block of the site and sequence number of place i, where `prints` is the mask of the prints that the blocks of its
+// site at lower places have. Where the print of place i is not among these, no lower place is looked at.
 fn is_fork(table: &[u8], i: usize, prints: u64) -> bool
     requires { ⌜ Place (now table) i × (prints ≡ sequencePrintsMet (now table) i) ⌝ }
     ensures { λ r. ⌜ r ≡ sequenceRepeatedAt (viewOf (now (table .entry))) everywhere (siteAt (now (table .entry)) i) i ⌝ }
@@ -96,7 +96,7 @@ fn is_fork(table: &[u8], i: usize, prints: u64) -> bool
     repeats(table, EVERYWHERE, i, rows::site_at(table, i))
 }
 
-// The mask of the sites that forked, in one pass: the prints met of each site are kept as masks, so that few blocks are compared with others.
+// The mask of the sites that forked, in one pass: for each site a mask keeps the prints met, so that few blocks are compared with others.
 pub fn forked_mask(table: &[u8]) -> u16
     requires { ⌜ Watchable (now table) ⌝ }
     ensures { λ r. ⌜ r ≡ forkedMask (setupOf (now (table .entry))) (viewOf (now (table .entry))) ⌝ }

@@ -1,5 +1,5 @@
--- `look_up` meets its contract. The loop's invariant: `places` has those of the references passed, and `missing` is the first of them that is, or as
--- many as they are. Assumes nothing.
+-- `look_up` meets its contract. The loop's invariant: `places` has the places of the references passed, and `missing` is the index of the first of
+-- these references that no place holds, or their number if all are held. Assumes nothing.
 use mathlib.Core.Path.{_≡_, refl, sym, ap, _∙_}
 use mathlib.Core.Bool.{cond}
 use Prim.Native.Nat.{ℕ, _+_, _-_, _*_, _/_, _%_, _^_, _≤_, _<_}

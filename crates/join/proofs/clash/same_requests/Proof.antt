@@ -1,4 +1,4 @@
--- `same_requests` meets its contract. The loop's invariant: those of the slots passed are. Assumes nothing.
+-- `same_requests` meets its contract. The loop's invariant: the requests of the slots passed are the same. Assumes nothing.
 use mathlib.Core.Path.{_≡_, sym, _∙_}
 use mathlib.Core.Bool.{Bool, true}
 use Prim.Native.Nat.{ℕ, _≤_, _<_, _-_}

@@ -1,4 +1,4 @@
--- `any_follows` meets its contract. The loop's invariant: none of the places passed does. Assumes nothing.
+-- `any_follows` meets its contract. The loop's invariant: none of the places passed holds a later interpreted block of the site. Assumes nothing.
 use mathlib.Core.Path.{_≡_, sym, _∙_}
 use mathlib.Core.Bool.{false}
 use Prim.Native.Nat.{ℕ, _-_, _≤_, _<_}

@@ -1,4 +1,4 @@
--- `any_waits` meets its contract. The loop's invariant: none of the places passed does. Assumes nothing.
+-- `any_waits` meets its contract. The loop's invariant: none of the places passed refers to place 0 uninterpreted. Assumes nothing.
 use mathlib.Core.Path.{_≡_, sym, _∙_}
 use mathlib.Core.Bool.{false}
 use Prim.Native.Nat.{ℕ, _-_, _≤_, _<_}

@@ -1,4 +1,5 @@
--- `places_held` meets its contract. The loop's invariant: those counted and those left are all. Assumes nothing.
+-- `places_held` meets its contract. The loop's invariant: the places counted and those still to be counted are all that the campaign holds. Assumes
+-- nothing.
 use mathlib.Core.Path.{_≡_, sym, ap, _∙_}
 use mathlib.Core.Logic.{⊎-elim}
 use Prim.Native.Nat.{_+_, _-_, _≤_}
