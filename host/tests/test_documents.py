@@ -2,7 +2,7 @@
 
 import re
 
-import lines
+import figures
 import pictures
 import trace_page
 from programs import ROOT, expect, expect_same_lines
@@ -72,11 +72,13 @@ def test_every_edit_stands_in_the_trace():
     expect(not missing, f"{sorted(missing)}")
 
 
-def test_the_lines_to_believe_are_counted():
-    page = (ROOT / "docs" / "TRUST.md").read_text(encoding="utf-8")
-    _, (_, _, code, proofs, _) = lines.table()[-1]
-    wanted = f"{lines.believed():,} lines, comments and imports aside (`tools/lines.py` counts them), for {code:,} lines of code and {proofs:,} of"
-    expect(wanted in page, wanted)
+def test_the_figures_are_those_of_the_tree():
+    values = figures.figures()
+    for name, sentence in figures.SENTENCES:
+        page = (ROOT / name).read_text(encoding="utf-8")
+        expect_same_lines(page, figures.corrected(page, sentence, values))
+        other = figures.corrected(page, sentence, dict.fromkeys(values, "0"))
+        expect(figures.corrected(other, sentence, values) == page != other, sentence)
 
 
 def test_the_pictures_are_stored_as_they_are_drawn():

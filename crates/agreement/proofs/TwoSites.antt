@@ -1,4 +1,4 @@
--- The theorem of two sites: two sites of one lawful setup, each with its list of calls and its record buffer, keep what specs/Promises.antt says.
+-- The theorem of two sites: two sites of one lawful setup, each with its list of calls and its record buffer, keep what specs/TwoSites.antt says.
 -- Assumes nothing; what is taken as given (no collision, few forks) stands in the promises themselves.
 use mathlib.Core.Path.{_≡_, sym, ap, _∙_, subst}
 use mathlib.Core.Bool.{true}

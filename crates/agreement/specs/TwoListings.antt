@@ -1,5 +1,5 @@
 -- What the theorem of two sites says of two listings: two listings of one setup never show two numbers for one slot while at most f sites forked. It
--- is told first of the deliveries that are shown, and then of the lines of the texts; proofs/Agreed.antt shows it.
+-- is told first of the deliveries that are shown, and then of the lines of the texts; proofs/TwoListings.antt shows it.
 use mathlib.Core.Path.{_≡_}
 use mathlib.Core.Bool.{true}
 use mathlib.Core.List.{List, _++_, List·Memᴰ}

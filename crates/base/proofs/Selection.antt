@@ -5,7 +5,7 @@ use mathlib.Core.List.{List, [], _∷_, _++_}
 use Prim.Native.Nat.{_+_, _≤_}
 use native.Mathlib.Omega.{arith}
 use lib.ListN.{length}
-use Rattle.base.specs.List.{countIn, thoseIn}
+use Rattle.base.specs.List.{countIn, passingIn}
 use Rattle.base.proofs.Tests.{by-test}
 
 module _ {A : Type 0} (test : A → Bool) where
@@ -20,13 +20,13 @@ module _ {A : Type 0} (test : A → Bool) where
   count-in-mid [] w vs = refl
   count-in-mid (u ∷ us) w vs = omega (arith, count-in-mid us w vs)
 
-  pub those-append : (us vs : List A) → thoseIn test (us ++ vs) ≡ thoseIn test us ++ thoseIn test vs
-  unfolding thoseIn
+  pub those-append : (us vs : List A) → passingIn test (us ++ vs) ≡ passingIn test us ++ passingIn test vs
+  unfolding passingIn
   those-append [] vs = refl
   those-append (u ∷ us) vs = by-test (test u) (λ y. rw y (ap (λ (l : List A). u ∷ l) (those-append us vs))) (λ n. rw n (those-append us vs))
 
-  pub length-those : (xs : List A) → length (thoseIn test xs) ≡ countIn test xs
-  unfolding thoseIn countIn
+  pub length-those : (xs : List A) → length (passingIn test xs) ≡ countIn test xs
+  unfolding passingIn countIn
   length-those [] = refl
   length-those (x ∷ xs) = by-test (test x) (λ y. rw y (omega (arith, length-those xs))) (λ n. rw n (omega (arith, length-those xs)))
 
@@ -36,7 +36,7 @@ module _ {A : Type 0} (test : A → Bool) where
   count-in-le (x ∷ xs) = by-test (test x) (λ y. rw y (omega (arith, count-in-le xs))) (λ n. rw n (omega (arith, count-in-le xs)))
 
 -- of those that pass one test, how many pass another
-pub count-in-those : {A : Type 0} (f g : A → Bool) (xs : List A) → countIn (λ x. f x && g x) xs ≡ countIn g (thoseIn f xs)
-unfolding countIn thoseIn
+pub count-in-those : {A : Type 0} (f g : A → Bool) (xs : List A) → countIn (λ x. f x && g x) xs ≡ countIn g (passingIn f xs)
+unfolding countIn passingIn
 count-in-those f g [] = refl
 count-in-those f g (x ∷ xs) = by-test (f x) (λ y. rw y (omega (arith, count-in-those f g xs))) (λ n. rw n (omega (arith, count-in-those f g xs)))

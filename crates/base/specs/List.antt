@@ -21,9 +21,9 @@ module _ {A : Type 0} where
   countIn test (x ∷ xs) = cond (test x) 1 0 + countIn test xs
 
   -- the elements that pass the test, in their order
-  unfoldable pub thoseIn : (A → Bool) → List A → List A
-  thoseIn test [] = []
-  thoseIn test (x ∷ xs) = cond (test x) (x ∷ thoseIn test xs) (thoseIn test xs)
+  unfoldable pub passingIn : (A → Bool) → List A → List A
+  passingIn test [] = []
+  passingIn test (x ∷ xs) = cond (test x) (x ∷ passingIn test xs) (passingIn test xs)
 
 -- the numbers below k that pass the test, in rising order
 unfoldable pub passingBelow : (ℕ → Bool) → ℕ → List ℕ

@@ -37,7 +37,7 @@ pub enum Kind {
 }
 
 // A record in which nothing was sent or heard.
-pub fn empty() -> SlotRecord
+pub fn blank() -> SlotRecord
     ensures { λ r. ⌜ r ≡ blank ⌝ }
 {
     let none = Sent {
@@ -162,7 +162,7 @@ pub fn after(state: SlotRecord, n: u8, owner: u8, kind: Kind, sender: u8, number
 }
 
 // The record after a block's counted request, 0 if it has none: SEND is sent if the block's site is the owner and no SEND was sent before.
-pub fn requested(state: SlotRecord, owner: u8, site: u8, number: u16) -> SlotRecord
+pub fn take_request(state: SlotRecord, owner: u8, site: u8, number: u16) -> SlotRecord
     ensures { λ r. ⌜ r ≡ takeRequest owner site number state ⌝ }
 {
     if number == 0 {

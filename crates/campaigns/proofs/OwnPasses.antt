@@ -6,7 +6,7 @@ use Prim.Native.Nat.{ℕ, zero, suc}
 use native.Mathlib.Omega.{arith}
 use lib.ListN.{length}
 use Rattle.base.specs.Bytes.{Bytes, sameBytes}
-use Rattle.base.specs.List.{someIn, thoseIn}
+use Rattle.base.specs.List.{someIn, passingIn}
 use Rattle.base.proofs.Tests.{by-test}
 use Rattle.base.proofs.Selection.{length-those, count-in-le}
 use Rattle.shelf.specs.Layout.{Waiting}
@@ -21,7 +21,7 @@ abbrev pub seen : ℕ → PassResult → PassResult
 seen c p = record { table = p .table; waiting = only c (p .waiting); tries = p .tries }
 
 pub waits-only : (c : ℕ) (b : Bytes) (ws : List Waiting) → waits c b (only c ws) ≡ waits c b ws
-unfolding waits someIn thoseIn
+unfolding waits someIn passingIn
 waits-only c b [] = refl
 waits-only c b (w ∷ ws) =
     by-test (isFor c w)
@@ -30,7 +30,7 @@ waits-only c b (w ∷ ws) =
 
 module _ (digest : Bytes → Bytes) (c : ℕ) where
   pass-only : (ws : List Waiting) (t : Bytes) → pass digest t c (only c ws) ≡ seen c (pass digest t c ws)
-  unfolding pass thoseIn
+  unfolding pass passingIn
   pass-only =
       pass-by digest c (λ t ws p. pass digest t c (only c ws) ≡ seen c p)
       (λ t. refl)

@@ -9,7 +9,7 @@ use native.Mathlib.Omega.{arith}
 use lib.ListN.{length, length-append}
 use borrow.Author.Tests.{eqb-true, ne-eqb}
 use Rattle.base.specs.Bytes.{Bytes}
-use Rattle.base.specs.List.{countIn, thoseIn}
+use Rattle.base.specs.List.{countIn, passingIn}
 use Rattle.base.proofs.Tests.{by-test}
 use Rattle.base.proofs.Selection.{count-in-append}
 use Rattle.shelf.specs.Layout.{Waiting}
@@ -98,7 +98,7 @@ module _ (digest : Bytes → Bytes) (c : ℕ) where
 
   module _ (d : ℕ) (other : c ≢ d) where
     pass-others : (ws : List Waiting) (t : Bytes) → only d (pass digest t c ws .waiting) ≡ only d ws
-    unfolding thoseIn
+    unfolding passingIn
     pass-others =
         pass-by digest c (λ t ws p. only d (p .waiting) ≡ only d ws)
         (λ t. refl)

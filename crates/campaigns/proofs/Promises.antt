@@ -9,7 +9,7 @@ use lib.Dec.{eqb}
 use lib.ListN.{length}
 use borrow.Author.Tests.{eqb-true, eqb-false, eq-eqb, ne-eqb}
 use Rattle.base.specs.Bytes.{Bytes, sameBytes}
-use Rattle.base.specs.List.{countIn, thoseIn}
+use Rattle.base.specs.List.{countIn, passingIn}
 use Rattle.base.proofs.Tests.{by-test, true-not-false}
 use Rattle.base.proofs.Selection.{count-in-append, those-append}
 use Rattle.sha256.specs.Sha256.{sha256}
@@ -43,7 +43,7 @@ times-behind c x b ws =
     count-in-append (isSame c x) ws (record { campaign = c; block = b } ∷ []) ∙ rw e (omega arith)
 
 only-behind : (d c : ℕ) (b : Bytes) (ws : List Waiting) → c ≢ d → only d (waitingLast ws c b) ≡ only d ws
-unfolding thoseIn
+unfolding passingIn
 only-behind d c b ws o =
     those-append (isFor d) ws (record { campaign = c; block = b } ∷ []) ∙ rw (ne-eqb c d o) (append-nil (only d ws))
 

@@ -8,7 +8,7 @@ use Prim.Native.Nat.{ℕ, _+_, _≤_, _<_}
 use lib.Dec.{eqb}
 use lib.ListN.{length}
 use Rattle.base.specs.Bytes.{Bytes, sameBytes}
-use Rattle.base.specs.List.{countIn, thoseIn}
+use Rattle.base.specs.List.{countIn, passingIn}
 use Rattle.shelf.specs.Layout.{Waiting, waitingIn, shelfBytes}
 use Rattle.shelf.specs.Rules.{maxCampaign, reserved, maxShare, isFor, holds, hasPlace, isSame, waits}
 use Rattle.shelf.specs.Form.{shelfInForm}
@@ -19,7 +19,7 @@ use Rattle.campaigns.specs.Arriving.{Called, outcomesSize, waitingLast, 
 
 -- what waits for campaign c, in its order
 abbrev pub only : ℕ → List Waiting → List Waiting
-only c ws = thoseIn (isFor c) ws
+only c ws = passingIn (isFor c) ws
 
 -- how often the bytes x wait for campaign c
 abbrev pub timesWaiting : ℕ → Bytes → List Waiting → ℕ

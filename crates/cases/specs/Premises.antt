@@ -1,4 +1,4 @@
--- The premises of the theorem of two sites (crates/agreement, specs/Promises.antt) can be met, and what the theorem then says of two runs. n 4, owner
+-- The premises of the theorem of two sites (crates/agreement, specs/TwoSites.antt) can be met, and what the theorem then says of two runs. n 4, owner
 -- 0; site 0 forks with 42 and 43. One site gets blocks of the first branch alone. The other site gets the second branch first, and holds blocks of
 -- both. The orders differ, and refused calls stand among the others. Both sites deliver 42. The digest is the toy one.
 use mathlib.Core.Path.{_≡_}

@@ -7,7 +7,7 @@ use Prim.Native.Nat.{ℕ}
 use lib.Dec.{eqb}
 use borrow.Author.Tests.{eqb-true, eq-eqb}
 use Rattle.base.specs.Bytes.{Bytes}
-use Rattle.base.specs.List.{thoseIn}
+use Rattle.base.specs.List.{passingIn}
 use Rattle.base.proofs.Tests.{by-test}
 use Rattle.base.proofs.Selection.{those-append}
 use Rattle.answer.specs.declared.Answer.{Answer}
@@ -23,7 +23,7 @@ abbrev pub seenBy : ℕ → Arrived → Arrived
 seenBy c r = record { answer = r .answer; table = r .table; waiting = only c (r .waiting); tries = r .tries }
 
 only-behind : (c : ℕ) (b : Bytes) (ws : List Waiting) → only c (waitingLast ws c b) ≡ waitingLast (only c ws) c b
-unfolding thoseIn
+unfolding passingIn
 only-behind c b ws = those-append (isFor c) ws (record { campaign = c; block = b } ∷ []) ∙ rw (eq-eqb c c refl)
 
 module _ (digest : Bytes → Bytes) (place : Bool) (t : Bytes) (ws : List Waiting) (c : ℕ) (b : Bytes) (verdict : ℕ) where

@@ -6,7 +6,7 @@ use Prim.Native.Nat.{ℕ, _≤_}
 use native.Mathlib.Omega.{arith}
 use lib.ListN.{length}
 use Rattle.base.specs.Bytes.{Bytes}
-use Rattle.base.specs.List.{countIn, thoseIn}
+use Rattle.base.specs.List.{countIn, passingIn}
 use Rattle.sha256.specs.Sha256.{sha256}
 use Rattle.sha256.proofs.Promises.{sha256-length}
 use Rattle.setup.specs.Setup.{Setup, lawful}
@@ -36,7 +36,7 @@ empty-waiting : waitingIn emptyShelf ≡ []
 empty-waiting = ap waitingIn empty-laid ∙ waiting-laid [] (omega arith) tt
 
 none-for : (c : ℕ) → only c (waitingIn emptyShelf) ≡ []
-unfolding thoseIn
+unfolding passingIn
 none-for c = ap (only c) empty-waiting
 
 none-times : (c : ℕ) (b : Bytes) → timesWaiting c b (waitingIn emptyShelf) ≡ 0

@@ -57,7 +57,7 @@ fn parent_of(table: &[u8], place: usize, references: u64, places: &[u8]) -> usiz
     let mut k = 0;
     while k < places.len() {
         let j = base::wide(places[k]);
-        if rules::is_parent(table, j, references, site, sequence) {
+        if rules::refers_to_parent(table, j, references, site, sequence) {
             parent = j;
         }
         k += 1;
@@ -70,7 +70,7 @@ fn start_of(records: &[u16], parent: usize, slot: usize) -> SlotRecord
     requires { ⌜ (length (now records) ≡ bufferSize) × (slot < slotCount) ⌝ }
     ensures { λ r. ⌜ r ≡ nothingMade (stateAt (now (records .entry)) slot parent) ⌝ }
 {
-    let blank = broadcast::empty();
+    let blank = broadcast::blank();
     if MAX_PLACES <= parent {
         return blank;
     }
@@ -96,7 +96,7 @@ fn slot_record(
     let owner = rows::owner_of(table, slot);
     let number = rows::request_at(table, place, slot);
     let start = start_of(records, parent, slot);
-    let asked = broadcast::requested(start, owner, site, number);
+    let asked = broadcast::take_request(start, owner, site, number);
     hearing::hear_all(asked, table, places, records, slot)
 }
 

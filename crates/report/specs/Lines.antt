@@ -1,5 +1,5 @@
--- What stands in the text of a listing: a delivery's line for each number that the listing shows (`Shows` of specs/Shown.antt), and no other
--- delivery's line. proofs/TextKept.antt shows it.
+-- What stands in the text of a listing: a delivery's line for each number that the listing shows (`ListingShows` of specs/ListingCalls.antt),
+-- and no other delivery's line. proofs/ListingText.antt shows it.
 use mathlib.Core.Path.{_≡_}
 use mathlib.Core.Bool.{true, cond}
 use mathlib.Core.Logic.{_↔_, _≢_, _⊎_}

@@ -1,5 +1,5 @@
--- The calls that the arrivals of a listing make, and the deliveries that its lines show. proofs/Steady.antt shows that no interpretation is refused,
--- and proofs/Shown.antt that what is shown is delivered in the ledger of these calls.
+-- The calls that the arrivals of a listing make, and the deliveries that its lines show. proofs/InterpretationInvariant.antt shows that no
+-- interpretation is refused, and proofs/Deliveries.antt that what is shown is delivered in the ledger of these calls.
 use mathlib.Core.Path.{_≡_}
 use mathlib.Core.Bool.{cond}
 use mathlib.Core.Logic.{_≢_}

@@ -2,7 +2,7 @@
 // bytes that takes. Promises: `step` does and writes what specs/Framing.antt says, for any state, table, record buffer and bytes; the steps' lines,
 // joined, are the listing of the whole input, and `gather` makes the steps that are due on the bytes that came: no byte is lost or used twice, and
 // the lines stand in their order, in however many parts the input comes (specs/Promises.antt); no interpretation is refused, and what a listing shows
-// is delivered in the ledger of its calls (specs/Shown.antt); and the deliveries' lines of a listing's text are what the listing shows
+// is delivered in the ledger of its calls (specs/ListingCalls.antt); and the deliveries' lines of a listing's text are what the listing shows
 // (specs/Lines.antt). Assumes nothing.
 mod arrival;
 mod framing;

@@ -1,6 +1,6 @@
 // A site's table: the setup and what is held of each block, as bytes that the caller lends. No other library computes an index into a table.
 // Promises: whether a lent buffer of any length and content is a table in form is as specs/Form.antt says, a fresh table is the layout of its setup,
-// a table in form is the layout of its own contents (proofs/Laid.antt), and what is written is what specs/Layout.antt and specs/Writing.antt say.
+// a table in form is the layout of its own contents (proofs/TableLayout.antt), and what is written is what specs/Layout.antt and Writing.antt say.
 // Assumes nothing of the bytes.
 mod form;
 pub mod index;

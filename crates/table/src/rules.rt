@@ -37,7 +37,7 @@ fn parent_at(table: &[u8], j: usize, site: u8, sequence: u16) -> bool
 
 // Whether the block at place j is the parent of a block with these references, site and sequence number: it is among the references, of that site,
 // and its sequence number is one less.
-pub fn is_parent(table: &[u8], j: usize, references: u64, site: u8, sequence: u16) -> bool
+pub fn refers_to_parent(table: &[u8], j: usize, references: u64, site: u8, sequence: u16) -> bool
     requires { ⌜ Place (now table) j ⌝ }
     ensures { λ r. ⌜ r ≡ (inMask references j && parentRow (rowOf site sequence references) (rowAt (now (table .entry)) j)) ⌝ }
 {

@@ -54,8 +54,8 @@ loop-again c =
     let v = viewOf (a .table .now) in
     let r = rowAt (a .table .now) (a .place) in
     let y = rw (← w .wide .ensures, ← s .pre .1) at (place-listed (a .table .now) (a .place) (a .places .now) (s .pre .2) (l .k) (i .loop-test .taken) .1) in
-    let e : parentRow r (v .row (w .wide .result)) ≡ q .is-parent .result =
-    rw (← n .before .site-at .ensures, ← n .sequence-at .ensures) (both _ _ (q .is-parent .result) y (q .is-parent .ensures)) in (
+    let e : parentRow r (v .row (w .wide .result)) ≡ q .refers-to-parent .result =
+    rw (← n .before .site-at .ensures, ← n .sequence-at .ensures) (both _ _ (q .refers-to-parent .result) y (q .refers-to-parent .ensures)) in (
       omega arith,
       ⊎-elim
           (λ w₁. w₁ .1 ∙ parent-in v r (a .places .now) (l .k) _ (w .wide .ensures) (e ∙ w₁ .0 .taken))

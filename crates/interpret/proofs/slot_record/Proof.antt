@@ -26,7 +26,7 @@ returns c =
     let e = parent-state v (a .records .now) (a .slot) r (a .places .now) (length (a .places .now)) (listed _ _ _ _ _ (s .pre .0) .held) in
     let d : directsOf (a .table .now) (a .places .now) (a .records .now) (a .slot) ≡ directsBelow v (a .records .now) (a .slot) r (a .place) =
     rw (s .pre .0 .listed) (directs-listed v (a .records .now) (a .slot) r (a .place)) in
-    let made = rw (n .before .owner-of .ensures, site .site-at .ensures, n .request-at .ensures, b .start-of .ensures, s .pre .1, ← e) at (q .requested .ensures) in
+    let made = rw (n .before .owner-of .ensures, site .site-at .ensures, n .request-at .ensures, b .start-of .ensures, s .pre .1, ← e) at (q .take-request .ensures) in
     rw d at (rw made at (c .hear-all .ensures))
 
 pub slot-record-spec : {M : Type 1} → statement M

@@ -1,9 +1,9 @@
--- `requested` meets its contract: each way out is a case of the test. Assumes nothing.
+-- `take_request` meets its contract: each way out is a case of the test. Assumes nothing.
 use borrow.Author.Needs.{needs}
 use borrow.Author.Tests.{eq-eqb, ne-eqb}
 use Rattle.broadcast.specs.Process.{onlyIf, takeRequest}
-use Rattle.broadcast.proofs.requested.Statement.{statement}
-use Rattle.broadcast.proofs.requested.Tie as tie
+use Rattle.broadcast.proofs.take_request.Statement.{statement}
+use Rattle.broadcast.proofs.take_request.Tie as tie
 
 returns : tie.Need-returns
 unfolding takeRequest onlyIf
@@ -25,5 +25,5 @@ returns-4 c =
     let e = c .before .before .before in
     rw (ne-eqb _ _ (e .before .if1 .left), eq-eqb _ _ (e .if2 .left), eq-eqb _ _ (c .before .if3 .left)) (c .send-send .ensures)
 
-pub requested-spec : {M : Type 1} → statement M
-requested-spec = tie.close (tie.spec returns returns-2 returns-3 (λ c κs. search needs) returns-4)
+pub take-request-spec : {M : Type 1} → statement M
+take-request-spec = tie.close (tie.spec returns returns-2 returns-3 (λ c κs. search needs) returns-4)

@@ -1,0 +1,57 @@
+#!/usr/bin/env python3
+"""Writes into the documents the figures that follow from the tree: how many crates, edits, tests and lines there are.
+
+A sentence stands here with the names of its figures, and in its document with their values. `host/tests/test_documents.py` compares
+the two.
+"""
+
+import re
+import sys
+from pathlib import Path
+
+import lines
+
+ROOT = Path(__file__).resolve().parents[1]
+
+SENTENCES = [
+    ("README.md",
+     "rt: ok, {crates} crates proved, {edits} must-fail edits refused\n"
+     "{of_proofs} passed, 0 failed\n{of_tests} passed, 0 failed\n{of_all} passed, 0 failed\n"),
+    ("docs/TRUST.md",
+     "{believed} lines, comments and imports aside (`tools/lines.py` counts them), for {code} lines of code and {proofs} of\nproofs"),
+]
+
+
+def matches(pattern, *paths):
+    return sum(len(re.findall(pattern, path.read_text(encoding="utf-8"), re.MULTILINE)) for path in paths)
+
+
+def figures():
+    """Each figure by its name, as documents write numbers."""
+    rows = lines.table()
+    _, (_, _, code, proofs, edits) = rows[-1]
+    crates = len(rows) - 1
+    of_tests = matches(r"^def test_", *(ROOT / "host" / "tests").glob("test_*.py"))
+    steps = matches(r"^ *check '", ROOT / "tools" / "gate.sh")
+    values = {"crates": crates, "edits": edits, "of_proofs": crates + edits, "of_tests": of_tests,
+              "of_all": crates + edits + of_tests + steps, "believed": lines.believed(), "code": code, "proofs": proofs}
+    return {name: f"{value:,}" for name, value in values.items()}
+
+
+def corrected(page, sentence, values):
+    """The page with the sentence's figures as they are. The sentence stands there once."""
+    pattern = re.sub(r"\\{\w+\\}", r"[0-9,]+", re.escape(sentence))
+    result, count = re.subn(pattern, lambda _: sentence.format(**values), page)
+    if count != 1:
+        raise ValueError(f"stands {count} times: {sentence}")
+    return result
+
+
+def main():
+    for name, sentence in SENTENCES:
+        path = ROOT / name
+        path.write_text(corrected(path.read_text(encoding="utf-8"), sentence, figures()), encoding="utf-8")
+
+
+if __name__ == "__main__":
+    sys.exit(main())
