@@ -3,7 +3,6 @@
 
 #include <string.h>
 
-#include "baseline/core.h"
 #include "layout.h"
 
 static size_t lent(uint8_t campaign) { return campaign < GT_CAMPAIGNS ? campaign : 0; }
@@ -64,8 +63,6 @@ static void our_put_back(void)
 
 static baseline_table c_tables[CAMPAIGNS], c_kept_table;
 static baseline_shelf c_shelf, c_kept_shelf;
-
-static gt_answer from_c(baseline_answer answer) { return (gt_answer){answer.refusal, answer.value}; }
 
 static gt_answer c_fresh(uint8_t campaign, uint8_t sites, const uint8_t owners[GT_SLOTS])
 {
@@ -135,8 +132,7 @@ static void c_put_back(void)
     c_shelf = c_kept_shelf;
 }
 
-const controller controllers[CONTROLLERS] = {
-    [OUR_CONTROLLER] = {"ours", our_fresh, our_admit, our_arrive, our_shelf_in_form, our_put_shelf, our_seen, our_keep,
-                        our_put_back},
-    [C_CONTROLLER] = {"C", c_fresh, c_admit, c_arrive, c_shelf_in_form, c_put_shelf, c_seen, c_keep, c_put_back},
+const controller controllers[COMPARED] = {
+    [OURS] = {our_fresh, our_admit, our_arrive, our_shelf_in_form, our_put_shelf, our_seen, our_keep, our_put_back},
+    [IN_C] = {c_fresh, c_admit, c_arrive, c_shelf_in_form, c_put_shelf, c_seen, c_keep, c_put_back},
 };

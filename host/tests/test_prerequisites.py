@@ -32,7 +32,7 @@ def without(commands):
 
 
 def test_what_only_the_tests_use_is_asked_for_there_alone():
-    wanted = {"test": FOR_TESTS, **dict.fromkeys(["test-programs", "harness", "fuzz", "bench"], ["cargo"])}
+    wanted = {"test": FOR_TESTS, **dict.fromkeys(["test-programs", "harness", "fuzz"], ["cargo"])}
     with without(FOR_TESTS) as path:
         for target in TARGETS:
             found = missing([target], path)
