@@ -25,8 +25,8 @@ static gt_answer our_admit(uint8_t campaign, const uint8_t *block, size_t length
 static arrived our_arrive(uint8_t campaign, const uint8_t *block, size_t length, uint8_t verdict)
 {
     uint64_t outcomes[GT_OUTCOMES_NUMBERS];
-    gt_arrival arrival = gt_arrive(our_tables[lent(campaign)], GT_TABLE_BYTES, our_shelf, GT_SHELF_BYTES, campaign, block,
-                                   length, verdict, outcomes, GT_OUTCOMES_NUMBERS);
+    gt_arrival arrival = gt_arrive(our_tables[lent(campaign)], GT_TABLE_BYTES, our_shelf, GT_SHELF_BYTES, campaign, block, length,
+                                   verdict, outcomes, GT_OUTCOMES_NUMBERS);
     arrived answer = {.answer = arrival.answer, .ended = arrival.ended};
 
     for (size_t i = 0; i < arrival.ended; i++)

@@ -51,10 +51,7 @@ static gt_answer c_admit(const uint8_t *block, size_t length, uint8_t verdict)
     return from_c(baseline_admit(&c_table, block, length, verdict));
 }
 
-static gt_answer c_interpret(size_t place)
-{
-    return from_c(baseline_interpret(&c_table, place, c_records, RECORDS_NUMBERS));
-}
+static gt_answer c_interpret(size_t place) { return from_c(baseline_interpret(&c_table, place, c_records, RECORDS_NUMBERS)); }
 
 static gt_answer c_retire(void) { return from_c(baseline_retire(&c_table, c_records, RECORDS_NUMBERS)); }
 
