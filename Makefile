@@ -1,4 +1,5 @@
 # make demo        shows the listing and the control program, each on a small campaign
+# make check       proves one crate and those that it needs: CRATE names it, as in make check CRATE=table
 # make test        proves and tests everything: the gate
 # make bench       measures SHA-256, whole campaigns, form, a table that fills, arrivals, joins and the listing against a
 #                  baseline in C, and a million arrivals that a full table refuses
@@ -43,10 +44,12 @@ FUZZ_LISTINGS ?= 20000
 PREFIX ?= /usr/local
 DESTDIR ?=
 
+CRATES := $(shell sed -n 's/^\([a-z0-9_]*\):.*/\1/p' crates.txt)
+
 # All that the library and the listing are proved and built from. Folders are among it, so that a removed file counts as a change.
 LIBRARY_SOURCES := $(shell find crates.txt crates \( -name must-fail -prune \) -o -print)
 
-.PHONY: demo test bench memory fuzz host install uninstall test-programs harness prerequisites clean
+.PHONY: demo check test bench memory fuzz host install uninstall test-programs harness prerequisites clean
 .DELETE_ON_ERROR:
 
 # The first target, so that a plain `make` shows something working.
@@ -57,6 +60,11 @@ demo: host
 	@echo
 	@echo '$$ $(HOST)/dome < examples/arrivals.bin'
 	@$(HOST)/dome < examples/arrivals.bin
+
+# One crate and those that it needs, as far as they changed since they were last proved.
+check: prerequisites
+	@$(if $(filter $(CRATE),$(CRATES)),,echo "make check: CRATE is '$(CRATE)', which is none of: $(CRATES)" >&2; exit 1)
+	rt check $(CRATE)
 
 # The gate: layout, proofs, must-fail edits, host tests, memory. The last line is 'N passed, M failed'.
 test: prerequisites

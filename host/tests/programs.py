@@ -1,5 +1,6 @@
 """Runs the programs under test, and compares what they write."""
 
+import os
 import subprocess
 from pathlib import Path
 
@@ -45,6 +46,12 @@ def output_of(command, data=b""):
     complaint = ended.stderr.decode(errors="replace")
     expect(ended.returncode == 0 and not complaint, f"{command[0]}: exit status {ended.returncode}\n{complaint}")
     return ended.stdout.decode("ascii")
+
+
+def make(*words, unset=()):
+    """Runs make in the repository. Flags of a make around this one aren't meant for it, nor are these variables."""
+    environment = {name: value for name, value in os.environ.items() if name not in ("MAKEFLAGS", "MFLAGS", *unset)}
+    return run(["make", "-C", str(ROOT), "--no-print-directory", *words], env=environment)
 
 
 def expect_all_ok(program):
