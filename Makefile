@@ -1,7 +1,8 @@
 # make demo        shows the listing and the control program, each on a small campaign
+# make check       proves one crate and those that it needs: CRATE names it, as in make check CRATE=table
 # make test        proves and tests everything: the gate
-# make bench       measures SHA-256, whole campaigns, form and the listing against baselines in C and Rust, arrivals, joins and
-#                  a table that fills against C, and a million arrivals that a full table refuses
+# make bench       measures SHA-256, whole campaigns, form, a table that fills, arrivals, joins and the listing against a
+#                  baseline in C, and a million arrivals that a full table refuses
 # make memory      adds up what the core's calls take of the device's memory, and fails where it is too much; and what a
 #                  controller of four campaigns takes, and a join of two tables
 # make fuzz        compares the library and the listing with the harness's model for long: FUZZ_SEED, FUZZ_CASES and FUZZ_LISTINGS
@@ -23,17 +24,14 @@ HEADERS = host/giangotum.h host/giangotum_core.h
 HOST = target/host
 HARNESS = target/harness/release/harness
 
-# The baselines of the benchmarks: the core in C and in Rust, unproved.
+# The baseline of the benchmarks: the core in C, unproved.
 C_BASELINE = $(patsubst %,bench/baseline/%.c,sha256 block table admission interpretation)
 C_BASELINE_HEADERS = $(wildcard bench/baseline/*.h)
-RUST_BASELINE = target/baseline/release/libbaseline.a
-RUST_LISTING = target/baseline/release/listing
-RUST_SOURCES = bench/baseline_rust/Cargo.toml $(wildcard bench/baseline_rust/src/*.rs bench/baseline_rust/src/bin/*.rs)
-VERSUS = $(patsubst %,bench/%.c,versus timing implementations same same_at_random chance campaigns) $(C_BASELINE) bench/baseline/retire.c
+CAMPAIGNS = $(patsubst %,bench/%.c,timing implementations same same_at_random chance campaigns) $(C_BASELINE) bench/baseline/retire.c
 ARRIVALS = $(patsubst %,bench/%.c,timing controllers layout same_arrivals chance waiting campaigns) $(C_BASELINE) bench/baseline/shelf.c
 GROWTH = $(patsubst %,bench/%.c,timing layout campaigns) $(C_BASELINE)
 JOINS = $(patsubst %,bench/%.c,timing joiners layout same_joins chance campaigns) $(C_BASELINE) bench/baseline/join.c
-BENCH_HEADERS = $(wildcard bench/*.h bench/baseline_rust/*.h) $(C_BASELINE_HEADERS) $(HEADERS)
+BENCH_HEADERS = $(wildcard bench/*.h) $(C_BASELINE_HEADERS) $(HEADERS)
 
 # What the device calls, what a controller of four campaigns does, and what a join takes.
 DEVICE_CALLS = gt_fresh gt_admit gt_interpret gt_retire gt_take_back gt_forks gt_ancestors gt_build gt_digest gt_read_block
@@ -46,10 +44,12 @@ FUZZ_LISTINGS ?= 20000
 PREFIX ?= /usr/local
 DESTDIR ?=
 
+CRATES := $(shell sed -n 's/^\([a-z0-9_]*\):.*/\1/p' crates.txt)
+
 # All that the library and the listing are proved and built from. Folders are among it, so that a removed file counts as a change.
 LIBRARY_SOURCES := $(shell find crates.txt crates \( -name must-fail -prune \) -o -print)
 
-.PHONY: demo test bench memory fuzz host install uninstall test-programs harness prerequisites clean
+.PHONY: demo check test bench memory fuzz host install uninstall test-programs harness prerequisites clean
 .DELETE_ON_ERROR:
 
 # The first target, so that a plain `make` shows something working.
@@ -61,12 +61,17 @@ demo: host
 	@echo '$$ $(HOST)/dome < examples/arrivals.bin'
 	@$(HOST)/dome < examples/arrivals.bin
 
+# One crate and those that it needs, as far as they changed since they were last proved.
+check: prerequisites
+	@$(if $(filter $(CRATE),$(CRATES)),,echo "make check: CRATE is '$(CRATE)', which is none of: $(CRATES)" >&2; exit 1)
+	rt check $(CRATE)
+
 # The gate: layout, proofs, must-fail edits, host tests, memory. The last line is 'N passed, M failed'.
 test: prerequisites
 	@tools/gate.sh
 
-# What the library costs on this machine, against the baselines and against a digest.
-bench: prerequisites $(HOST)/bench_sha256 $(HOST)/bench_campaign $(HOST)/bench_table $(HOST)/bench_growth $(HOST)/bench_arrivals $(HOST)/bench_joins $(HOST)/listing_c $(HOST)/child $(RUST_LISTING) $(LISTING)
+# What the library costs on this machine, against the baseline and against a digest.
+bench: prerequisites $(HOST)/bench_sha256 $(HOST)/bench_campaign $(HOST)/bench_table $(HOST)/bench_growth $(HOST)/bench_arrivals $(HOST)/bench_joins $(HOST)/listing_c $(HOST)/child $(LISTING)
 	$(HOST)/bench_sha256
 	@echo
 	$(HOST)/bench_campaign
@@ -79,7 +84,7 @@ bench: prerequisites $(HOST)/bench_sha256 $(HOST)/bench_campaign $(HOST)/bench_t
 	@echo
 	$(HOST)/bench_joins
 	@echo
-	python3 -B bench/listing.py target/streams $(HOST)/child $(LISTING) $(HOST)/listing_c $(RUST_LISTING)
+	python3 -B bench/listing.py target/streams $(HOST)/child $(LISTING) $(HOST)/listing_c
 
 # What the core's calls take of the device's memory, and a controller's, and a join.
 memory: prerequisites $(HOST)/device $(HOST)/controller $(HOST)/join $(HOST)/stack
@@ -143,19 +148,14 @@ $(HOST)/core_calls $(HOST)/record_calls $(HOST)/process_calls $(HOST)/watch_call
 $(HOST)/one_site $(HOST)/two_campaigns $(HOST)/two_controllers $(HOST)/long_campaign $(HOST)/wrong_campaign: $(HOST)/%: examples/%.c $(HEADERS) $(LIBRARY) | $(HOST)
 	$(CC) $(CFLAGS) $(ONLY_REACHED) -Ihost -o $@ $< $(LIBRARY)
 
-# Cargo leaves a file that needn't change, and its time would then be taken for old.
-$(RUST_BASELINE) $(RUST_LISTING) &: $(RUST_SOURCES) | prerequisites
-	cargo build --quiet --release --offline --manifest-path bench/baseline_rust/Cargo.toml --target-dir target/baseline
-	touch $(RUST_BASELINE) $(RUST_LISTING)
-
 $(HOST)/listing_c: bench/baseline/listing.c $(C_BASELINE) $(C_BASELINE_HEADERS) | $(HOST)
 	$(CC) $(BENCH_CFLAGS) -o $@ $< $(C_BASELINE)
 
 $(HOST)/child: bench/child.c bench/expect.h | $(HOST)
 	$(CC) $(BENCH_CFLAGS) -o $@ $<
 
-$(HOST)/bench_sha256 $(HOST)/bench_campaign: $(HOST)/bench_%: bench/%.c $(VERSUS) $(BENCH_HEADERS) $(LIBRARY) $(RUST_BASELINE) | $(HOST)
-	$(CC) $(BENCH_CFLAGS) -Ihost -o $@ $< $(VERSUS) $(LIBRARY) $(RUST_BASELINE)
+$(HOST)/bench_sha256 $(HOST)/bench_campaign: $(HOST)/bench_%: bench/%.c $(CAMPAIGNS) $(BENCH_HEADERS) $(LIBRARY) | $(HOST)
+	$(CC) $(BENCH_CFLAGS) -Ihost -o $@ $< $(CAMPAIGNS) $(LIBRARY)
 
 $(HOST)/bench_table: bench/table.c bench/timing.c bench/campaigns.c $(BENCH_HEADERS) $(LIBRARY) | $(HOST)
 	$(CC) $(BENCH_CFLAGS) -Ihost -o $@ $< bench/timing.c bench/campaigns.c $(LIBRARY)

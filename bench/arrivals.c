@@ -26,7 +26,7 @@ static void fill_both(bool reversed)
     for (size_t i = 0; i < GT_SHELF_PLACES; i++)
         expect(arrive_at_both(s.sent[i].campaign, &s.sent[i].block, 1).answer.refusal == 9, "a block does not wait");
     expect(form_at_both(), "the full shelf is not in form");
-    for (size_t i = 0; i < CONTROLLERS; i++)
+    for (size_t i = 0; i < COMPARED; i++)
         controllers[i].keep();
 }
 
@@ -87,14 +87,14 @@ static void call_often(size_t kind, const void *context)
 
 static void compare_row(const timed *row)
 {
-    timing timings[CONTROLLERS];
+    timing timings[COMPARED];
 
     fill_both(row->reversed);
-    time_in_turn(CONTROLLERS, timings, call_often, row);
+    time_in_turn(COMPARED, timings, call_often, row);
     printf("%-28s %10zu", row->name, row->calls);
-    for (size_t i = 0; i < CONTROLLERS; i++)
-        printf(" %10.2f", 1e6 * median_seconds(&timings[i]) / (double)row->calls);
-    printf(" %10.2f\n", median_ratio(&timings[C_CONTROLLER], &timings[OUR_CONTROLLER]));
+    print_microseconds(COMPARED, timings, row->calls);
+    print_ratio(&timings[IN_C], &timings[OURS]);
+    puts("");
 }
 
 int main(void)

@@ -1,12 +1,13 @@
-/* Whole campaigns, ours against the baselines: a fresh table, then 64 blocks, each admitted and interpreted; and with all
+/* Whole campaigns, ours against the baseline in C: a fresh table, then 64 blocks, each admitted and interpreted; and with all
  * blocks but the last of each site retired; or admitted alone, and all taken back. And the form check of the full table, which
  * begins every call on it.
  * It prints what it measures and judges no speed. A difference between two answers or records ends it with status 1. */
 #include <stdio.h>
 
 #include "expect.h"
+#include "implementations.h"
 #include "same.h"
-#include "versus.h"
+#include "timing.h"
 
 enum { CAMPAIGNS = 10, FORM_CHECKS = 2000, RANDOM_CALLS = 100000 };
 
@@ -35,41 +36,48 @@ static bool runs(const implementation *of, const timed_campaign *timed)
     return all;
 }
 
-static void run_often(const implementation *of, const void *context)
+static void run_often(size_t kind, const void *context)
 {
     bool all = true;
 
     for (size_t i = 0; i < CAMPAIGNS; i++)
-        all = runs(of, context) && all;
+        all = runs(&implementations[kind], context) && all;
     expect(all, "a call of the campaign was refused");
 }
 
-static void check_form_often(const implementation *of, const void *context)
+static void check_form_often(size_t kind, const void *context)
 {
     bool all = true;
 
     (void)context;
     for (size_t i = 0; i < FORM_CHECKS; i++)
-        all = of->in_form() && all;
+        all = implementations[kind].in_form() && all;
     expect(all, "the full table is not in form");
+}
+
+static void compare_batches(const char *name, batch run, const void *context, size_t runs)
+{
+    timing timings[COMPARED];
+
+    time_in_turn(COMPARED, timings, run, context);
+    printf("%-42s", name);
+    print_microseconds(COMPARED, timings, runs);
+    print_ratio(&timings[IN_C], &timings[OURS]);
+    puts("");
 }
 
 static void compare_campaign(const campaign *c)
 {
-    expect_same(c);
-    comparison form = compare(check_form_often, NULL);
-    comparison admitted = compare(run_often, &(timed_campaign){.of = c});
-    comparison run = compare(run_often, &(timed_campaign){.of = c, .interpreted = true});
-    comparison retired = compare(run_often, &(timed_campaign){.of = c, .interpreted = true, .retired = true});
-    comparison taken_back = compare(run_often, &(timed_campaign){.of = c, .taken_back = true});
+    const timed_campaign interpreted = {.of = c, .interpreted = true}, admitted = {.of = c},
+                         retired = {.of = c, .interpreted = true, .retired = true}, taken_back = {.of = c, .taken_back = true};
 
-    puts("");
-    print_columns(c->name, "us");
-    print_microseconds("64 blocks admitted and interpreted", &run, CAMPAIGNS);
-    print_microseconds("64 blocks admitted", &admitted, CAMPAIGNS);
-    print_microseconds("the first, and all that can be retired", &retired, CAMPAIGNS);
-    print_microseconds("the second, and all taken back", &taken_back, CAMPAIGNS);
-    print_microseconds("form of the full table", &form, FORM_CHECKS);
+    expect_same(c);
+    printf("\n%-42s    ours us       C us     C/ours\n", c->name);
+    compare_batches("form of the full table", check_form_often, NULL, FORM_CHECKS);
+    compare_batches("admitted and interpreted", run_often, &interpreted, CAMPAIGNS);
+    compare_batches("only admitted", run_often, &admitted, CAMPAIGNS);
+    compare_batches("interpreted, then retired as far as can be", run_often, &retired, CAMPAIGNS);
+    compare_batches("only admitted, then all taken back", run_often, &taken_back, CAMPAIGNS);
 }
 
 int main(void)
@@ -78,15 +86,15 @@ int main(void)
 
     busy = busy_campaign();
     ordinary = ordinary_campaign();
-    puts("Whole campaigns: the proved core (ours) against C and Rust, each with its own table and SHA-256.");
+    puts("Whole campaigns: the proved core (ours) against C, each with its own table and SHA-256.");
     puts("A campaign is a fresh table and 64 blocks. Every block refers to all blocks of the round before.");
-    puts("Before timing, each of the three runs the campaign, with refused calls and takings back among it, and");
+    puts("Before timing, each of the two runs the campaign, with refused calls and takings back among it, and");
     printf("%d random calls; all answers and all 20,480 numbers of the records are compared.\n", RANDOM_CALLS);
     printf("Measured in CPU time: medians of %d repetitions, each a batch of %d campaigns or %d form checks of each in turn,\n",
            REPETITIONS, CAMPAIGNS, FORM_CHECKS);
     puts("after a batch of each to warm up. Making the table fresh is in the time; the record buffers are not cleared between");
-    puts("campaigns. The last two columns are a baseline's time over ours, the median of the repetitions' ratios: above 1 ours");
-    puts("is the faster one.");
+    puts("campaigns. The last column is C's time over ours, the median of the repetitions' ratios: above 1 ours is the faster");
+    puts("one.");
     expect_same_at_random(RANDOM_CALLS);
     compare_campaign(&busy);
     compare_campaign(&ordinary);

@@ -3,7 +3,6 @@
 
 #include <string.h>
 
-#include "baseline/core.h"
 #include "layout.h"
 
 static size_t lent(uint8_t campaign) { return campaign < GT_CAMPAIGNS ? campaign : 0; }
@@ -26,8 +25,8 @@ static gt_answer our_admit(uint8_t campaign, const uint8_t *block, size_t length
 static arrived our_arrive(uint8_t campaign, const uint8_t *block, size_t length, uint8_t verdict)
 {
     uint64_t outcomes[GT_OUTCOMES_NUMBERS];
-    gt_arrival arrival = gt_arrive(our_tables[lent(campaign)], GT_TABLE_BYTES, our_shelf, GT_SHELF_BYTES, campaign, block,
-                                   length, verdict, outcomes, GT_OUTCOMES_NUMBERS);
+    gt_arrival arrival = gt_arrive(our_tables[lent(campaign)], GT_TABLE_BYTES, our_shelf, GT_SHELF_BYTES, campaign, block, length,
+                                   verdict, outcomes, GT_OUTCOMES_NUMBERS);
     arrived answer = {.answer = arrival.answer, .ended = arrival.ended};
 
     for (size_t i = 0; i < arrival.ended; i++)
@@ -64,8 +63,6 @@ static void our_put_back(void)
 
 static baseline_table c_tables[CAMPAIGNS], c_kept_table;
 static baseline_shelf c_shelf, c_kept_shelf;
-
-static gt_answer from_c(baseline_answer answer) { return (gt_answer){answer.refusal, answer.value}; }
 
 static gt_answer c_fresh(uint8_t campaign, uint8_t sites, const uint8_t owners[GT_SLOTS])
 {
@@ -135,8 +132,7 @@ static void c_put_back(void)
     c_shelf = c_kept_shelf;
 }
 
-const controller controllers[CONTROLLERS] = {
-    [OUR_CONTROLLER] = {"ours", our_fresh, our_admit, our_arrive, our_shelf_in_form, our_put_shelf, our_seen, our_keep,
-                        our_put_back},
-    [C_CONTROLLER] = {"C", c_fresh, c_admit, c_arrive, c_shelf_in_form, c_put_shelf, c_seen, c_keep, c_put_back},
+const controller controllers[COMPARED] = {
+    [OURS] = {our_fresh, our_admit, our_arrive, our_shelf_in_form, our_put_shelf, our_seen, our_keep, our_put_back},
+    [IN_C] = {c_fresh, c_admit, c_arrive, c_shelf_in_form, c_put_shelf, c_seen, c_keep, c_put_back},
 };

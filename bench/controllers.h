@@ -3,7 +3,7 @@
 #ifndef CONTROLLERS_H
 #define CONTROLLERS_H
 
-#include "giangotum_core.h"
+#include "compared.h"
 
 /* What an arrival is answered, and the outcomes of the waiting blocks that it ended. */
 typedef struct {
@@ -19,7 +19,6 @@ typedef struct {
 } seen_state;
 
 typedef struct {
-    const char *name;
     gt_answer (*fresh)(uint8_t campaign, uint8_t sites, const uint8_t owners[GT_SLOTS]);
     /* Past the shelf. */
     gt_answer (*admit)(uint8_t campaign, const uint8_t *block, size_t length);
@@ -32,8 +31,6 @@ typedef struct {
     void (*put_back)(void);
 } controller;
 
-enum { OUR_CONTROLLER, C_CONTROLLER, CONTROLLERS };
-
-extern const controller controllers[CONTROLLERS];
+extern const controller controllers[COMPARED];
 
 #endif

@@ -6,6 +6,7 @@
 #include <string.h>
 
 #include "campaigns.h"
+#include "compared.h"
 #include "expect.h"
 #include "layout.h"
 #include "timing.h"
@@ -67,7 +68,7 @@ static uint8_t one_digest(void)
     return gt_digest(message, sizeof message, digest, sizeof digest).refusal;
 }
 
-enum { OURS, IN_C, DIGEST, KINDS };
+enum { DIGEST = COMPARED, KINDS };
 
 static uint8_t (*const calls[KINDS])(void) = {[OURS] = our_arrival, [IN_C] = c_arrival, [DIGEST] = one_digest};
 
@@ -103,9 +104,10 @@ static void compare_arrivals(const campaign *c, size_t held)
     expect_same(held);
     time_in_turn(KINDS, timings, call_often, &held);
     printf("%6zu %10d %10d %11zu", held, expected_of(OURS, held), arriving.bytes[3], arriving.length);
-    for (size_t kind = OURS; kind <= IN_C; kind++)
-        printf(" %10.2f", 1e6 * median_seconds(&timings[kind]) / CALLS);
-    printf(" %10.2f %10.2f\n", median_ratio(&timings[IN_C], &timings[OURS]), median_ratio(&timings[OURS], &timings[DIGEST]));
+    print_microseconds(COMPARED, timings, CALLS);
+    print_ratio(&timings[IN_C], &timings[OURS]);
+    print_ratio(&timings[OURS], &timings[DIGEST]);
+    puts("");
 }
 
 static void compare_campaign(const campaign *c)

@@ -1,8 +1,7 @@
-/* The three behind one face. */
+/* The two behind one face. */
 #include "implementations.h"
 
-#include "baseline/core.h"
-#include "baseline_rust/baseline.h"
+#include "layout.h"
 
 /* ---- The proved one */
 
@@ -40,8 +39,6 @@ static gt_answer our_take_back(void) { return gt_take_back(our_table, sizeof our
 static baseline_table c_table;
 static uint16_t c_records[RECORDS_NUMBERS];
 
-static gt_answer from_c(baseline_answer answer) { return (gt_answer){answer.refusal, answer.value}; }
-
 static gt_answer c_fresh(uint8_t sites, const uint8_t owners[GT_SLOTS])
 {
     return from_c(baseline_fresh(&c_table, sites, owners));
@@ -54,49 +51,13 @@ static gt_answer c_admit(const uint8_t *block, size_t length, uint8_t verdict)
     return from_c(baseline_admit(&c_table, block, length, verdict));
 }
 
-static gt_answer c_interpret(size_t place)
-{
-    return from_c(baseline_interpret(&c_table, place, c_records, RECORDS_NUMBERS));
-}
+static gt_answer c_interpret(size_t place) { return from_c(baseline_interpret(&c_table, place, c_records, RECORDS_NUMBERS)); }
 
 static gt_answer c_retire(void) { return from_c(baseline_retire(&c_table, c_records, RECORDS_NUMBERS)); }
 
 static gt_answer c_take_back(void) { return from_c(baseline_take_back(&c_table)); }
 
-/* ---- The one in Rust */
-
-static rust_table *the_rust_table;
-static uint16_t rust_records[RECORDS_NUMBERS];
-
-static gt_answer from_rust(rust_answer answer) { return (gt_answer){answer.refusal, answer.value}; }
-
-/* Its size is not known here, so its memory is its own. */
-static gt_answer fresh_in_rust(uint8_t sites, const uint8_t owners[GT_SLOTS])
-{
-    if (the_rust_table == NULL)
-        the_rust_table = rust_table_new();
-    return from_rust(rust_fresh(the_rust_table, sites, owners));
-}
-
-static bool in_form_in_rust(void) { return rust_in_form(the_rust_table); }
-
-static gt_answer admit_in_rust(const uint8_t *block, size_t length, uint8_t verdict)
-{
-    return from_rust(rust_admit(the_rust_table, block, length, verdict));
-}
-
-static gt_answer interpret_in_rust(size_t place)
-{
-    return from_rust(rust_interpret(the_rust_table, place, rust_records, RECORDS_NUMBERS));
-}
-
-static gt_answer retire_in_rust(void) { return from_rust(rust_retire(the_rust_table, rust_records, RECORDS_NUMBERS)); }
-
-static gt_answer take_back_in_rust(void) { return from_rust(rust_take_back(the_rust_table)); }
-
-const implementation implementations[IMPLEMENTATIONS] = {
+const implementation implementations[COMPARED] = {
     [OURS] = {"ours", our_digest, our_fresh, our_in_form, our_admit, our_interpret, our_retire, our_take_back, our_records},
     [IN_C] = {"C", baseline_sha256, c_fresh, c_in_form, c_admit, c_interpret, c_retire, c_take_back, c_records},
-    [IN_RUST] = {"Rust", rust_digest, fresh_in_rust, in_form_in_rust, admit_in_rust, interpret_in_rust, retire_in_rust,
-                 take_back_in_rust, rust_records},
 };

@@ -1,8 +1,8 @@
-/* The proved core and the two baselines behind one face. Each keeps a table and a record buffer of its own. */
+/* The proved core and the one in C behind one face. Each keeps a table and a record buffer of its own. */
 #ifndef IMPLEMENTATIONS_H
 #define IMPLEMENTATIONS_H
 
-#include "giangotum_core.h"
+#include "compared.h"
 
 typedef struct {
     const char *name;
@@ -16,8 +16,6 @@ typedef struct {
     const uint16_t *records;
 } implementation;
 
-enum { OURS, IN_C, IN_RUST, IMPLEMENTATIONS };
-
-extern const implementation implementations[IMPLEMENTATIONS];
+extern const implementation implementations[COMPARED];
 
 #endif

@@ -36,13 +36,12 @@ static baseline_records records_of(const side *of) { return (baseline_records){o
 static gt_answer c_join(const pair *of, uint16_t *third, size_t numbers)
 {
     c_left = c_kept_left;
-    baseline_answer joined = baseline_join(&c_left, &c_right, records_of(&of->left), records_of(&of->right), third, numbers);
-    return (gt_answer){joined.refusal, joined.value};
+    return from_c(baseline_join(&c_left, &c_right, records_of(&of->left), records_of(&of->right), third, numbers));
 }
 
 static void c_see(uint8_t table[GT_TABLE_BYTES]) { see_table(&c_left, table); }
 
-const joiner joiners[JOINERS] = {
-    [OUR_JOINER] = {"ours", our_take, our_join, our_see},
-    [C_JOINER] = {"C", c_take, c_join, c_see},
+const joiner joiners[COMPARED] = {
+    [OURS] = {our_take, our_join, our_see},
+    [IN_C] = {c_take, c_join, c_see},
 };

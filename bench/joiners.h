@@ -2,7 +2,7 @@
 #ifndef JOINERS_H
 #define JOINERS_H
 
-#include "giangotum_core.h"
+#include "compared.h"
 
 /* A table, in the layout of docs/FORMATS.md, and its records, of which so many numbers are lent. */
 typedef struct {
@@ -16,7 +16,6 @@ typedef struct {
 } pair;
 
 typedef struct {
-    const char *name;
     /* Takes over the tables of the pair that the next joins are about. */
     void (*take)(const pair *of);
     /* Joins a copy of the left's table and the right's, with so many numbers of a third buffer. */
@@ -25,8 +24,6 @@ typedef struct {
     void (*see)(uint8_t table[GT_TABLE_BYTES]);
 } joiner;
 
-enum { OUR_JOINER, C_JOINER, JOINERS };
-
-extern const joiner joiners[JOINERS];
+extern const joiner joiners[COMPARED];
 
 #endif

@@ -78,7 +78,7 @@ static const row rows[] = {
 static pair parted;
 static uint16_t third[GT_RECORDS_NUMBERS];
 
-enum { DIGEST = JOINERS, KINDS };
+enum { DIGEST = COMPARED, KINDS };
 
 static bool call_digest(void)
 {
@@ -114,10 +114,10 @@ static void compare_row(const row *timed)
     expect(join_at_both(&parted, GT_RECORDS_NUMBERS).value == timed->joined, "a pair was joined otherwise than expected");
     time_in_turn(KINDS, timings, call_often, timed);
     printf("%-28s %10zu", timed->name, timed->joined);
-    for (size_t i = 0; i < JOINERS; i++)
-        printf(" %10.2f", 1e6 * median_seconds(&timings[i]) / CALLS);
-    printf(" %10.2f %10.2f\n", median_ratio(&timings[OUR_JOINER], &timings[DIGEST]),
-           median_ratio(&timings[C_JOINER], &timings[OUR_JOINER]));
+    print_microseconds(COMPARED, timings, CALLS);
+    print_ratio(&timings[OURS], &timings[DIGEST]);
+    print_ratio(&timings[IN_C], &timings[OURS]);
+    puts("");
 }
 
 int main(void)

@@ -1,10 +1,10 @@
 #!/usr/bin/env python3
-"""The listing program against those of the baselines, on streams of arrivals; then ours alone, on streams that go on and on
+"""The listing program against that of the baseline, on streams of arrivals; then ours alone, on streams that go on and on
 after the table is full.
 
-    listing.py FOLDER CHILD OURS C RUST
+    listing.py FOLDER CHILD OURS C
 
-Each program runs as a child on the same file, in turn, and its CPU time is taken. CHILD runs ours where its memory is taken
+Both programs run as children on the same file, in turn, and their CPU time is taken. CHILD runs ours where its memory is taken
 too. Where the outputs differ, or an arrival at a full table gets another answer than 11, it ends with status 1; it judges no
 speed. The streams and outputs are written to FOLDER.
 """
@@ -19,7 +19,6 @@ import streams
 
 REPETITIONS = 21
 STREAMS = {"soon full": streams.soon_full, "slowly filled": streams.slowly_filled, "no arrivals": streams.no_arrivals}
-NAMES = ["ours", "C", "Rust"]
 FLOODS = [10000, 100000, 1000000]  # arrivals after the table is full
 FLOOD_REPETITIONS = 5
 
@@ -41,22 +40,19 @@ def seconds_of(program, stream, output):
     return usage.ru_utime + usage.ru_stime
 
 
-def outputs_of(programs, stream, folder):
-    """What each program writes for a stream."""
-    outputs = []
-    for name, program in zip(NAMES, programs):
-        path = folder / f"{name}.lines"
-        seconds_of(program, stream, path)
-        outputs.append(path.read_bytes())
-    return outputs
+def lines_of(program, stream, folder):
+    """What a program writes for a stream."""
+    output = folder / "written.lines"
+    seconds_of(program, stream, output)
+    return output.read_text(encoding="ascii")
 
 
-def expect_same(programs, stream, folder):
-    ours, *others = outputs_of(programs, stream, folder)
-    for name, other in zip(NAMES[1:], others):
-        if other != ours:
-            sys.exit(f"ours and {name} write different lines for {stream}")
-    return ours.decode("ascii")
+def common_lines(programs, stream, folder):
+    """What both programs write for a stream."""
+    ours, other = (lines_of(program, stream, folder) for program in programs)
+    if other != ours:
+        sys.exit(f"ours and C write different lines for {stream}")
+    return ours
 
 
 def refusals_of(lines):
@@ -80,24 +76,24 @@ def measured(programs, stream, folder):
 
 def row_of(title, rows):
     milliseconds = [1000 * statistics.median(column) for column in zip(*rows)]
-    ratios = [statistics.median(row[i] / row[0] for row in rows) for i in (1, 2)]
-    return f"{title:16}" + "".join(f"{value:10.2f}" for value in milliseconds) + "".join(f"{value:10.2f}" for value in ratios)
+    ratio = statistics.median(in_c / ours for ours, in_c in rows)
+    return f"{title:16}" + "".join(f"{value:10.2f}" for value in (*milliseconds, ratio))
 
 
 def compare(folder, programs):
-    """Ours against the baselines."""
-    print(f"The listing of {streams.ARRIVALS:,} arrivals: the proved program (ours) against those in C and Rust.")
-    print(f"CPU time of each program as a child, user and system: medians of {REPETITIONS} repetitions, each of the three in turn,")
+    """Ours against C."""
+    print(f"The listing of {streams.ARRIVALS:,} arrivals: the proved program (ours) against that in C.")
+    print(f"CPU time of each program as a child, user and system: medians of {REPETITIONS} repetitions, both in turn,")
     print("after a run of each whose outputs are compared. Input and output are files; the input was read before, the output")
-    print("is cut to nothing before each run. The last two columns are a baseline's time over ours, the median of the")
-    print("repetitions' ratios: above 1 ours is the faster one.")
+    print("is cut to nothing before each run. The last column is C's time over ours, the median of the repetitions' ratios:")
+    print("above 1 ours is the faster one.")
     print()
-    print(f"{'stream':16}{'ours ms':>10}{'C ms':>10}{'Rust ms':>10}{'C/ours':>10}{'Rust/ours':>10}")
+    print(f"{'stream':16}{'ours ms':>10}{'C ms':>10}{'C/ours':>10}")
     contents = []
     for title, make in STREAMS.items():
         stream = folder / f"{title.replace(' ', '_')}.bin"
         stream.write_bytes(make())
-        lines = expect_same(programs, stream, folder)
+        lines = common_lines(programs, stream, folder)
         contents.append(f"{title}: {stream.stat().st_size:,} bytes; {content_of(lines)}")
         print(row_of(title, measured(programs, stream, folder)), flush=True)
     print()
@@ -114,9 +110,7 @@ def taken_by(child, program, stream, folder):
 
 def expect_refused(program, stream, refused, folder):
     """Those arrivals get 11, and all others are taken."""
-    output = folder / "flooded.lines"
-    seconds_of(program, stream, output)
-    counts = refusals_of(output.read_text(encoding="ascii"))
+    counts = refusals_of(lines_of(program, stream, folder))
     del counts[0]
     if counts != {11: refused}:
         sys.exit(f"refusals for {stream}: {dict(counts)}")
@@ -139,12 +133,12 @@ def flood(folder, child, program):
         print(f"{refused:10,}{size:14,}{1e3 * median:10.2f}{1e6 * median / refused:10.2f}{max(peaks):10,}", flush=True)
 
 
-def main(folder, child, *programs):
+def main(folder, child, ours, in_c):
     folder = Path(folder)
     folder.mkdir(parents=True, exist_ok=True)
-    compare(folder, programs)
+    compare(folder, [ours, in_c])
     print()
-    flood(folder, child, programs[0])
+    flood(folder, child, ours)
 
 
 if __name__ == "__main__":

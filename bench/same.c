@@ -1,4 +1,4 @@
-/* The three implementations give the same answers to a campaign, and the same records. */
+/* Both implementations give the same answers to a campaign, and the same records. */
 #include "same.h"
 
 #include <string.h>
@@ -6,7 +6,7 @@
 #include "expect.h"
 #include "implementations.h"
 
-/* What is expected of one of the three. */
+/* What is expected of one of the two. */
 static void expect_of(const implementation *of, bool holds, const char *message)
 {
     if (!holds)
@@ -91,11 +91,9 @@ static void expect_campaign(const implementation *of, const campaign *c)
 
 void expect_same_records(void)
 {
-    const uint16_t *ours = implementations[OURS].records;
+    const uint16_t *ours = implementations[OURS].records, *others = implementations[IN_C].records;
 
-    for (size_t i = IN_C; i < IMPLEMENTATIONS; i++)
-        expect_of(&implementations[i], memcmp(ours, implementations[i].records, GT_RECORDS_NUMBERS * sizeof *ours) == 0,
-                  "the records differ from ours");
+    expect(memcmp(ours, others, GT_RECORDS_NUMBERS * sizeof *ours) == 0, "two record buffers differ");
 }
 
 /* A campaign that delivers nothing would compare little. */
@@ -110,12 +108,12 @@ static void expect_deliveries(void)
 
 void expect_same(const campaign *c)
 {
-    for (size_t i = 0; i < IMPLEMENTATIONS; i++) {
+    for (size_t i = 0; i < COMPARED; i++) {
         expect_campaign(&implementations[i], c);
         expect_retirings(&implementations[i], c);
     }
     expect_same_records();
-    for (size_t i = 0; i < IMPLEMENTATIONS; i++)
+    for (size_t i = 0; i < COMPARED; i++)
         expect_campaign(&implementations[i], c);
     expect_same_records();
     expect_deliveries();

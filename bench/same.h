@@ -1,4 +1,4 @@
-/* That the three implementations answer alike. A difference ends the program. */
+/* That the two implementations answer alike. A difference ends the program. */
 #ifndef SAME_H
 #define SAME_H
 

@@ -14,9 +14,7 @@ enum { ENTRY_BYTES = 3 + GT_MAX_BLOCK_BYTES };
 
 /* ---- Calls on both */
 
-static const controller *const ours = &controllers[OUR_CONTROLLER], *const other = &controllers[C_CONTROLLER];
-
-static bool alike(gt_answer x, gt_answer y) { return x.refusal == y.refusal && x.value == y.value; }
+static const controller *const ours = &controllers[OURS], *const other = &controllers[IN_C];
 
 static void expect_same_state(uint8_t campaign)
 {

@@ -1,4 +1,4 @@
-/* The three implementations answer alike on random campaigns. The campaigns that are timed hear whole rounds at once; here
+/* The two implementations answer alike on random campaigns. The campaigns that are timed hear whole rounds at once; here
  * quorums come together piece by piece, sites fork, places wait for others, and blocks leave, the oldest or the last, and come
  * again. */
 #include <string.h>
@@ -20,18 +20,16 @@ static struct {
     size_t left, came_again;
 } gone[WAYS];
 
-static void expect_alike(gt_answer ours, gt_answer other)
+static const implementation *const ours = &implementations[OURS], *const other = &implementations[IN_C];
+
+/* What both answered. */
+static gt_answer common(gt_answer x, gt_answer y)
 {
-    expect(ours.refusal == other.refusal && ours.value == other.value, "two answers to a random call differ");
+    expect(alike(x, y), "two answers to a random call differ");
+    return x;
 }
 
-static void interpret_on_all(size_t place)
-{
-    gt_answer ours = implementations[OURS].interpret(place);
-
-    for (size_t i = IN_C; i < IMPLEMENTATIONS; i++)
-        expect_alike(ours, implementations[i].interpret(place));
-}
+static void interpret_at_both(size_t place) { common(ours->interpret(place), other->interpret(place)); }
 
 /* A block that left is not one that others are built on. */
 static void forget(size_t place, size_t way)
@@ -43,27 +41,19 @@ static void forget(size_t place, size_t way)
     memmove(blocks + place, blocks + place + 1, (held.count - place) * sizeof blocks[0]);
 }
 
-static void retire_on_all(void)
+static void retire_at_both(void)
 {
-    gt_answer ours = implementations[OURS].retire();
-
-    for (size_t i = IN_C; i < IMPLEMENTATIONS; i++)
-        expect_alike(ours, implementations[i].retire());
-    if (ours.refusal == 0)
+    if (common(ours->retire(), other->retire()).refusal == 0)
         forget(0, RETIRED);
 }
 
-static void take_back_on_all(void)
+static void take_back_at_both(void)
 {
-    gt_answer ours = implementations[OURS].take_back();
-
-    for (size_t i = IN_C; i < IMPLEMENTATIONS; i++)
-        expect_alike(ours, implementations[i].take_back());
-    if (ours.refusal == 0)
+    if (common(ours->take_back(), other->take_back()).refusal == 0)
         forget(held.count - 1, TAKEN_BACK);
 }
 
-static void admit_on_all(void)
+static void admit_at_both(void)
 {
     size_t way = below(WAYS);
     bool again = gone[way].last.length > 0 && one_in(12), damaged = one_in(20);
@@ -72,15 +62,13 @@ static void admit_on_all(void)
     if (damaged)
         damage(&block);
     uint8_t verdict = one_in(30) ? 0 : 1;
-    gt_answer ours = implementations[OURS].admit(block.bytes, block.length, verdict);
-    for (size_t i = IN_C; i < IMPLEMENTATIONS; i++)
-        expect_alike(ours, implementations[i].admit(block.bytes, block.length, verdict));
-    if (ours.refusal == 0) {
+    gt_answer answer = common(ours->admit(block.bytes, block.length, verdict), other->admit(block.bytes, block.length, verdict));
+    if (answer.refusal == 0) {
         gone[way].came_again += again && !damaged;
         blocks[held.count] = block;
         know(&held, &block);
         if (!one_in(4))
-            interpret_on_all(ours.value);
+            interpret_at_both(answer.value);
     }
 }
 
@@ -94,8 +82,7 @@ static void start_campaign(void)
         gone[way].last.length = 0;
     for (size_t slot = 0; slot < GT_SLOTS; slot++)
         owners[slot] = (uint8_t)below(held.sites);
-    for (size_t i = 0; i < IMPLEMENTATIONS; i++)
-        expect(implementations[i].fresh(held.sites, owners).refusal == 0, "the setup was refused");
+    expect(common(ours->fresh(held.sites, owners), other->fresh(held.sites, owners)).refusal == 0, "the setup was refused");
 }
 
 void expect_same_at_random(size_t calls)
@@ -106,13 +93,13 @@ void expect_same_at_random(size_t calls)
             start_campaign();
         }
         if (one_in(5))
-            retire_on_all();
+            retire_at_both();
         else if (one_in(8))
-            take_back_on_all();
+            take_back_at_both();
         else if (one_in(3))
-            interpret_on_all(below(held.count + 1));
+            interpret_at_both(below(held.count + 1));
         else
-            admit_on_all();
+            admit_at_both();
     }
     expect_same_records();
     for (size_t way = 0; way < WAYS; way++)

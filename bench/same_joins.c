@@ -11,7 +11,7 @@ enum { MOST_BLOCKS = 110, REFUSALS = 32 };
 
 /* ---- Joins at both */
 
-static uint16_t thirds[JOINERS][GT_RECORDS_NUMBERS];
+static uint16_t thirds[COMPARED][GT_RECORDS_NUMBERS];
 
 /* Numbers that no other buffer has at the same index. */
 static void fill(uint16_t records[GT_RECORDS_NUMBERS], uint16_t first)
@@ -22,19 +22,19 @@ static void fill(uint16_t records[GT_RECORDS_NUMBERS], uint16_t first)
 
 gt_answer join_at_both(const pair *of, size_t numbers)
 {
-    uint8_t tables[JOINERS][GT_TABLE_BYTES];
-    gt_answer answers[JOINERS];
+    uint8_t tables[COMPARED][GT_TABLE_BYTES];
+    gt_answer answers[COMPARED];
 
-    for (size_t i = 0; i < JOINERS; i++) {
+    for (size_t i = 0; i < COMPARED; i++) {
         fill(thirds[i], 2);
         joiners[i].take(of);
         answers[i] = joiners[i].join(of, thirds[i], numbers);
         joiners[i].see(tables[i]);
     }
-    expect(answers[0].refusal == answers[1].refusal && answers[0].value == answers[1].value, "two answers to a join differ");
-    expect(memcmp(tables[0], tables[1], sizeof tables[0]) == 0, "two joined tables differ");
-    expect(memcmp(thirds[0], thirds[1], sizeof thirds[0]) == 0, "two third buffers differ");
-    return answers[OUR_JOINER];
+    expect(alike(answers[OURS], answers[IN_C]), "two answers to a join differ");
+    expect(memcmp(tables[OURS], tables[IN_C], sizeof tables[OURS]) == 0, "two joined tables differ");
+    expect(memcmp(thirds[OURS], thirds[IN_C], sizeof thirds[OURS]) == 0, "two third buffers differ");
+    return answers[OURS];
 }
 
 /* ---- Pairs that calls made */

@@ -135,8 +135,8 @@ static table few_sites;          /* empty, and without the chain's site */
 static void put_on(shelf *s, uint8_t campaign, const built_block *b)
 {
     table t = reached[campaign == 0 ? HELD_BEFORE : 0];
-    gt_arrival arrival = gt_arrive(t.bytes, sizeof t.bytes, s->bytes, sizeof s->bytes, campaign, b->bytes, b->length, 1,
-                                   outcomes, GT_OUTCOMES_NUMBERS);
+    gt_arrival arrival = gt_arrive(t.bytes, sizeof t.bytes, s->bytes, sizeof s->bytes, campaign, b->bytes, b->length, 1, outcomes,
+                                   GT_OUTCOMES_NUMBERS);
 
     expect(arrival.answer.refusal == 9, "a block does not wait");
 }
@@ -195,10 +195,7 @@ static uint8_t call_digest(const input *in) { return gt_digest(in->bytes, in->le
 
 static uint8_t call_read_block(const input *in) { return gt_read_block(in->bytes, in->length).answer.refusal; }
 
-static uint8_t call_fresh(const input *in)
-{
-    return gt_fresh(in->number, in->bytes, in->length, lent.bytes, in->room).refusal;
-}
+static uint8_t call_fresh(const input *in) { return gt_fresh(in->number, in->bytes, in->length, lent.bytes, in->room).refusal; }
 
 static uint8_t call_in_form(const input *in)
 {
@@ -216,10 +213,7 @@ static uint8_t call_interpret(const input *in)
     return gt_interpret(lent.bytes, sizeof lent.bytes, in->place, records, in->room).refusal;
 }
 
-static uint8_t call_retire(const input *in)
-{
-    return gt_retire(lent.bytes, sizeof lent.bytes, records, in->room).refusal;
-}
+static uint8_t call_retire(const input *in) { return gt_retire(lent.bytes, sizeof lent.bytes, records, in->room).refusal; }
 
 static uint8_t call_take_back(const input *in)
 {
@@ -452,7 +446,10 @@ static void measure_take_back(void)
 static void measure_forks(void)
 {
     const input inputs[] = {
-        {.table = &reached[0]}, {.table = FULL}, {.table = &forked}, {.table = &out_of_form, .refusal = 2},
+        {.table = &reached[0]},
+        {.table = FULL},
+        {.table = &forked},
+        {.table = &out_of_form, .refusal = 2},
     };
 
     MEASURE("gt_forks", call_forks, inputs);
@@ -510,7 +507,10 @@ static void measure_replay(void)
 static void measure_shelf_in_form(void)
 {
     const input inputs[] = {
-        {.shelf = &empty_shelf}, {.shelf = &in_order}, {.shelf = &reversed}, {.shelf = &same_bytes_twice, .refusal = 2},
+        {.shelf = &empty_shelf},
+        {.shelf = &in_order},
+        {.shelf = &reversed},
+        {.shelf = &same_bytes_twice, .refusal = 2},
     };
 
     MEASURE("gt_shelf_in_form", call_shelf_in_form, inputs);

@@ -94,6 +94,7 @@ static bool call_build(void)
 
 enum { DIGEST, IN_FORM, ADMIT, INTERPRET, RETIRE, TAKE_BACK, FORKS, ANCESTORS, BUILD, KINDS };
 
+/* clang-format off */
 static const struct {
     const char *name;
     bool (*call)(void);
@@ -108,6 +109,7 @@ static const struct {
     [ANCESTORS] = {"gt_ancestors, of place 63", call_ancestors},
     [BUILD] = {"gt_build, 541 bytes", call_build},
 };
+/* clang-format on */
 
 /* ---- Batches */
 

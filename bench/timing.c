@@ -1,8 +1,9 @@
-/* CPU time, and medians. */
+/* CPU time, medians, and columns of them. */
 #define _POSIX_C_SOURCE 200809L /* clock_gettime */
 
 #include "timing.h"
 
+#include <stdio.h>
 #include <stdlib.h>
 #include <time.h>
 
@@ -55,3 +56,11 @@ double median_ratio(const timing *x, const timing *y)
         ratios.seconds[i] = x->seconds[i] / y->seconds[i];
     return median(ratios);
 }
+
+void print_microseconds(size_t kinds, const timing timings[], size_t runs)
+{
+    for (size_t kind = 0; kind < kinds; kind++)
+        printf(" %10.2f", 1e6 * median_seconds(&timings[kind]) / (double)runs);
+}
+
+void print_ratio(const timing *x, const timing *y) { printf(" %10.2f", median_ratio(x, y)); }

@@ -26,4 +26,8 @@ void time_in_turn(size_t kinds, timing timings[], batch run, const void *context
 double median_seconds(const timing *x);
 double median_ratio(const timing *x, const timing *y);
 
+/* Columns of a row: for each of so many kinds the microseconds of one of so many runs of a batch; and that ratio. */
+void print_microseconds(size_t kinds, const timing timings[], size_t runs);
+void print_ratio(const timing *x, const timing *y);
+
 #endif

@@ -61,10 +61,7 @@ typedef struct {
 } block;
 
 /* The link's verdict on each block here is 1: its signature is good. */
-static gt_answer admit(const block *b)
-{
-    return gt_admit(table, sizeof table, b->bytes, b->length, 1);
-}
+static gt_answer admit(const block *b) { return gt_admit(table, sizeof table, b->bytes, b->length, 1); }
 
 /* The block at place 0 leaves. It is refused only until its site has a later block, and while a block that refers to it, or
  * itself, is not interpreted. */

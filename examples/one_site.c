@@ -110,8 +110,8 @@ static void hold(const arrival *a)
 /* Our next block. It is held here before it is handed out, so that no other block of ours can get its sequence number. */
 static void build(arrival *own)
 {
-    own->length = expected("building", gt_build(table, sizeof table, OWN_SITE, requests, sizeof requests, own->bytes,
-                                                sizeof own->bytes));
+    own->length = expected("building",
+                           gt_build(table, sizeof table, OWN_SITE, requests, sizeof requests, own->bytes, sizeof own->bytes));
     own->verdict = 1;
     interpret(expected("our own block", gt_admit(table, sizeof table, own->bytes, own->length, own->verdict)));
 }
@@ -121,8 +121,8 @@ static void hand_out(const char *name, const arrival *own)
     const uint8_t head[] = {(uint8_t)(own->length >> 8), (uint8_t)own->length, own->verdict};
     FILE *file = fopen(name, "wb");
 
-    if (file == NULL || fwrite(head, 1, sizeof head, file) < sizeof head
-        || fwrite(own->bytes, 1, own->length, file) < own->length || fclose(file) != 0)
+    if (file == NULL || fwrite(head, 1, sizeof head, file) < sizeof head || fwrite(own->bytes, 1, own->length, file) < own->length
+        || fclose(file) != 0)
         fail("the file for our block can't be written");
 }
 

@@ -1,7 +1,7 @@
 #!/usr/bin/env bash
 # The gate. Every step runs, also after a failed one, so that one run shows all that fails:
 #
-#   layout          rt fmt --check
+#   layout          tools/layout.sh: of Rattle, and of C, Rust and shell where their commands are on the machine
 #   proofs          rt ci: every proof, every must-fail edit, every program with stored output
 #   must-fail logs  each edit was refused by a fact that no longer holds
 #   host            the libraries for C, the test programs and the harness are built, and host/tests/run.py passes
@@ -65,7 +65,7 @@ check_counted() { # TITLE COMMAND...
 # Flags of a make around this one, as -n or -j, aren't meant for it.
 build() { env -u MAKEFLAGS -u MFLAGS make --no-print-directory "$@"; }
 
-check 'layout' rt fmt --check
+check 'layout' tools/layout.sh
 check_counted 'proofs' rt ci
 check 'must-fail logs' tools/must_fail_logs.sh
 printf '\n== host programs\n'

@@ -19,10 +19,7 @@ bool baseline_read(const uint8_t *bytes, size_t length, baseline_block *block)
     return true;
 }
 
-static bool good_request(const uint8_t *request)
-{
-    return request[0] < SLOTS && (request[1] | request[2]) != 0;
-}
+static bool good_request(const uint8_t *request) { return request[0] < SLOTS && (request[1] | request[2]) != 0; }
 
 static bool repeats(const baseline_digest *references, size_t index)
 {

@@ -89,8 +89,7 @@ bool baseline_shelf_in_form(const baseline_shelf *shelf)
     for (size_t entry = 0; entry < count; entry++)
         if (!entry_in_form(shelf, entry))
             return false;
-    return places_in_form(shelf)
-        && all_zero(shelf->waiting + count, (SHELF_PLACES - count) * sizeof *shelf->waiting);
+    return places_in_form(shelf) && all_zero(shelf->waiting + count, (SHELF_PLACES - count) * sizeof *shelf->waiting);
 }
 
 /* ---- An arrival that waits */
@@ -138,8 +137,7 @@ static baseline_answer try(baseline_table *table, const candidate *c)
 }
 
 /* Tries each entry of the set once, and takes those out of it that end. Whether one was let in. */
-static bool pass(baseline_table *table, const candidate candidates[SHELF_PLACES], uint64_t *entries,
-                 baseline_arrival *arrival)
+static bool pass(baseline_table *table, const candidate candidates[SHELF_PLACES], uint64_t *entries, baseline_arrival *arrival)
 {
     bool let_in = false;
 

@@ -48,8 +48,8 @@ static bool row_in_form(const baseline_table *table, size_t place)
 {
     const baseline_row *row = &table->rows[place];
 
-    return row->site < table->sites && row->interpreted <= 1 && row->references >> place == 0
-        && references_in_form(table, row) && !held_below(table, place);
+    return row->site < table->sites && row->interpreted <= 1 && row->references >> place == 0 && references_in_form(table, row)
+        && !held_below(table, place);
 }
 
 bool baseline_in_form(const baseline_table *table)

@@ -95,14 +95,14 @@ static gt_requested request(block b, size_t index)
 static bool reads_as(block b, uint8_t site, uint16_t sequence, size_t references, size_t requests)
 {
     gt_reading r = read_block(b);
-    return is(r.answer, 0, 0) && r.fields.site == site && r.fields.sequence == sequence
-        && r.fields.references == references && r.fields.requests == requests;
+    return is(r.answer, 0, 0) && r.fields.site == site && r.fields.sequence == sequence && r.fields.references == references
+        && r.fields.requests == requests;
 }
 
 static bool refused_with_zeros(gt_reading r, uint8_t refusal, size_t value)
 {
-    return is(r.answer, refusal, value) && r.fields.site == 0 && r.fields.sequence == 0
-        && r.fields.references == 0 && r.fields.requests == 0;
+    return is(r.answer, refusal, value) && r.fields.site == 0 && r.fields.sequence == 0 && r.fields.references == 0
+        && r.fields.requests == 0;
 }
 
 static bool request_refused_with_zeros(gt_requested r, uint8_t refusal, size_t value)
@@ -139,12 +139,10 @@ static void check_digest(void)
     check("digest, no output", is(gt_digest(MESSAGE, 3, NULL, 0), 17, 32));
     check("digest, output of 0 bytes", is(gt_digest(MESSAGE, 3, fresh_output(), 0), 17, 32) && untouched_from(0));
     check("digest, output of 31 bytes", is(gt_digest(MESSAGE, 3, fresh_output(), 31), 17, 32) && untouched_from(0));
-    check("digest, output of 32 bytes",
-          is(gt_digest(MESSAGE, 3, fresh_output(), 32), 0, 0) && output_is(abc_digest));
+    check("digest, output of 32 bytes", is(gt_digest(MESSAGE, 3, fresh_output(), 32), 0, 0) && output_is(abc_digest));
     check("digest, output of 40 bytes: the last 8 stay",
           is(gt_digest(MESSAGE, 3, fresh_output(), 40), 0, 0) && output_is(abc_digest));
-    check("digest of no bytes at NULL",
-          is(gt_digest(NULL, 0, fresh_output(), 32), 0, 0) && output_is(empty_digest));
+    check("digest of no bytes at NULL", is(gt_digest(NULL, 0, fresh_output(), 32), 0, 0) && output_is(empty_digest));
     check("digest of no bytes at NULL, no output", is(gt_digest(NULL, 0, NULL, 0), 17, 32));
 }
 
@@ -154,8 +152,7 @@ static void check_reading(void)
     check("reading 4 bytes", refused_with_zeros(read_block((block){.bytes = {1, 0, 2}, .length = 4}), 3, 0));
     check("reading 5 bytes", reads_as(block_of(255, 65535, 0, 0), 255, 65535, 0, 0));
     check("reading a sequence number, high byte first", reads_as(block_of(1, 0x0203, 0, 0), 1, 0x0203, 0, 0));
-    check("reading 541 bytes",
-          block_of(1, 2, 16, 8).length == GT_MAX_BLOCK_BYTES && reads_as(block_of(1, 2, 16, 8), 1, 2, 16, 8));
+    check("reading 541 bytes", block_of(1, 2, 16, 8).length == GT_MAX_BLOCK_BYTES && reads_as(block_of(1, 2, 16, 8), 1, 2, 16, 8));
     block longer = block_of(1, 2, 16, 8);
     longer.length++;
     check("reading 542 bytes", refused_with_zeros(read_block(longer), 3, 0));

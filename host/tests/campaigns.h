@@ -56,10 +56,7 @@ static inline digest digest_of(block b)
     return d;
 }
 
-static inline block referring_to(block b, block other)
-{
-    return with_reference(b, digest_of(other));
-}
+static inline block referring_to(block b, block other) { return with_reference(b, digest_of(other)); }
 
 /* A digest that no block here has: 32 times this byte. */
 static inline digest not_held(uint8_t byte)
@@ -84,15 +81,9 @@ static inline table filled_with(uint8_t byte)
     return t;
 }
 
-static inline bool same(const table *x, const table *y)
-{
-    return memcmp(x->bytes, y->bytes, sizeof x->bytes) == 0;
-}
+static inline bool same(const table *x, const table *y) { return memcmp(x->bytes, y->bytes, sizeof x->bytes) == 0; }
 
-static inline uint8_t *row(table *t, size_t place)
-{
-    return t->bytes + ROWS + ROW_BYTES * place;
-}
+static inline uint8_t *row(table *t, size_t place) { return t->bytes + ROWS + ROW_BYTES * place; }
 
 static const uint8_t lawful[] = {1, 4, 7, 10, 13, 16};
 
@@ -181,9 +172,6 @@ static inline gt_answer admit_of_length(table *t, size_t table_length, block b, 
     return answer;
 }
 
-static inline gt_answer admit(table *t, block b)
-{
-    return admit_of_length(t, GT_TABLE_BYTES, b, 1);
-}
+static inline gt_answer admit(table *t, block b) { return admit_of_length(t, GT_TABLE_BYTES, b, 1); }
 
 #endif

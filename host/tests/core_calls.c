@@ -30,16 +30,12 @@ static bool in_form_of_length(table t, size_t length)
     return answer;
 }
 
-static bool in_form(table t)
-{
-    return in_form_of_length(t, GT_TABLE_BYTES);
-}
+static bool in_form(table t) { return in_form_of_length(t, GT_TABLE_BYTES); }
 
 /* ---- The empty table */
 
 /* Refused into a buffer of other bytes, which stays as it was. */
-static bool fresh_refused(uint8_t sites, const uint8_t *owners, size_t owners_length, size_t table_length,
-                          uint8_t refusal)
+static bool fresh_refused(uint8_t sites, const uint8_t *owners, size_t owners_length, size_t table_length, uint8_t refusal)
 {
     table before = filled_with(UNTOUCHED), t = before;
 
@@ -91,10 +87,7 @@ static void check_fresh(void)
 
 /* ---- Blocks of most checks: n is 4, the first block is of site 0, the second of site 1 refers to it. */
 
-static block first_block(void)
-{
-    return block_of(0, 0);
-}
+static block first_block(void) { return block_of(0, 0); }
 
 static block second_block(void)
 {
@@ -103,10 +96,7 @@ static block second_block(void)
     return with_request(with_request(with_request(b, 7, 0x0102), 0, 65535), 7, 3);
 }
 
-static table with_one_block(void)
-{
-    return with_row(empty_table(4), first_block(), 0);
-}
+static table with_one_block(void) { return with_row(empty_table(4), first_block(), 0); }
 
 static table with_two_blocks(void)
 {
@@ -249,8 +239,7 @@ static bool marks_stay(void)
 static void check_admitted(void)
 {
     check("admission, 5 bytes at place 0", admitted(empty_table(4), first_block(), 0, with_one_block()));
-    check("admission, a reference, and a slot requested twice",
-          admitted(with_one_block(), second_block(), 1, with_two_blocks()));
+    check("admission, a reference, and a slot requested twice", admitted(with_one_block(), second_block(), 1, with_two_blocks()));
     check("admission, a block with its parent", successor_admitted());
     check("admission, 541 bytes", longest_admitted());
     check("admission, marks stay", marks_stay());
@@ -263,10 +252,8 @@ static void check_table_refused(void)
     check("admission, all zeros", refused(t, first_block(), 2, 0));
     check("admission, a table of 0 bytes at NULL", is(gt_admit(NULL, 0, first_block().bytes, 5, 1), 2, 0));
     check("admission, a table of 0 bytes", refused_of_length(empty_table(4), 0, first_block(), 1, 2, 0));
-    check("admission, a table of 3850 bytes",
-          refused_of_length(empty_table(4), GT_TABLE_BYTES - 1, first_block(), 1, 2, 0));
-    check("admission, a table of 3852 bytes",
-          refused_of_length(empty_table(4), GT_TABLE_BYTES + 1, first_block(), 1, 2, 0));
+    check("admission, a table of 3850 bytes", refused_of_length(empty_table(4), GT_TABLE_BYTES - 1, first_block(), 1, 2, 0));
+    check("admission, a table of 3852 bytes", refused_of_length(empty_table(4), GT_TABLE_BYTES + 1, first_block(), 1, 2, 0));
     check("admission, a table whose last mark is 2", refused(changed_at(MARK, 2), block_of(2, 0), 2, 0));
     check("admission: 2 before 3", refused(t, of_length(first_block(), 4), 2, 0));
 }
@@ -303,8 +290,7 @@ static void check_block_refused(void)
     check("admission, verdict 255", refused_under(255, b, 5));
 
     check("admission, slot 8 in request 1", refused(t, with_request(with_request(b, 7, 1), 8, 1), 6, 1));
-    check("admission, number 0 in request 2",
-          refused(t, with_request(with_request(with_request(b, 7, 1), 0, 1), 0, 0), 6, 2));
+    check("admission, number 0 in request 2", refused(t, with_request(with_request(with_request(b, 7, 1), 0, 1), 0, 0), 6, 2));
     check("admission, a reference twice",
           refused(t, referring_to(referring_to(referring_to(b, first_block()), second_block()), first_block()), 7, 2));
 }
@@ -337,10 +323,7 @@ static void check_held_and_references(void)
 }
 
 /* Of the first block's site and sequence number, and another block. */
-static block other_fork(void)
-{
-    return with_request(first_block(), 0, 1);
-}
+static block other_fork(void) { return with_request(first_block(), 0, 1); }
 
 static table with_forks(void)
 {
@@ -358,13 +341,11 @@ static void check_parents(void)
     check("admission, sequence 1 without references", refused(with_two_blocks(), block_of(0, 1), 10, 0));
     check("admission, sequence 1 that refers to another site",
           refused(with_two_blocks(), referring_to(block_of(0, 1), second_block()), 10, 0));
-    check("admission, sequence 2 after 0",
-          refused(with_two_blocks(), referring_to(block_of(0, 2), first_block()), 10, 0));
+    check("admission, sequence 2 after 0", refused(with_two_blocks(), referring_to(block_of(0, 2), first_block()), 10, 0));
     check("admission, sequence 256 after 0", refused(with_two_blocks(), late, 10, 0));
     check("admission, sequence 65535 without references", refused(with_two_blocks(), block_of(0, 65535), 10, 0));
     check("admission, sequence 1 with both forks", refused(with_forks(), referring_to(child, first_block()), 10, 0));
-    check("admission, sequence 1 with one fork",
-          admitted(with_forks(), child, 2, with_row(with_forks(), child, 2)));
+    check("admission, sequence 1 with one fork", admitted(with_forks(), child, 2, with_row(with_forks(), child, 2)));
     check("admission, sequence 0 that refers to its own site",
           admitted(with_two_blocks(), own, 2, with_row(with_two_blocks(), own, 3)));
 }

@@ -25,8 +25,7 @@ static bool write_digest_of(const uint8_t *message, size_t length)
 static bool answer(size_t length)
 {
     uint8_t *message = malloc(length);
-    bool done = (message != NULL || length == 0) && fread(message, 1, length, stdin) == length
-        && write_digest_of(message, length);
+    bool done = (message != NULL || length == 0) && fread(message, 1, length, stdin) == length && write_digest_of(message, length);
 
     free(message);
     return done;

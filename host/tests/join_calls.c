@@ -32,15 +32,9 @@ typedef struct {
     buffer records;
 } side;
 
-static side left_of(table t)
-{
-    return (side){t, of_number(LEFT_NUMBER)};
-}
+static side left_of(table t) { return (side){t, of_number(LEFT_NUMBER)}; }
 
-static side right_of(table t)
-{
-    return (side){t, of_number(RIGHT_NUMBER)};
-}
+static side right_of(table t) { return (side){t, of_number(RIGHT_NUMBER)}; }
 
 /* How much of each buffer is lent. */
 typedef struct {
@@ -126,10 +120,7 @@ static table changed(table t, size_t place, size_t at, uint8_t byte)
 }
 
 /* A block of a site that has no reference. Another number makes another block. */
-static block lone_block(uint8_t site, uint8_t number)
-{
-    return with_request(block_of(site, 0), 3, number);
-}
+static block lone_block(uint8_t site, uint8_t number) { return with_request(block_of(site, 0), 3, number); }
 
 /* The table with lone blocks of a site, from one number to another. */
 static table with_lone(table t, uint8_t site, int first, int last)
@@ -141,10 +132,7 @@ static table with_lone(table t, uint8_t site, int first, int last)
     return t;
 }
 
-static table lone(uint8_t site, int first, int last)
-{
-    return with_lone(empty_table(4), site, first, last);
-}
+static table lone(uint8_t site, int first, int last) { return with_lone(empty_table(4), site, first, last); }
 
 /* ---- 2: a table not in form, and of another length */
 
@@ -164,10 +152,7 @@ static bool right_of_length_refused(size_t length)
     return refused_of_lengths(chain(4, 1), chain(4, 2), l, 2, 0);
 }
 
-static bool nothing_lent(void)
-{
-    return is(gt_join(NULL, 0, NULL, 0, NULL, 0, NULL, 0, NULL, 0), 2, 0);
-}
+static bool nothing_lent(void) { return is(gt_join(NULL, 0, NULL, 0, NULL, 0, NULL, 0, NULL, 0), 2, 0); }
 
 static void check_form(void)
 {
@@ -284,8 +269,8 @@ static bool lowest_left_place(void)
     table left = lone(0, 1, 2), right = with_lone(lone(0, 2, 2), 0, 1, 1);
 
     right = changed(changed(right, 0, SITE, 1), 1, SITE, 1);
-    return refused(left, right, 24, 0) && refused(right, left, 24, 0)
-        && refused(left, changed(right, 1, SITE, 0), 24, 1) && refused(left, changed(right, 0, SITE, 0), 24, 0);
+    return refused(left, right, 24, 0) && refused(right, left, 24, 0) && refused(left, changed(right, 1, SITE, 0), 24, 1)
+        && refused(left, changed(right, 0, SITE, 0), 24, 0);
 }
 
 /* The last of 64 places. */
@@ -315,10 +300,10 @@ static void check_other_fields(void)
     check("equal digests, two other blocks", clashes(first_and_last, 0) && clashes(second_and_last, 1));
     check("equal digests, another request of an interpreted block", refused(marked, changed(marked, 0, REQUESTS, 1), 24, 0));
     check("equal digests, another request and another mark", refused(t, changed(marked, 0, REQUESTS, 1), 24, 0));
-    check("equal digests, references at other places", joined(moved(t), t, moved(t))
-              && joined(t, moved(t), with_lone(t, 3, 200, 200)));
-    check("equal digests, the left's place is named", refused(moved(changed(t, 2, REQUESTS, 1)), t, 24, 3)
-              && refused(t, moved(changed(t, 2, REQUESTS, 1)), 24, 2));
+    check("equal digests, references at other places",
+          joined(moved(t), t, moved(t)) && joined(t, moved(t), with_lone(t, 3, 200, 200)));
+    check("equal digests, the left's place is named",
+          refused(moved(changed(t, 2, REQUESTS, 1)), t, 24, 3) && refused(t, moved(changed(t, 2, REQUESTS, 1)), 24, 2));
     check("equal digests, equal places but other references", refused(moved(t), moved(changed(t, 3, REFERENCES, 5)), 24, 4));
     check("equal digests, the lowest left place", lowest_left_place());
     check("equal digests, the last of 64 places", last_place());
@@ -449,8 +434,8 @@ static void check_table(void)
     check("table, a chain on top of the left's", on_top_of_the_lefts());
     check("table, others between those of a chain", between_others());
     check("table, a block with sixteen references", sixteen_references());
-    check("table, requests and sites of new blocks", joined(lone(3, 255, 255), lone(2, 254, 255),
-                                                            with_lone(lone(3, 255, 255), 2, 254, 255)));
+    check("table, requests and sites of new blocks",
+          joined(lone(3, 255, 255), lone(2, 254, 255), with_lone(lone(3, 255, 255), 2, 254, 255)));
     for (size_t i = 0; i < sizeof lawful / sizeof lawful[0]; i++)
         check_with("table, n", lawful[i], joined(chain(lawful[i], 1), chain(lawful[i], 2), chain(lawful[i], 2)));
     check("table, joined to a third one", a_third_one());

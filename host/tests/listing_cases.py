@@ -154,10 +154,15 @@ ORDER = [
 
 # ---- A full table
 
+def more_blocks(night, count):
+    """So many of site 0, each after the one before."""
+    for _ in range(count):
+        night.site(0)
+
+
 def full_table():
     night = Campaign(4, OWNERS)
-    for _ in range(64):
-        night.site(0)
+    more_blocks(night, 64)
     return night
 
 
@@ -229,6 +234,12 @@ def all_refer(night, sites, blocks):
     return [night.site(site).refers_to(*blocks) for site in sites]
 
 
+def more_rounds(night, sites, blocks, count):
+    """So many rounds of these sites, the first on these blocks and each other one on the round before."""
+    for _ in range(count):
+        blocks = all_refer(night, sites, blocks)
+
+
 def up_to_ready(night, sites):
     """Site 0 requests 42 in slot 0, these sites echo it and get ready for it: the blocks in which they are ready.
 
@@ -245,8 +256,7 @@ def up_to_ready(night, sites):
 def several_slots_in_one_block_the_lower_first():
     night = Campaign(1, [0] * 8)
     night.site(0).requests(65535, slot=7).requests(1, slot=0).requests(256, slot=3)
-    for _ in range(3):
-        night.site(0)
+    more_blocks(night, 3)
     return night
 
 
@@ -263,8 +273,7 @@ def all_slots_in_one_block():
     first = night.site(0)
     for slot in reversed(range(8)):
         first.requests(10000 + slot, slot=slot)
-    for _ in range(3):
-        night.site(0)
+    more_blocks(night, 3)
     return night
 
 
@@ -274,8 +283,7 @@ def two_slots_in_two_blocks():
     night = Campaign(1, [0] * 8)
     night.site(0).requests(7, slot=0)
     night.site(0).requests(9, slot=1)
-    for _ in range(4):
-        night.site(0)
+    more_blocks(night, 4)
     return night
 
 
@@ -283,8 +291,7 @@ def two_slots_in_two_blocks():
 def of_two_requests_in_a_block_the_first_counts():
     night = Campaign(1, [0] * 8)
     night.site(0).requests(5, slot=2).requests(6, slot=2)
-    for _ in range(5):
-        night.site(0)
+    more_blocks(night, 5)
     return night
 
 
@@ -293,19 +300,16 @@ def the_second_request_a_block_later_sends_nothing():
     night = Campaign(1, [0] * 8)
     night.site(0).requests(7, slot=0)
     night.site(0).requests(8, slot=0)
-    for _ in range(5):
-        night.site(0)
+    more_blocks(night, 5)
     return night
 
 
 @lists("12 12 0 12 0 12345 0")
 def a_sequence_number_of_two_digits():
     night = Campaign(1, [0] * 8)
-    for _ in range(9):
-        night.site(0)
+    more_blocks(night, 9)
     night.site(0).requests(12345, slot=0)
-    for _ in range(3):
-        night.site(0)
+    more_blocks(night, 3)
     return night
 
 
@@ -313,11 +317,9 @@ def a_sequence_number_of_two_digits():
        "64 - - - - - 11")
 def the_last_place_delivers():
     night = Campaign(1, [0] * 8)
-    for _ in range(60):
-        night.site(0)
+    more_blocks(night, 60)
     night.site(0).requests(65535, slot=2)
-    for _ in range(4):
-        night.site(0)
+    more_blocks(night, 4)
     return night
 
 
@@ -328,8 +330,7 @@ def arrival_numbers_go_on_where_places_do_not():
     for _ in range(100):
         night.arrives(FIRST, verdict=0)
     night.site(0).requests(7, slot=0)
-    for _ in range(3):
-        night.site(0)
+    more_blocks(night, 3)
     return night
 
 
@@ -357,9 +358,7 @@ def three_sites_of_four():
 @lists()
 def two_sites_of_four_deliver_nothing():
     night = Campaign(4, OWNERS)
-    blocks = up_to_ready(night, range(2))
-    for _ in range(5):
-        blocks = all_refer(night, range(2), blocks)
+    more_rounds(night, range(2), up_to_ready(night, range(2)), 5)
     return night
 
 
@@ -377,9 +376,7 @@ def five_sites_of_seven():
 @lists()
 def four_sites_of_seven_deliver_nothing():
     night = Campaign(7, [0] * 8)
-    blocks = up_to_ready(night, range(4))
-    for _ in range(5):
-        blocks = all_refer(night, range(4), blocks)
+    more_rounds(night, range(4), up_to_ready(night, range(4)), 5)
     return night
 
 
@@ -418,9 +415,7 @@ def two_echoes_make_nobody_ready():
     night = Campaign(4, OWNERS)
     request = night.site(0).requests(42, slot=0)
     echoes = all_refer(night, range(2), [request])
-    blocks = all_refer(night, range(4), echoes)
-    for _ in range(2):
-        blocks = all_refer(night, range(4), blocks)
+    more_rounds(night, range(4), echoes, 3)
     return night
 
 
@@ -430,9 +425,7 @@ def one_that_is_ready_makes_nobody_ready():
     request = night.site(0).requests(42, slot=0)
     echoes = all_refer(night, range(3), [request])
     ready = night.site(0).refers_to(*echoes)
-    blocks = [ready]
-    for _ in range(3):
-        blocks = all_refer(night, range(1, 4), blocks)
+    more_rounds(night, range(1, 4), [ready], 3)
     return night
 
 
@@ -459,9 +452,8 @@ def a_site_is_ready_once():
 def the_second_request_is_not_sent_to_sites_that_missed_the_first():
     night = Campaign(4, OWNERS)
     night.site(0).requests(42, slot=0)
-    blocks = [night.site(0).requests(43, slot=0)]
-    for _ in range(4):
-        blocks = all_refer(night, range(1, 4), blocks)
+    second = night.site(0).requests(43, slot=0)
+    more_rounds(night, range(1, 4), [second], 4)
     return night
 
 
@@ -469,9 +461,7 @@ def the_second_request_is_not_sent_to_sites_that_missed_the_first():
 def a_request_by_another_site_than_the_owner():
     night = Campaign(4, [0] * 8)
     request = night.site(1).requests(42, slot=0)
-    blocks = [request]
-    for _ in range(4):
-        blocks = all_refer(night, range(4), blocks)
+    more_rounds(night, range(4), [request], 4)
     return night
 
 

@@ -32,15 +32,9 @@ static inline void put_interpretation(list *l, uint64_t place)
     put_word(l, place);
 }
 
-static inline void put_retiring(list *l)
-{
-    l->bytes[l->length++] = 2;
-}
+static inline void put_retiring(list *l) { l->bytes[l->length++] = 2; }
 
-static inline void put_taking_back(list *l)
-{
-    l->bytes[l->length++] = 3;
-}
+static inline void put_taking_back(list *l) { l->bytes[l->length++] = 3; }
 
 /* Replays the first bytes of a list, on exact copies, and gives how many calls ran. What the calls left is put back. */
 static inline size_t replay(table *t, buffer *b, const list *l, size_t length, uint64_t *answers, size_t answers_length)

@@ -41,6 +41,7 @@ typedef struct {
     size_t count;
 } campaign;
 
+/* clang-format off */
 #define NO_REQUEST {0, 0}
 #define MARKED {1, 5} /* a request in slot 1, which makes another block and is no matter to slot 0 */
 #define TO_NOTHING {0, {0}}
@@ -60,15 +61,13 @@ typedef struct {
 #define ECHOED \
     [0] = {0, 0, {0, 42}, TO_NOTHING, SENDS(42)}, [1] = {0, 1, NO_REQUEST, TO(0), ECHOES(42)}, \
     [2] = {1, 0, NO_REQUEST, TO(0), ECHOES(42)}, [3] = {2, 0, NO_REQUEST, TO(0), ECHOES(42)}
+/* clang-format on */
 
 /* An array of steps, as pointer and count. */
 #define OF(steps) steps, sizeof steps / sizeof steps[0]
 
 /* The slot is 0, and site 0 owns it and all others. */
-static campaign of_sites(uint8_t sites, const step *steps, size_t count)
-{
-    return (campaign){sites, {0}, 0, steps, count};
-}
+static campaign of_sites(uint8_t sites, const step *steps, size_t count) { return (campaign){sites, {0}, 0, steps, count}; }
 
 /* ---- Running them */
 
@@ -138,6 +137,7 @@ static bool leaves(campaign c, size_t place, size_t slot, const uint16_t numbers
 
 /* ---- ProcessCases, by the names that the rows have there */
 
+/* clang-format off */
 static const step later_request[] = {
     [0] = {0, 0, NO_REQUEST, TO_NOTHING, NOTHING},
     [1] = {0, 1, {0, 42}, TO(0), SENDS(42)},
@@ -313,34 +313,29 @@ static const step owner_of_slot[] = {
     [0] = {1, 0, {1, 43}, TO_NOTHING, SENDS(43)},
     [1] = {2, 0, NO_REQUEST, TO(0), ECHOES(43)},
 };
+/* clang-format on */
 
 static void check_process(void)
 {
     check("a request in the owner's second block: SEND", goes(of_sites(4, OF(later_request))));
     check("a request after the owner has sent ECHO and heard it: SEND", goes(of_sites(4, OF(request_after_echo))));
-    check("n 4, ECHO of two sites and READY of a third: no READY, no delivery",
-          goes(of_sites(4, OF(echoes_and_ready))));
+    check("n 4, ECHO of two sites and READY of a third: no READY, no delivery", goes(of_sites(4, OF(echoes_and_ready))));
     check("n 4, READY of a site, then ECHO of two others: no READY; then ECHO of that site: READY",
           goes(of_sites(4, OF(ready_then_echoes))));
     check("n 4, READY of two sites and ECHO of a third: READY, no delivery", goes(of_sites(4, OF(readies_and_echo))));
     check("n 7, READY of three sites and ECHO of two others: READY; then ECHO of two more: no delivery",
           goes(of_sites(7, OF(readies_then_echoes))));
-    check("a second READY of a site, of another number: not noted, and the first stays",
-          goes(of_sites(4, OF(other_ready))));
+    check("a second READY of a site, of another number: not noted, and the first stays", goes(of_sites(4, OF(other_ready))));
     check("n 1, one READY heard: READY and delivery in one block", goes(of_sites(1, OF(ready_and_delivery))));
     check("an own block other than the parent: heard, with a parent and without", goes(of_sites(1, OF(own_other))));
-    check("ECHOs of another number than the site's own ECHO: READY of theirs",
-          goes(of_sites(4, OF(ready_for_another))));
+    check("ECHOs of another number than the site's own ECHO: READY of theirs", goes(of_sites(4, OF(ready_for_another))));
     check("READYs of another number than the site's own ECHO: READY of theirs, then delivery",
           goes(of_sites(4, OF(delivered_for_another))));
-    check("READYs of another number than the site's own READY: delivery of theirs",
-          goes(of_sites(4, OF(other_delivered))));
+    check("READYs of another number than the site's own READY: delivery of theirs", goes(of_sites(4, OF(other_delivered))));
     check("SEND heard after the site's own READY: ECHO, beside the delivery", goes(of_sites(4, OF(echo_after_ready))));
     check("SEND heard after the delivery: ECHO", goes(of_sites(4, OF(echo_after_delivery))));
-    check("SEND heard after three ECHOs: ECHO; then a fourth ECHO: no second READY",
-          goes(of_sites(4, OF(echo_after_echoes))));
-    check("a block of another site, one number less and listed first: no parent",
-          goes(of_sites(4, OF(parent_of_site))));
+    check("SEND heard after three ECHOs: ECHO; then a fourth ECHO: no second READY", goes(of_sites(4, OF(echo_after_echoes))));
+    check("a block of another site, one number less and listed first: no parent", goes(of_sites(4, OF(parent_of_site))));
     check("a block of sequence number 0 on one of its own site: no parent, so SEND and ECHO, and both are heard",
           goes(of_sites(4, OF(without_parent))));
     check("ECHO and READY of one block: both are heard", goes(of_sites(4, OF(both_heard))));
@@ -350,6 +345,7 @@ static void check_process(void)
 
 /* ---- RecordCases. No place of a number is taken from the headers: those here are the rows' own. */
 
+/* clang-format off */
 static const step chain_of_four[] = {
     [0] = {0, 0, {0, 7}, TO_NOTHING, SENDS(7)},
     [1] = {0, 1, NO_REQUEST, TO(0), ECHOES(7)},
@@ -373,6 +369,7 @@ static const step in_slot_five[] = {
     [0] = {0, 0, {0, 42}, TO_NOTHING, NOTHING},
     [1] = {1, 0, {5, 45}, TO_NOTHING, SENDS(45)},
 };
+/* clang-format on */
 
 static void check_records(void)
 {
@@ -391,8 +388,7 @@ static void check_records(void)
     check("the 40 numbers where ECHO and READY of two numbers are heard, from each site",
           leaves(of_sites(4, OF(mixed)), 11, 0,
                  (uint16_t[40]){0, 43, 42, 0, [4] = 42, 42, 42, 43, [20] = 0, 43, 42, 0, [36] = 0, 0, 42, 0}));
-    check("the 40 numbers of slot 5 at place 1",
-          leaves(shared_out, 1, 5, (uint16_t[40]){45, 0, 0, 0, [36] = 45, 0, 0, 0}));
+    check("the 40 numbers of slot 5 at place 1", leaves(shared_out, 1, 5, (uint16_t[40]){45, 0, 0, 0, [36] = 45, 0, 0, 0}));
     check("the 40 numbers of slot 1 there, of the same owner: zeros", leaves(shared_out, 1, 1, (uint16_t[40]){0}));
 }
 

@@ -1,15 +1,12 @@
 """Runs the programs under test, and compares what they write."""
 
+import os
 import subprocess
 from pathlib import Path
 
 ROOT = Path(__file__).resolve().parents[2]
 BUILT = ROOT / "target" / "host"
-(DOME, DIGESTS, CALLS, CORE_CALLS, RECORD_CALLS, PROCESS_CALLS, WATCH_CALLS, SHELF_CALLS, JOIN_CALLS, RETIRE_CALLS,
- TAKE_BACK_CALLS, ONE_SITE, TWO_CAMPAIGNS, TWO_CONTROLLERS, LONG_CAMPAIGN, WRONG_CAMPAIGN) = (
-    str(BUILT / name) for name in ("dome", "digests", "calls", "core_calls", "record_calls", "process_calls", "watch_calls",
-                                   "shelf_calls", "join_calls", "retire_calls", "take_back_calls", "one_site", "two_campaigns",
-                                   "two_controllers", "long_campaign", "wrong_campaign"))
+DOME = str(BUILT / "dome")
 LISTING = str(ROOT / "target" / "bin" / "listing")
 HARNESS = str(ROOT / "target" / "harness" / "release" / "harness")
 VALGRIND_ERROR = 99
@@ -47,9 +44,20 @@ def output_of(command, data=b""):
     return ended.stdout.decode("ascii")
 
 
-def expect_all_ok(program):
-    """Runs a program that writes a line for each of its checks."""
-    ended = run([program])
+def make(*words, unset=()):
+    """Runs make in the repository. Flags of a make around this one aren't meant for it, nor are these variables."""
+    environment = {name: value for name, value in os.environ.items() if name not in ("MAKEFLAGS", "MFLAGS", *unset)}
+    return run(["make", "-C", str(ROOT), "--no-print-directory", *words], env=environment)
+
+
+def program(name):
+    """The path of a test program or an example."""
+    return str(BUILT / name)
+
+
+def expect_all_ok(name):
+    """Runs a test program that writes a line for each of its checks."""
+    ended = run([program(name)])
     lines = ended.stdout.decode("ascii").splitlines()
     failed = [line for line in lines if not line.endswith(": ok")]
     expect(lines and not failed and ended.returncode == 0,
@@ -69,4 +77,4 @@ def listing(stream, under=()):
 def digests(messages, under=()):
     """The library's digest of each message, in hexadecimal digits."""
     frames = b"".join(len(message).to_bytes(4, "big") + message for message in messages)
-    return output_of([*under, DIGESTS], frames).splitlines()
+    return output_of([*under, program("digests")], frames).splitlines()

@@ -49,9 +49,8 @@ static bool chain_interpreted(uint16_t content)
     }
     rest = of_number(content);
     memcpy(rest.numbers, b.numbers, 2 * 4 * GT_PART_NUMBERS);
-    return same_numbers(&b, &rest) && made(&b, 0, 0, 7, 0, 0, 0) && made(&b, 1, 0, 0, 7, 0, 0)
-        && made(&b, 2, 0, 0, 0, 7, 0) && made(&b, 3, 0, 0, 0, 0, 7) && record_of(&b, 3, 0)[DELIVERED] == 7
-        && made(&b, 3, 7, 0, 0, 0, 0);
+    return same_numbers(&b, &rest) && made(&b, 0, 0, 7, 0, 0, 0) && made(&b, 1, 0, 0, 7, 0, 0) && made(&b, 2, 0, 0, 0, 7, 0)
+        && made(&b, 3, 0, 0, 0, 0, 7) && record_of(&b, 3, 0)[DELIVERED] == 7 && made(&b, 3, 7, 0, 0, 0, 0);
 }
 
 static void check_interpreted(void)
@@ -67,8 +66,7 @@ static void check_refused(void)
 
     row(&marked, 0)[MARK] = 1;
     check("interpretation, all zeros", refused(unlawful, 0, 2, 0));
-    check("interpretation, a table of 3850 bytes",
-          refused_of_length(t, GT_TABLE_BYTES - 1, 0, GT_RECORDS_NUMBERS, 2, 0));
+    check("interpretation, a table of 3850 bytes", refused_of_length(t, GT_TABLE_BYTES - 1, 0, GT_RECORDS_NUMBERS, 2, 0));
     check("interpretation, a table of 0 bytes at NULL", is(gt_interpret(NULL, 0, 0, &none, 1), 2, 0));
     check("interpretation, 20479 numbers", refused_of_length(t, GT_TABLE_BYTES, 0, GT_RECORDS_NUMBERS - 1, 12, 0));
     check("interpretation, 20481 numbers", refused_of_length(t, GT_TABLE_BYTES, 0, GT_RECORDS_NUMBERS + 1, 12, 0));
@@ -107,8 +105,8 @@ static list chain_list(void)
 enum { CALLS = 15, UNTOUCHED = 99 };
 
 /* What the calls of chain_list are answered: refusal and value of each. */
-static const uint64_t chain_answers[2 * CALLS] = {13, 0, 9, 0, 5, 0, 0, 0, 0, 0, 5, 0, 0, 1, 0, 0, 5,
-                                                  0, 0, 2, 0, 0, 5, 0, 0, 3, 0, 0, 13, 0};
+static const uint64_t chain_answers[2 * CALLS] = {13, 0, 9, 0, 5, 0, 0, 0, 0, 0, 5, 0, 0, 1,  0,
+                                                  0,  5, 0, 0, 2, 0, 0, 5, 0, 0, 3, 0, 0, 13, 0};
 
 /* The answers that fit are there, and the elements after them stay. */
 static bool answers_put(size_t answers_length)
@@ -140,9 +138,7 @@ static bool cut_anywhere(void)
         if (length == next) {
             at = next;
             calls++;
-            next = at == l.length                ? SIZE_MAX
-                : l.bytes[at] == 1               ? at + 9
-                                                 : at + 10 + l.bytes[at + 2] + 256u * l.bytes[at + 3];
+            next = at == l.length ? SIZE_MAX : l.bytes[at] == 1 ? at + 9 : at + 10 + l.bytes[at + 2] + 256u * l.bytes[at + 3];
         }
         if (replay(&t, &b, &l, length, NULL, 0) != calls)
             return false;

@@ -34,8 +34,7 @@ static inline uint16_t *record_of(buffer *b, size_t place, size_t slot)
     return b->numbers + GT_PART_NUMBERS * place + GT_RECORD_NUMBERS * slot;
 }
 
-static inline bool made(buffer *b, size_t place, size_t slot, uint16_t send, uint16_t echo, uint16_t ready,
-                        uint16_t delivery)
+static inline bool made(buffer *b, size_t place, size_t slot, uint16_t send, uint16_t echo, uint16_t ready, uint16_t delivery)
 {
     return memcmp(record_of(b, place, slot) + MADE, (uint16_t[]){send, echo, ready, delivery}, 8) == 0;
 }

@@ -31,10 +31,7 @@ static bool refused_of_lengths(table t, size_t bytes, size_t numbers, uint8_t re
     return is(retire_of_lengths(&s, bytes, numbers), refusal, 0) && same_side(&s, &before);
 }
 
-static bool refused(table t, uint8_t refusal)
-{
-    return refused_of_lengths(t, GT_TABLE_BYTES, GT_RECORDS_NUMBERS, refusal);
-}
+static bool refused(table t, uint8_t refusal) { return refused_of_lengths(t, GT_TABLE_BYTES, GT_RECORDS_NUMBERS, refusal); }
 
 /* Retired to this table; the parts of all places that are left moved down by one, and the others stay. */
 static bool retired(table t, table wanted)
@@ -99,10 +96,7 @@ static table without_first(table t)
 }
 
 /* Two blocks of site 0, and one of site 1 that refers to the first of them. */
-static table three_blocks(void)
-{
-    return with_row(chain(4, 2), referring_to(block_of(1, 0), block_of(0, 0)), 1);
-}
+static table three_blocks(void) { return with_row(chain(4, 2), referring_to(block_of(1, 0), block_of(0, 0)), 1); }
 
 /* ---- 2: a table not in form, and of another length */
 
@@ -178,15 +172,9 @@ static table twins_alone(void)
 }
 
 /* On the second of the twins a block of sequence number 1 stands. */
-static block child_of_twin(void)
-{
-    return referring_to(block_of(0, 1), twin_block());
-}
+static block child_of_twin(void) { return referring_to(block_of(0, 1), twin_block()); }
 
-static table twins_and_child(void)
-{
-    return with_row(twins_alone(), child_of_twin(), 2);
-}
+static table twins_and_child(void) { return with_row(twins_alone(), child_of_twin(), 2); }
 
 /* A block of site 0 and two of site 1, of which the second has a greater sequence number. */
 static table of_another_site(void)
@@ -222,12 +210,12 @@ static void check_causes(void)
     check("29, a later block that is not interpreted", refused(interpreted(twins, 3), 29));
     check("29, a lower sequence number alone", refused(with_sequence(far, 1, 4), 29));
     check("29, the same sequence number alone", refused(with_sequence(far, 1, 5), 29));
-    check("29, the next sequence number: retired",
-          retired(with_sequence(far, 1, 6), without_first(with_sequence(far, 1, 6))));
+    check("29, the next sequence number: retired", retired(with_sequence(far, 1, 6), without_first(with_sequence(far, 1, 6))));
     check("29, a far one: retired", retired(with_sequence(far, 1, 65535), without_first(with_sequence(far, 1, 65535))));
     check("29, a greater low byte alone", refused(with_sequence(with_sequence(far, 0, 256), 1, 255), 29));
-    check("29, a greater high byte: retired", retired(with_sequence(with_sequence(far, 0, 255), 1, 256),
-                                                      without_first(with_sequence(with_sequence(far, 0, 255), 1, 256))));
+    check("29, a greater high byte: retired",
+          retired(with_sequence(with_sequence(far, 0, 255), 1, 256),
+                  without_first(with_sequence(with_sequence(far, 0, 255), 1, 256))));
 }
 
 /* ---- The order of the checks, by two causes each */
@@ -266,7 +254,8 @@ static bool down_to_one(uint16_t blocks)
             return false;
         if (memcmp(s.records.numbers, before.numbers + GT_PART_NUMBERS, 2 * GT_PART_NUMBERS * left) != 0
             || memcmp(s.records.numbers + GT_PART_NUMBERS * left, before.numbers + GT_PART_NUMBERS * left,
-                      2 * GT_PART_NUMBERS * (GT_MAX_PLACES - left)) != 0)
+                      2 * GT_PART_NUMBERS * (GT_MAX_PLACES - left))
+                != 0)
             return false;
     }
     return is(retire(&s), 29, 0);
@@ -347,10 +336,7 @@ static void check_chain(void)
 /* ---- Blocks that have left, and those that refer to them */
 
 /* Three of the chain, of which the first was retired. */
-static side after_one(void)
-{
-    return example(3, 2);
-}
+static side after_one(void) { return example(3, 2); }
 
 /* A block that refers to the one that left: refused with 9 and its index, until that comes again. */
 static bool refers_to_lost(void)
@@ -436,10 +422,7 @@ static void check_gone(void)
 /* ---- 30: building past the last sequence number */
 
 /* A table of a single block of site 0 at this sequence number, whose parent has left. */
-static table at_sequence(uint16_t sequence)
-{
-    return with_sequence(having_retired(whole(chain(4, 1)), 1), 0, sequence);
-}
+static table at_sequence(uint16_t sequence) { return with_sequence(having_retired(whole(chain(4, 1)), 1), 0, sequence); }
 
 static gt_answer build(table t, uint8_t site, size_t requests_length, uint8_t *output, size_t output_length)
 {
@@ -483,8 +466,9 @@ static void check_last_sequence(void)
     check("30, at 65,535", not_built(last, 0, 0, most, 30, 0));
     check("30, at 255 and 65,280", builds(at_sequence(255), 0, 256, 37) && builds(at_sequence(65280), 0, 65281, 37));
     check("30, another site builds on it", builds(last, 1, 0, 37));
-    check("30, of a block that is not interpreted", not_built(interpreted(with_row(at_sequence(65534),
-              referring_to(block_of(0, 65535), block_of(0, 0)), 1), 1), 0, 0, most, 30, 0));
+    check("30, of a block that is not interpreted",
+          not_built(interpreted(with_row(at_sequence(65534), referring_to(block_of(0, 65535), block_of(0, 0)), 1), 1), 0, 0, most,
+                    30, 0));
     check("building: 2 before 30", not_built(having_retired(last, 2), 0, 0, most, 2, 0));
     check("building: 4 before 30", not_built(last, 4, 0, most, 4, 0));
     check("building: 3 before 30", not_built(last, 0, 25, most, 3, 0));
@@ -548,8 +532,8 @@ static void check_joined(void)
 enum { CALLS = 16 };
 
 /* What the calls of the list below are answered: refusal and value of each. */
-static const uint64_t wanted_answers[2 * CALLS] = {13, 0, 0, 0, 29, 0, 0, 0, 29, 0, 0, 1, 29, 0, 0, 0,
-                                                   0, 0, 29, 0, 9, 1, 0, 1, 29, 0, 0, 0, 29, 0, 8, 0};
+static const uint64_t wanted_answers[2 * CALLS] = {13, 0, 0,  0, 29, 0, 0, 0, 29, 0, 0, 1, 29, 0, 0, 0,
+                                                   0,  0, 29, 0, 9,  1, 0, 1, 29, 0, 0, 0, 29, 0, 8, 0};
 
 static list with_retirings(void)
 {
@@ -607,8 +591,7 @@ static bool single_bytes(void)
     retire(&wanted);
     retire(&wanted);
     return replay(&s.table, &s.records, &l, l.length, answers, 10) == 3 && same_side(&s, &wanted) && answers[0] == 0
-        && answers[2] == 0 && answers[4] == 29 && answers[6] == UNTOUCHED
-        && replay(&s.table, &s.records, &l, 1, answers, 0) == 1;
+        && answers[2] == 0 && answers[4] == 29 && answers[6] == UNTOUCHED && replay(&s.table, &s.records, &l, 1, answers, 0) == 1;
 }
 
 static void check_replay(void)

@@ -22,10 +22,7 @@ typedef struct {
 
 static const shelf empty_shelf;
 
-static uint8_t *entry(shelf *s, size_t place)
-{
-    return s->bytes + ENTRIES + ENTRY_BYTES * place;
-}
+static uint8_t *entry(shelf *s, size_t place) { return s->bytes + ENTRIES + ENTRY_BYTES * place; }
 
 /* The shelf with one waiting block more, as the layout has it. */
 static shelf with_waiting(shelf s, uint8_t campaign, block b)
@@ -40,10 +37,7 @@ static shelf with_waiting(shelf s, uint8_t campaign, block b)
 }
 
 /* A block that refers to one that nobody has. Another number makes another block. */
-static block lost_block(uint16_t number)
-{
-    return with_request(with_reference(block_of(0, 0), not_held(1)), 0, number);
-}
+static block lost_block(uint16_t number) { return with_request(with_reference(block_of(0, 0), not_held(1)), 0, number); }
 
 /* One of 541 bytes: its entry has no byte behind it. */
 static block longest_lost_block(uint16_t number)
@@ -97,10 +91,7 @@ static state state_of(table t, shelf s)
     return made;
 }
 
-static bool same_shelf(const shelf *x, const shelf *y)
-{
-    return memcmp(x->bytes, y->bytes, sizeof x->bytes) == 0;
-}
+static bool same_shelf(const shelf *x, const shelf *y) { return memcmp(x->bytes, y->bytes, sizeof x->bytes) == 0; }
 
 static bool same_state(const state *x, const state *y)
 {
@@ -144,10 +135,7 @@ static bool refused_with(state s, uint8_t campaign, block b, uint8_t refusal, si
     return refused_of_lengths(s, right, campaign, b, 1, refusal, value);
 }
 
-static bool refused(state s, uint8_t campaign, block b, uint8_t refusal)
-{
-    return refused_with(s, campaign, b, refusal, 0);
-}
+static bool refused(state s, uint8_t campaign, block b, uint8_t refusal) { return refused_with(s, campaign, b, refusal, 0); }
 
 /* Answered 9: the block stands behind what waits already, and nothing else has changed. */
 static bool waits(state s, uint8_t campaign, block b, size_t index)
@@ -184,15 +172,9 @@ static bool admitted(state s, uint8_t campaign, block b, outcomes ended, table t
 
 /* ---- Blocks and tables of most checks: n is 4, the first block is of site 0, and others of sequence number 0 refer to it. */
 
-static block first_block(void)
-{
-    return block_of(0, 0);
-}
+static block first_block(void) { return block_of(0, 0); }
 
-static block child_of(uint8_t site)
-{
-    return referring_to(block_of(site, 0), first_block());
-}
+static block child_of(uint8_t site) { return referring_to(block_of(site, 0), first_block()); }
 
 /* ---- Before admission: 21, 17, 2 */
 
@@ -346,32 +328,17 @@ static void check_same_bytes(void)
 
 /* ---- The shelf rule */
 
-static size_t lack(size_t held)
-{
-    return held < GT_SHELF_RESERVED ? GT_SHELF_RESERVED - held : 0;
-}
+static size_t lack(size_t held) { return held < GT_SHELF_RESERVED ? GT_SHELF_RESERVED - held : 0; }
 
 /* What all campaigns lack of their two places. */
-static size_t lack_of_all(holders held)
-{
-    return lack(held.of[0]) + lack(held.of[1]) + lack(held.of[2]) + lack(held.of[3]);
-}
+static size_t lack_of_all(holders held) { return lack(held.of[0]) + lack(held.of[1]) + lack(held.of[2]) + lack(held.of[3]); }
 
-static size_t sum(holders held)
-{
-    return held.of[0] + held.of[1] + held.of[2] + held.of[3];
-}
+static size_t sum(holders held) { return held.of[0] + held.of[1] + held.of[2] + held.of[3]; }
 
-static state with_holders(holders held)
-{
-    return state_of(empty_table(4), shelf_of(held, lost_block));
-}
+static state with_holders(holders held) { return state_of(empty_table(4), shelf_of(held, lost_block)); }
 
 /* A further block of a campaign is taken, or gets 19. */
-static bool takes(size_t campaign, holders held)
-{
-    return waits(with_holders(held), (uint8_t)campaign, lost_block(ANOTHER), 0);
-}
+static bool takes(size_t campaign, holders held) { return waits(with_holders(held), (uint8_t)campaign, lost_block(ANOTHER), 0); }
 
 static bool gets_19(size_t campaign, holders held)
 {
@@ -518,17 +485,14 @@ static void check_let_in(void)
     check("let in, nothing is ready", nothing_ready());
     /* What it waited for is held already, and any admission has it tried. */
     check("let in, by an admission of another block",
-          admitted(state_of(chain(4, 1), with_waiting(empty_shelf, 0, child_of(1))), 0, block_of(2, 0),
-                   (outcomes){1, {0, 2}}, with_row(with_row(chain(4, 1), block_of(2, 0), 0), child_of(1), 1), empty_shelf));
+          admitted(state_of(chain(4, 1), with_waiting(empty_shelf, 0, child_of(1))), 0, block_of(2, 0), (outcomes){1, {0, 2}},
+                   with_row(with_row(chain(4, 1), block_of(2, 0), 0), child_of(1), 1), empty_shelf));
 }
 
 /* ---- Blocks dropped */
 
 /* Of site 1 and sequence number 1, and it refers to the first block alone: it has no parent. */
-static block orphan(void)
-{
-    return referring_to(block_of(1, 1), first_block());
-}
+static block orphan(void) { return referring_to(block_of(1, 1), first_block()); }
 
 /* The block itself arrives while it waits: the waiting one is then held. */
 static bool arrives_while_waiting(void)
@@ -550,8 +514,8 @@ static bool held_meanwhile(void)
 
 static bool parent_missing(void)
 {
-    return admitted(state_of(empty_table(4), with_waiting(empty_shelf, 0, orphan())), 0, first_block(),
-                    (outcomes){1, {10, 0}}, chain(4, 1), empty_shelf);
+    return admitted(state_of(empty_table(4), with_waiting(empty_shelf, 0, orphan())), 0, first_block(), (outcomes){1, {10, 0}},
+                    chain(4, 1), empty_shelf);
 }
 
 /* Arrivals put no such block on a shelf, but its form allows it. */
@@ -628,10 +592,7 @@ static bool in_form_of_length(shelf s, size_t length)
     return answer;
 }
 
-static bool in_form(shelf s)
-{
-    return in_form_of_length(s, GT_SHELF_BYTES);
-}
+static bool in_form(shelf s) { return in_form_of_length(s, GT_SHELF_BYTES); }
 
 /* Two blocks wait; one byte of the shelf is changed. */
 static shelf changed_at(size_t offset, uint8_t byte)
@@ -658,10 +619,7 @@ static shelf with_length(size_t place, uint16_t length)
     return s;
 }
 
-static shelf of_block(block b)
-{
-    return with_waiting(empty_shelf, 0, b);
-}
+static shelf of_block(block b) { return with_waiting(empty_shelf, 0, b); }
 
 /* No campaign above 10, and the free places cover what is lacking: for every number of places held, in falling order. */
 static bool places_in_form(void)

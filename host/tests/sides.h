@@ -14,10 +14,7 @@ typedef struct {
     buffer records;
 } side;
 
-static inline side fresh_side(uint8_t sites)
-{
-    return (side){empty_table(sites), of_number(UNTOUCHED)};
-}
+static inline side fresh_side(uint8_t sites) { return (side){empty_table(sites), of_number(UNTOUCHED)}; }
 
 static inline bool same_side(const side *x, const side *y)
 {
@@ -43,10 +40,7 @@ static inline gt_answer retire_of_lengths(side *s, size_t bytes, size_t numbers)
     return answer;
 }
 
-static inline gt_answer retire(side *s)
-{
-    return retire_of_lengths(s, GT_TABLE_BYTES, GT_RECORDS_NUMBERS);
-}
+static inline gt_answer retire(side *s) { return retire_of_lengths(s, GT_TABLE_BYTES, GT_RECORDS_NUMBERS); }
 
 /* ---- Tables */
 
@@ -72,9 +66,6 @@ static inline table whole(table t)
 
 /* ---- A fork: another block of site 0 with sequence number 0 */
 
-static inline block twin_block(void)
-{
-    return with_request(block_of(0, 0), 3, 7);
-}
+static inline block twin_block(void) { return with_request(block_of(0, 0), 3, 7); }
 
 #endif

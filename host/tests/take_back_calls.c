@@ -19,10 +19,7 @@ static gt_answer take_back_of_length(table *t, size_t length)
     return answer;
 }
 
-static gt_answer take_back(table *t)
-{
-    return take_back_of_length(t, GT_TABLE_BYTES);
-}
+static gt_answer take_back(table *t) { return take_back_of_length(t, GT_TABLE_BYTES); }
 
 /* Refused, with nothing changed. */
 static bool refused_of_length(table t, size_t length, uint8_t refusal)
@@ -32,16 +29,10 @@ static bool refused_of_length(table t, size_t length, uint8_t refusal)
     return is(take_back_of_length(&t, length), refusal, 0) && same(&t, &before);
 }
 
-static bool refused(table t, uint8_t refusal)
-{
-    return refused_of_length(t, GT_TABLE_BYTES, refusal);
-}
+static bool refused(table t, uint8_t refusal) { return refused_of_length(t, GT_TABLE_BYTES, refusal); }
 
 /* Taken back to this table. */
-static bool taken_back(table t, table wanted)
-{
-    return is(take_back(&t), 0, 0) && same(&t, &wanted);
-}
+static bool taken_back(table t, table wanted) { return is(take_back(&t), 0, 0) && same(&t, &wanted); }
 
 /* ---- 2: a table not in form, and of another length */
 
@@ -71,10 +62,7 @@ static void check_form(void)
 /* ---- 32, 33, and the order of the checks */
 
 /* Two blocks that do not refer to each other; these places are interpreted. */
-static table twins(uint64_t places)
-{
-    return interpreted(with_row(chain(4, 1), twin_block(), 0), places);
-}
+static table twins(uint64_t places) { return interpreted(with_row(chain(4, 1), twin_block(), 0), places); }
 
 static void check_refused(void)
 {
@@ -137,8 +125,8 @@ static bool undone_after_a_retiring(void)
 {
     side s = fresh_side(1);
 
-    return hold(&s, example_block(0), 0) && hold(&s, example_block(1), 1) && is(retire(&s), 0, 0)
-        && s.table.bytes[RETIRED] == 1 && undone(s.table, example_block(2));
+    return hold(&s, example_block(0), 0) && hold(&s, example_block(1), 1) && is(retire(&s), 0, 0) && s.table.bytes[RETIRED] == 1
+        && undone(s.table, example_block(2));
 }
 
 /* Each table on the way down is the one on the way up, and the last is the fresh one. */
@@ -201,8 +189,7 @@ static bool referred_to(void)
     table t = chain(4, 2);
     block b = referring_to(referring_to(block_of(1, 0), chain_block(0)), chain_block(1));
 
-    return is(take_back(&t), 0, 0) && is(admit(&t, b), 9, 1) && is(admit(&t, chain_block(1)), 0, 1)
-        && is(admit(&t, b), 0, 2);
+    return is(take_back(&t), 0, 0) && is(admit(&t, b), 9, 1) && is(admit(&t, chain_block(1)), 0, 1) && is(admit(&t, b), 0, 2);
 }
 
 /* At each place a wrong block comes first: table and records go on as if it had never come. */
@@ -226,10 +213,7 @@ static block built(const table *t, uint8_t site)
     return b;
 }
 
-static bool same_block(block x, block y)
-{
-    return x.length == y.length && memcmp(x.bytes, y.bytes, x.length) == 0;
-}
+static bool same_block(block x, block y) { return x.length == y.length && memcmp(x.bytes, y.bytes, x.length) == 0; }
 
 /* While a site's block is held, that site builds the next one and the others refer to it; then all build what they built
  * before. */
@@ -246,10 +230,7 @@ static bool builds_as_before(void)
     return as_before;
 }
 
-static uint32_t forked_sites(const table *t)
-{
-    return gt_forks(t->bytes, GT_TABLE_BYTES).count;
-}
+static uint32_t forked_sites(const table *t) { return gt_forks(t->bytes, GT_TABLE_BYTES).count; }
 
 static bool fork_undone(void)
 {
@@ -341,11 +322,11 @@ typedef struct {
 } call;
 
 static const call calls[] = {
-    {TAKING_BACK, 0, {32, 0}}, {ADMISSION, 0, {0, 0}},   {TAKING_BACK, 0, {0, 0}},    {TAKING_BACK, 0, {32, 0}},
-    {ADMISSION, 1, {9, 0}},    {ADMISSION, 0, {0, 0}},   {INTERPRETATION, 0, {0, 0}}, {TAKING_BACK, 0, {33, 0}},
-    {ADMISSION, 1, {0, 1}},    {TAKING_BACK, 0, {0, 0}}, {TAKING_BACK, 0, {33, 0}},   {ADMISSION, 1, {0, 1}},
-    {RETIRING, 0, {29, 0}},    {ADMISSION, 2, {0, 2}},   {INTERPRETATION, 1, {0, 0}}, {RETIRING, 0, {0, 0}},
-    {TAKING_BACK, 0, {0, 0}},  {RETIRING, 0, {29, 0}},   {TAKING_BACK, 0, {33, 0}},   {ADMISSION, 2, {0, 1}},
+    {TAKING_BACK, 0, {32, 0}},   {ADMISSION, 0, {0, 0}},   {TAKING_BACK, 0, {0, 0}},    {TAKING_BACK, 0, {32, 0}},
+    {ADMISSION, 1, {9, 0}},      {ADMISSION, 0, {0, 0}},   {INTERPRETATION, 0, {0, 0}}, {TAKING_BACK, 0, {33, 0}},
+    {ADMISSION, 1, {0, 1}},      {TAKING_BACK, 0, {0, 0}}, {TAKING_BACK, 0, {33, 0}},   {ADMISSION, 1, {0, 1}},
+    {RETIRING, 0, {29, 0}},      {ADMISSION, 2, {0, 2}},   {INTERPRETATION, 1, {0, 0}}, {RETIRING, 0, {0, 0}},
+    {TAKING_BACK, 0, {0, 0}},    {RETIRING, 0, {29, 0}},   {TAKING_BACK, 0, {33, 0}},   {ADMISSION, 2, {0, 1}},
     {INTERPRETATION, 1, {0, 0}},
 };
 

@@ -5,21 +5,26 @@ from pathlib import Path
 
 import make_arrivals
 import make_campaigns
-from programs import (LONG_CAMPAIGN, ONE_SITE, ROOT, TWO_CAMPAIGNS, TWO_CONTROLLERS, WRONG_CAMPAIGN, dome, expect, expect_same_lines,
-                      listing, output_of, run)
+from programs import ROOT, dome, expect, expect_same_lines, listing, output_of, program, run
 from reference import text_of
 
 EXAMPLES = ROOT / "examples"
 ARRIVALS = (EXAMPLES / "arrivals.bin").read_bytes()
-EXPECTED = (EXAMPLES / "arrivals.expected").read_text(encoding="ascii")
-ONE_SITE_LINES = (EXAMPLES / "one_site.expected").read_text(encoding="ascii")
-TWO_CAMPAIGNS_LINES = (EXAMPLES / "two_campaigns.expected").read_text(encoding="ascii")
-TWO_CONTROLLERS_LINES = (EXAMPLES / "two_controllers.expected").read_text(encoding="ascii")
-LONG_CAMPAIGN_LINES = (EXAMPLES / "long_campaign.expected").read_text(encoding="ascii")
-WRONG_CAMPAIGN_LINES = (EXAMPLES / "wrong_campaign.expected").read_text(encoding="ascii")
-WRONG_CAMPAIGN_COMMAND = [WRONG_CAMPAIGN, *(str(EXAMPLES / f"{name}.campaign") for name in ("four_sites", "another_night"))]
 CAMPAIGNS = {name: (EXAMPLES / f"{name}.campaign").read_bytes() for name in make_campaigns.CAMPAIGNS}
 LISTINGS = {name: (EXAMPLES / f"{name}.listing").read_text(encoding="ascii") for name in make_campaigns.CAMPAIGNS}
+WRONG_CAMPAIGN_FILES = [str(EXAMPLES / f"{name}.campaign") for name in ("four_sites", "another_night")]
+
+
+def stored_lines(name):
+    return (EXAMPLES / f"{name}.expected").read_text(encoding="ascii")
+
+
+EXPECTED = stored_lines("arrivals")
+
+
+def expect_stored_lines(name, *arguments, under=()):
+    """An example writes the lines that are stored for it; `under` stands before its name."""
+    expect_same_lines(output_of([*under, program(name), *arguments]), stored_lines(name))
 
 
 def test_dome_writes_the_stored_lines():
@@ -34,11 +39,11 @@ def one_site(stream, under=()):
     """What the example of one site writes, and the arrival that it leaves in its file; `under` stands before its name."""
     with tempfile.TemporaryDirectory() as folder:
         file = Path(folder) / "next.arrival"
-        return output_of([*under, ONE_SITE, str(file)], stream), file.read_bytes()
+        return output_of([*under, program("one_site"), str(file)], stream), file.read_bytes()
 
 
 def test_one_site_writes_the_stored_lines():
-    expect_same_lines(one_site(CAMPAIGNS["four_sites"])[0], ONE_SITE_LINES)
+    expect_same_lines(one_site(CAMPAIGNS["four_sites"])[0], stored_lines("one_site"))
 
 
 def test_the_block_of_one_site_is_taken_by_the_others():
@@ -54,28 +59,28 @@ def test_one_site_says_what_it_cannot_do():
               CAMPAIGNS["four_sites"][:-1]: "the input ends within an arrival, or can't be read",
               CAMPAIGNS["four_sites"] + b"\0": "the input ends within an arrival, or can't be read"}
     with tempfile.TemporaryDirectory() as folder:
-        ends = [(run([ONE_SITE, f"{folder}/next"], stream), said) for stream, said in inputs.items()]
-        ends.append((run([ONE_SITE]), "name the file that our next block is written to"))
-        ends.append((run([ONE_SITE, folder], CAMPAIGNS["four_sites"]), "the file for our block can't be written"))
+        ends = [(run([program("one_site"), f"{folder}/next"], stream), said) for stream, said in inputs.items()]
+        ends.append((run([program("one_site")]), "name the file that our next block is written to"))
+        ends.append((run([program("one_site"), folder], CAMPAIGNS["four_sites"]), "the file for our block can't be written"))
         for ended, said in ends:
             expect(ended.returncode == 1 and ended.stderr.decode() == f"one_site: {said}\n", f"{ended}")
         expect(not list(Path(folder).iterdir()), "a file is written although the input is refused")
 
 
 def test_two_campaigns_writes_the_stored_lines():
-    expect_same_lines(output_of([TWO_CAMPAIGNS]), TWO_CAMPAIGNS_LINES)
+    expect_stored_lines("two_campaigns")
 
 
 def test_two_controllers_writes_the_stored_lines():
-    expect_same_lines(output_of([TWO_CONTROLLERS]), TWO_CONTROLLERS_LINES)
+    expect_stored_lines("two_controllers")
 
 
 def test_long_campaign_writes_the_stored_lines():
-    expect_same_lines(output_of([LONG_CAMPAIGN]), LONG_CAMPAIGN_LINES)
+    expect_stored_lines("long_campaign")
 
 
 def test_wrong_campaign_writes_the_stored_lines():
-    expect_same_lines(output_of(WRONG_CAMPAIGN_COMMAND), WRONG_CAMPAIGN_LINES)
+    expect_stored_lines("wrong_campaign", *WRONG_CAMPAIGN_FILES)
 
 
 def test_the_stored_arrivals_are_the_described_ones():

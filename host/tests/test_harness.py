@@ -130,6 +130,11 @@ def expect_met(text, names, fewest=1):
         expect(int(counts.get(name, "0")) >= fewest, f"{name}: fewer than {fewest}\n{text}")
 
 
+def expect_met_often(text, fewest_met):
+    for name, fewest in fewest_met.items():
+        expect_met(text, [name], fewest)
+
+
 def site_counts(text, what):
     """For which n something was met, if only once."""
     return set(re.findall(rf"^  n (\d+): {what} +[1-9]\d*$", text, re.MULTILINE))
@@ -141,39 +146,40 @@ def expect_answered(text, call):
     expect(met == ANSWERS[call], f"answers of {call} that were met: {sorted(met)}\n{text}")
 
 
+def without_difference(cases, *words):
+    """What a run of so many cases says, which finds no difference."""
+    text = output_of([HARNESS, *words, "--seed", "1", "--cases", str(cases)])
+    expect(last_line(text) == f"{cases} cases, 0 differences", text)
+    return text
+
+
 def test_no_difference():
-    text = output_of([HARNESS, "--seed", "1", "--cases", str(CASES)])
-    expect(last_line(text) == f"{CASES} cases, 0 differences", text)
+    text = without_difference(CASES)
     for call in ANSWERS:
         expect_answered(text, call)
     expect_met(text, MET)
 
 
 def test_listing_program():
-    text = output_of([HARNESS, "--listing", LISTING, "--seed", "1", "--cases", str(STREAMS)])
-    expect(last_line(text) == f"{STREAMS} cases, 0 differences", text)
+    text = without_difference(STREAMS, "--listing", LISTING)
     expect_met(text, LISTED)
     expect(site_counts(text, r"with a delivery of \d+") == SITE_COUNTS, text)
 
 
 def test_promise_of_arrival():
     """Where its premises are met, the promise is kept; and they are met often, for every n. With n 1 no site may fork."""
-    text = output_of([HARNESS, "--kind", "groups", "--seed", "1", "--cases", str(GROUPS)])
-    expect(last_line(text) == f"{GROUPS} cases, 0 differences", text)
-    for name, fewest in FEWEST_MET.items():
-        expect_met(text, [name], fewest)
+    text = without_difference(GROUPS, "--kind", "groups")
+    expect_met_often(text, FEWEST_MET)
     expect(site_counts(text, r"met of \d+") == SITE_COUNTS, text)
     expect(site_counts(text, "met with forked sites held there") == SITE_COUNTS - {"1"}, text)
 
 
 def expect_no_difference(kind, cases, call, met, fewest_met):
     """Cases of one kind find none, in every answer of its call and in all that they must meet, some of it so often."""
-    text = output_of([HARNESS, "--kind", kind, "--seed", "1", "--cases", str(cases)])
-    expect(last_line(text) == f"{cases} cases, 0 differences", text)
+    text = without_difference(cases, "--kind", kind)
     expect_answered(text, call)
     expect_met(text, met)
-    for name, fewest in fewest_met.items():
-        expect_met(text, [name], fewest)
+    expect_met_often(text, fewest_met)
 
 
 def test_shelves():
@@ -199,17 +205,14 @@ def test_takings_back():
 
 def test_long_campaigns():
     """Of 10,000 blocks each, in 64 places: no call is refused, and each owner's first request is delivered at every site."""
-    text = output_of([HARNESS, "--kind", "long", "--seed", "1", "--cases", str(LONG)])
-    expect(last_line(text) == f"{LONG} cases, 0 differences", text)
-    expect_met(text, ["blocks of long campaigns"], LONG * 10_000)
-    expect_met(text, ["retirings in long campaigns with a full table"], 10_000)
-    expect_met(text, ["takings back in long campaigns"], 4_000)
+    text = without_difference(LONG, "--kind", "long")
+    expect_met_often(text, {"blocks of long campaigns": LONG * 10_000, "retirings in long campaigns with a full table": 10_000,
+                            "takings back in long campaigns": 4_000})
 
 
 def test_the_last_sequence_number():
     """A site alone builds up to 65,535, and then gets 30."""
-    text = output_of([HARNESS, "--kind", "last", "--seed", "1", "--cases", "1"])
-    expect(last_line(text) == "1 cases, 0 differences", text)
+    text = without_difference(1, "--kind", "last")
     expect_met(text, ["sites that came to 65,535 and then got 30"])
 
 

@@ -8,7 +8,7 @@ import tempfile
 from contextlib import contextmanager
 from pathlib import Path
 
-from programs import ROOT, expect, expect_same_lines, output_of, run
+from programs import ROOT, expect, expect_same_lines, make, output_of, run
 from test_examples import ARRIVALS, CAMPAIGNS, EXPECTED, LISTINGS
 
 INSTALL = str(ROOT / "tools" / "install.sh")
@@ -137,12 +137,10 @@ def test_bad_arguments():
 
 
 def test_make_hands_on_prefix_and_destdir():
-    # Only shown, not run: nothing is proved here. Flags of a make around this one aren't meant for it.
-    set_around = ["MAKEFLAGS", "MFLAGS", "PREFIX", "DESTDIR"]
-    environment = {name: value for name, value in os.environ.items() if name not in set_around}
+    # Only shown, not run: nothing is proved here.
     for words, wanted in [([], "DESTDIR='' tools/install.sh {} '/usr/local'"),
                           (["PREFIX=/opt", "DESTDIR=/package"], "DESTDIR='/package' tools/install.sh {} '/opt'")]:
         for target in ["install", "uninstall"]:
-            ended = run(["make", "-n", "-C", str(ROOT), "--no-print-directory", target, *words], env=environment)
+            ended = make("-n", target, *words, unset=["PREFIX", "DESTDIR"])
             last = ended.stdout.decode().splitlines()[-1]
             expect(ended.returncode == 0 and last == wanted.format(target), f"{ended}")

@@ -4,12 +4,9 @@ import random
 
 import bad_inputs
 import generate
-from programs import (CALLS, CORE_CALLS, DOME, JOIN_CALLS, LONG_CAMPAIGN, PROCESS_CALLS, RECORD_CALLS, RETIRE_CALLS,
-                      SHELF_CALLS, TAKE_BACK_CALLS, TWO_CAMPAIGNS, TWO_CONTROLLERS, VALGRIND, WATCH_CALLS, digests, dome,
-                      expect, expect_same_lines, output_of, run)
+from programs import DOME, VALGRIND, digests, dome, expect, expect_same_lines, output_of, program, run
 from reference import text_of
-from test_examples import (ARRIVALS, CAMPAIGNS, LONG_CAMPAIGN_LINES, ONE_SITE_LINES, TWO_CAMPAIGNS_LINES, TWO_CONTROLLERS_LINES,
-                           WRONG_CAMPAIGN_LINES, WRONG_CAMPAIGN_COMMAND, one_site)
+from test_examples import ARRIVALS, CAMPAIGNS, WRONG_CAMPAIGN_FILES, expect_stored_lines, one_site, stored_lines
 
 
 def expect_clean(stream):
@@ -33,59 +30,59 @@ def test_random_arrivals():
 
 
 def test_calls():
-    output_of([*VALGRIND, CALLS])
+    output_of([*VALGRIND, program("calls")])
 
 
 def test_core_calls():
-    output_of([*VALGRIND, CORE_CALLS])
+    output_of([*VALGRIND, program("core_calls")])
 
 
 def test_record_calls():
-    output_of([*VALGRIND, RECORD_CALLS])
+    output_of([*VALGRIND, program("record_calls")])
 
 
 def test_process_calls():
-    output_of([*VALGRIND, PROCESS_CALLS])
+    output_of([*VALGRIND, program("process_calls")])
 
 
 def test_watch_calls():
-    output_of([*VALGRIND, WATCH_CALLS])
+    output_of([*VALGRIND, program("watch_calls")])
 
 
 def test_shelf_calls():
-    output_of([*VALGRIND, SHELF_CALLS])
+    output_of([*VALGRIND, program("shelf_calls")])
 
 
 def test_join_calls():
-    output_of([*VALGRIND, JOIN_CALLS])
+    output_of([*VALGRIND, program("join_calls")])
 
 
 def test_retire_calls():
-    output_of([*VALGRIND, RETIRE_CALLS])
+    output_of([*VALGRIND, program("retire_calls")])
 
 
 def test_take_back_calls():
-    output_of([*VALGRIND, TAKE_BACK_CALLS])
+    output_of([*VALGRIND, program("take_back_calls")])
 
 
 def test_one_site():
-    expect_same_lines(one_site(CAMPAIGNS["four_sites"], under=VALGRIND)[0], ONE_SITE_LINES)
+    expect_same_lines(one_site(CAMPAIGNS["four_sites"], under=VALGRIND)[0], stored_lines("one_site"))
 
 
 def test_two_campaigns():
-    expect_same_lines(output_of([*VALGRIND, TWO_CAMPAIGNS]), TWO_CAMPAIGNS_LINES)
+    expect_stored_lines("two_campaigns", under=VALGRIND)
 
 
 def test_two_controllers():
-    expect_same_lines(output_of([*VALGRIND, TWO_CONTROLLERS]), TWO_CONTROLLERS_LINES)
+    expect_stored_lines("two_controllers", under=VALGRIND)
 
 
 def test_long_campaign():
-    expect_same_lines(output_of([*VALGRIND, LONG_CAMPAIGN]), LONG_CAMPAIGN_LINES)
+    expect_stored_lines("long_campaign", under=VALGRIND)
 
 
 def test_wrong_campaign():
-    expect_same_lines(output_of([*VALGRIND, *WRONG_CAMPAIGN_COMMAND]), WRONG_CAMPAIGN_LINES)
+    expect_stored_lines("wrong_campaign", *WRONG_CAMPAIGN_FILES, under=VALGRIND)
 
 
 def test_digests():

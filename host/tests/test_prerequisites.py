@@ -1,15 +1,14 @@
 """tools/prerequisites.sh: each target of the Makefile asks for the commands that it uses and for no other, and the README says so."""
 
-import os
 import re
 import shutil
 import tempfile
 from pathlib import Path
 
-from programs import ROOT, expect, run
+from programs import ROOT, expect, make, run
 
 SCRIPT = str(ROOT / "tools" / "prerequisites.sh")
-TARGETS = ["demo", "host", "install", "test", "test-programs", "harness", "fuzz", "bench", "memory"]
+TARGETS = ["demo", "check", "host", "install", "test", "test-programs", "harness", "fuzz", "bench", "memory"]
 ALL = ["rt", "gcc", "make", "cargo", "python3", "nm", "size", "g++", "groff", "valgrind"]
 FOR_TESTS = ["cargo", "g++", "groff", "valgrind"]
 
@@ -32,7 +31,7 @@ def without(commands):
 
 
 def test_what_only_the_tests_use_is_asked_for_there_alone():
-    wanted = {"test": FOR_TESTS, **dict.fromkeys(["test-programs", "harness", "fuzz", "bench"], ["cargo"])}
+    wanted = {"test": FOR_TESTS, **dict.fromkeys(["test-programs", "harness", "fuzz"], ["cargo"])}
     with without(FOR_TESTS) as path:
         for target in TARGETS:
             found = missing([target], path)
@@ -55,10 +54,8 @@ def test_several_targets_ask_for_what_each_needs():
 
 
 def test_make_asks_first_and_for_its_goals():
-    # Only shown, not run. Flags of a make around this one aren't meant for it.
-    environment = {name: value for name, value in os.environ.items() if name not in ("MAKEFLAGS", "MFLAGS")}
     for goals in [[], ["prerequisites"], ["bench", "memory"], *([target] for target in TARGETS)]:
-        ended = run(["make", "-n", "-C", str(ROOT), "--no-print-directory", *goals], env=environment)
+        ended = make("-n", *goals)  # only shown, not run
         first = ended.stdout.decode().splitlines()[0].split()
         words = [] if goals == ["prerequisites"] else goals or ["demo"]
         expect(ended.returncode == 0 and first == ["tools/prerequisites.sh", *words], f"{goals}: {first}")

@@ -72,18 +72,12 @@ static output untouched(void)
     return o;
 }
 
-static bool same_output(output x, output y)
-{
-    return memcmp(x.bytes, y.bytes, sizeof x.bytes) == 0;
-}
+static bool same_output(output x, output y) { return memcmp(x.bytes, y.bytes, sizeof x.bytes) == 0; }
 
 /* ---- Tables. n is 4 where nothing else is said. */
 
 /* A block of sequence number 0 that refers to nothing; another number makes another block. */
-static block other_block(uint8_t site, uint16_t number)
-{
-    return with_request(block_of(site, 0), 0, number);
-}
+static block other_block(uint8_t site, uint16_t number) { return with_request(block_of(site, 0), 0, number); }
 
 /* The table with this many different blocks of a site, all of sequence number 0. */
 static table with_blocks(table t, uint8_t site, uint16_t blocks)
@@ -123,10 +117,7 @@ static table forked_on_itself(void)
 }
 
 /* The last two places of a full table have the greatest sequence number. */
-static table forked_at_the_end(void)
-{
-    return with_row(chain(1, 63), with_request(chain_block(62), 0, 1), (uint64_t)1 << 61);
-}
+static table forked_at_the_end(void) { return with_row(chain(1, 63), with_request(chain_block(62), 0, 1), (uint64_t)1 << 61); }
 
 static table one_of_each(uint8_t sites)
 {
@@ -181,10 +172,7 @@ static bool forked(table t, uint16_t sites, uint32_t count, bool at_most_f)
     return forks_of_length(t, GT_TABLE_BYTES, (gt_forked_sites){0, sites, count, at_most_f});
 }
 
-static bool forks_refused(table t, size_t length)
-{
-    return forks_of_length(t, length, (gt_forked_sites){2, 0, 0, false});
-}
+static bool forks_refused(table t, size_t length) { return forks_of_length(t, length, (gt_forked_sites){2, 0, 0, false}); }
 
 static table marked(table t, size_t place)
 {
@@ -237,10 +225,7 @@ static bool ancestors_refused(table t, size_t length, size_t place, uint8_t refu
     return ancestors_of_length(t, length, place, (gt_ancestor_places){refusal, 0, 0});
 }
 
-static bool no_such_place(table t, size_t place)
-{
-    return ancestors_refused(t, GT_TABLE_BYTES, place, 13);
-}
+static bool no_such_place(table t, size_t place) { return ancestors_refused(t, GT_TABLE_BYTES, place, 13); }
 
 static void check_ancestors(void)
 {
@@ -266,8 +251,7 @@ static void check_ancestors(void)
     check("ancestors, a table of 3850 bytes", ancestors_refused(t, GT_TABLE_BYTES - 1, 0, 2));
     check("ancestors, a table of 3852 bytes", ancestors_refused(t, GT_TABLE_BYTES + 1, 0, 2));
     check("ancestors, a table of 0 bytes", ancestors_refused(t, 0, 0, 2));
-    check("ancestors, a table of 0 bytes at NULL",
-          of_nothing.refusal == 2 && of_nothing.places == 0 && of_nothing.count == 0);
+    check("ancestors, a table of 0 bytes at NULL", of_nothing.refusal == 2 && of_nothing.places == 0 && of_nothing.count == 0);
     check("ancestors, a site that is n", ancestors_refused(with_blocks(t, 4, 1), GT_TABLE_BYTES, 3, 2));
     check("ancestors: 2 before 13", ancestors_refused(filled_with(0), GT_TABLE_BYTES, SIZE_MAX, 2));
 }
@@ -333,8 +317,7 @@ static bool built(table t, uint8_t site, list l, block wanted)
     size_t length = wanted.length;
 
     return written(t, site, l, length, wanted) && written(t, site, l, length + 1, wanted)
-        && written(t, site, l, sizeof(output), wanted)
-        && refused_of_length(t, GT_TABLE_BYTES, site, l, length - 1, 17, length)
+        && written(t, site, l, sizeof(output), wanted) && refused_of_length(t, GT_TABLE_BYTES, site, l, length - 1, 17, length)
         && refused_of_length(t, GT_TABLE_BYTES, site, l, 0, 17, length)
         && (count < GT_MAX_PLACES ? is(admit(&t, wanted), 0, count) : is(admit(&t, wanted), 11, 0));
 }
@@ -442,8 +425,7 @@ static void check_table_refused(void)
     check("building, nothing lent", is(gt_build(NULL, 0, 0, NULL, 0, NULL, 0), 2, 0));
     /* Site 2 has place 2, which refers to 0: the next block refers to it and to three others. */
     check("building, no output at NULL", is(gt_build(t.bytes, GT_TABLE_BYTES, 2, NULL, 0, NULL, 0), 17, 133));
-    check("building, no requests at NULL",
-          is(gt_build(empty_table(4).bytes, GT_TABLE_BYTES, 2, NULL, 0, o.bytes, 5), 0, 5));
+    check("building, no requests at NULL", is(gt_build(empty_table(4).bytes, GT_TABLE_BYTES, 2, NULL, 0, o.bytes, 5), 0, 5));
 }
 
 static void check_refused(void)

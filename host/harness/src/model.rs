@@ -1,26 +1,55 @@
-//! The model: the calls answered by the document's rules. Nothing of the library is used.
+//! The model: what each call of the library should answer and leave, by an implementation of our own of documents 01 and 02.
+//! A file holds one section's rules, or the layout that they are about; `Model` puts them together. Rules are values, so that
+//! one can be exchanged for a wrong one.
+//!
+//! Nothing here draws, compares or calls the library: the model depends on none of the other three folders.
 
-use crate::admission::{self, Arrival};
-use crate::answer::{AncestorPlaces, Answer, ArrivalAnswer, Fields, ForkedSites, Reading};
-use crate::block;
-use crate::building::{Building, Task};
-use crate::calls::Calls;
-use crate::checks::{first_refusal, Check};
-use crate::ended::Ended;
-use crate::form::{self, Condition};
-use crate::interpretation::{Asked, Interpretation};
-use crate::joining::{Joining, Two};
-use crate::listing::{Line, Listing};
-use crate::replay::{Call, Replay};
-use crate::retiring::{Leaving, Retiring};
-use crate::setup;
-use crate::sha256::{sha256, Digest};
-use crate::shelf::Shelf;
-use crate::shelving::{Coming, Shelving};
-use crate::sizes::{DIGEST_BYTES, PLACES, SLOTS, TABLE_BYTES};
-use crate::table::{Row, Table};
-use crate::taking_back::{Taken, TakingBack};
-use crate::watch::{Question, Watch};
+pub mod admission;
+pub mod answer;
+pub mod block;
+pub mod building;
+pub mod calls;
+pub mod checks;
+pub mod exit;
+pub mod form;
+pub mod interpretation;
+pub mod joining;
+pub mod ledger;
+pub mod listing;
+pub mod process;
+pub mod promise;
+pub mod record;
+pub mod replay;
+pub mod retiring;
+pub mod setup;
+pub mod sha256;
+pub mod shelf;
+pub mod shelf_form;
+pub mod shelving;
+pub mod sizes;
+pub mod table;
+pub mod taking_back;
+pub mod watch;
+
+use admission::Arrival;
+use answer::{AncestorPlaces, Answer, ArrivalAnswer, Fields, ForkedSites, Reading};
+use building::{Building, Task};
+use calls::Calls;
+use checks::{first_refusal, Check};
+use exit::Exit;
+use form::Condition;
+use interpretation::{Asked, Interpretation};
+use joining::{Joining, Two};
+use listing::{Line, Listing};
+use replay::{Call, Replay};
+use retiring::{Leaving, Retiring};
+use sha256::{sha256, Digest};
+use shelf::Shelf;
+use shelving::{Coming, Shelving};
+use sizes::{DIGEST_BYTES, PLACES, SLOTS, TABLE_BYTES};
+use table::{Row, Table};
+use taking_back::{Taken, TakingBack};
+use watch::{Question, Watch};
 
 /// What a fresh table is asked for with.
 pub struct Wanted {
@@ -297,7 +326,7 @@ impl Calls for Model {
         Answer::success(0)
     }
 
-    fn listing(&self, input: &[u8]) -> Ended {
+    fn listing(&self, input: &[u8]) -> Exit {
         self.listing.ended(&self.lines(input))
     }
 }

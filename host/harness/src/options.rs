@@ -1,7 +1,7 @@
 //! The arguments.
 
-use crate::cases::{Cases, Kind, KINDS, LISTINGS};
-use crate::program::Program;
+use crate::comparing::cases::{Cases, Kind, KINDS, LISTINGS};
+use crate::comparing::program::Program;
 
 const DEFAULT_SEED: u64 = 1;
 const DEFAULT_CASES: u64 = 10_000;

@@ -1,0 +1,29 @@
+//! Campaigns of two keepers, who get the same blocks in different orders. Each call is compared, and then the whole
+//! lists by replays. What the two come to must keep the laws, and a site can go on from there.
+
+use super::builds::{next_block, some_list};
+use crate::comparing::buffers::Next;
+use crate::comparing::compare::Compare;
+use crate::comparing::difference::Difference;
+use crate::comparing::facts::two_sites::Ends;
+use crate::comparing::laws;
+use crate::comparing::sites::keeper::Keeper;
+use crate::drawing::campaign::Campaign;
+use crate::drawing::random::Random;
+
+pub fn run(random: &Random, compare: &mut Compare) -> Result<(), Difference> {
+    let campaign = Campaign::drawn(random);
+    let one = Keeper::run(random, compare, &campaign)?;
+    let other = Keeper::run(random, compare, &campaign)?;
+    let mut watched = |keeper: &Keeper| compare.forks(&keeper.left().table);
+    let watched = [watched(&one)?, watched(&other)?];
+    let ends = Ends::of([(one.left(), watched[0]), (other.left(), watched[1])]);
+    compare.counts.campaigns.ended(&ends);
+    laws::check_ends(&ends)?;
+    for keeper in [one, other] {
+        keeper.replay(random, compare)?;
+        let site = random.below(campaign.sites.into()) as u8;
+        next_block(random, compare, &Next { table: &keeper.left().table, site, requests: &some_list(random) })?;
+    }
+    Ok(())
+}

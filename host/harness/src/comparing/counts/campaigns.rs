@@ -1,0 +1,91 @@
+//! What campaigns of two sites have met.
+
+use std::fmt::{self, Display, Formatter};
+
+use crate::comparing::facts::two_sites::{different, Ends};
+use crate::model::record::{Act, Part, ACTS};
+use crate::model::sizes::{SITE_COUNTS, SLOTS};
+
+#[derive(Default)]
+pub struct Campaigns {
+    all: u64,
+    /// With forked sites, at most f of them; and with more.
+    few_forked: u64,
+    many_forked: u64,
+    /// With a slot delivered at some site, and at both.
+    delivering: u64,
+    delivering_at_both: u64,
+    /// What the laws are about: with two numbers sent in a slot by at most f forked sites, and one delivered; and, with
+    /// more forked sites, two delivered.
+    put_to_the_test: u64,
+    two_delivered: u64,
+    interpreted_at_both: u64,
+    /// For each number of sites all campaigns, and those that delivered.
+    by_sites: [[u64; 2]; SITE_COUNTS.len()],
+    acts: [u64; ACTS.len()],
+}
+
+impl Campaigns {
+    /// What a block has made.
+    pub fn made(&mut self, part: &Part) {
+        for (count, act) in self.acts.iter_mut().zip(ACTS) {
+            *count += part.iter().filter(|record| record[act.made()] != 0).count() as u64;
+        }
+    }
+
+    /// What a campaign came to.
+    pub fn ended(&mut self, ends: &Ends) {
+        let few = ends.few_forked();
+        let slots: [InSlot; SLOTS] = std::array::from_fn(|slot| InSlot::of(ends, slot));
+        let some = |holds: fn(&InSlot) -> bool| u64::from(slots.iter().any(holds));
+        let delivers = some(|slot| !slot.delivered.is_empty());
+        self.all += 1;
+        self.few_forked += u64::from(few && ends.forked() != 0);
+        self.many_forked += u64::from(!few);
+        self.delivering += delivers;
+        self.delivering_at_both += some(|slot| slot.delivered_at_both);
+        self.put_to_the_test += u64::from(few) * some(|slot| different(&slot.sent) && !slot.delivered.is_empty());
+        self.two_delivered += u64::from(!few) * some(|slot| different(&slot.delivered));
+        self.interpreted_at_both += ends.interpreted_at_both().count() as u64;
+        let index = SITE_COUNTS.iter().position(|&sites| sites == ends.site_count());
+        let [all, delivering] = &mut self.by_sites[index.expect("a lawful setup")];
+        *all += 1;
+        *delivering += delivers;
+    }
+}
+
+/// The numbers of one slot, of both sites.
+struct InSlot {
+    sent: Vec<u16>,
+    delivered: Vec<u16>,
+    delivered_at_both: bool,
+}
+
+impl InSlot {
+    fn of(ends: &Ends, slot: usize) -> InSlot {
+        let delivered_at_both = ends.sites.iter().all(|site| !site.numbers(slot, Act::Deliver).is_empty());
+        let [sent, delivered] = [Act::Send, Act::Deliver].map(|act| ends.numbers(slot, act));
+        InSlot { sent, delivered, delivered_at_both }
+    }
+}
+
+impl Display for Campaigns {
+    fn fmt(&self, to: &mut Formatter) -> fmt::Result {
+        let mut line = |name: &str, times: u64| super::line(to, name, times);
+        line("campaigns", self.all)?;
+        line("campaigns with 1 to f forked sites", self.few_forked)?;
+        line("campaigns with more forked sites", self.many_forked)?;
+        line("campaigns with a delivery", self.delivering)?;
+        for (sites, [all, delivering]) in SITE_COUNTS.iter().zip(self.by_sites) {
+            line(&format!("  n {sites}: with a delivery of {all}"), delivering)?;
+        }
+        line("campaigns with a slot delivered at both sites", self.delivering_at_both)?;
+        line("  up to f forked: two numbers sent, one delivered", self.put_to_the_test)?;
+        line("  more forked: two numbers delivered", self.two_delivered)?;
+        line("blocks interpreted at both sites", self.interpreted_at_both)?;
+        for (name, times) in ["SENDs", "ECHOs", "READYs", "deliveries"].iter().zip(self.acts) {
+            line(&format!("{name} in campaigns"), times)?;
+        }
+        Ok(())
+    }
+}

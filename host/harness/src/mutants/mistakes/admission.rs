@@ -1,0 +1,307 @@
+//! Mistakes in admission: in its checks, in their order, in what it writes and in what it leaves.
+
+use super::{value_beside, Mistake, Mutant};
+use crate::model::admission::{put, row, Arrival, CHECKS};
+use crate::model::block;
+use crate::model::sha256::{sha256, Digest};
+use crate::model::sizes::{DIGEST_BYTES, MAX_REFERENCES, PLACES, SLOTS};
+use crate::model::table::{places, Row, Table};
+
+/// Each check left out, each two neighbours swapped, and another value beside each refusal.
+pub fn checks_exchanged() -> Vec<Mutant> {
+    let mut mutants = Vec::new();
+    for check in &CHECKS {
+        let number = check.number;
+        mutants.push(Mutant::with(format!("admission without check {number}"), |m| m.admission(number, |_| None)));
+        mutants.push(Mutant::with(format!("admission: a value one more beside {number}"), |m| {
+            m.after_admission(move |answer, _, _| value_beside(number, answer, answer.value + 1));
+        }));
+    }
+    for number in [6, 7, 8, 9] {
+        mutants.push(Mutant::with(format!("admission: value 0 beside {number}"), |m| {
+            m.after_admission(move |answer, _, _| value_beside(number, answer, 0));
+        }));
+    }
+    for first in 0..CHECKS.len() - 1 {
+        let (earlier, later) = (CHECKS[first].number, CHECKS[first + 1].number);
+        mutants.push(Mutant::with(format!("admission: checks {earlier} and {later} swapped"), |m| {
+            m.model.admission.swap(first, first + 1);
+        }));
+    }
+    mutants
+}
+
+pub const MISTAKES: &[Mistake] = &[
+    // Order
+    ("admission: the reader's 6 and 7 before 4 and 5", |m| m.model.admission[2..6].rotate_left(2)),
+    ("admission: 8 before the reader", |m| m.model.admission[1..7].rotate_right(1)),
+    ("admission: 11 before 8", |m| m.model.admission[6..10].rotate_right(1)),
+    ("admission: 11 before all but 2", |m| m.model.admission[1..10].rotate_right(1)),
+    // Single checks
+    ("admission: a site may be n", |m| {
+        m.admission(4, |asked| (block::site(&asked.block) > asked.table.sites).then_some(0))
+    }),
+    ("admission: sites are compared with 16", |m| {
+        m.admission(4, |asked| (block::site(&asked.block) >= 16).then_some(0))
+    }),
+    ("admission: verdict 2 passes", |m| m.admission(5, |asked| (![1, 2].contains(&asked.verdict)).then_some(0))),
+    ("admission: verdict 0 passes", |m| m.admission(5, |asked| (asked.verdict > 1).then_some(0))),
+    ("admission: every verdict but 0 passes", |m| m.admission(5, |asked| (asked.verdict == 0).then_some(0))),
+    ("admission: the verdict's low bit decides", |m| m.admission(5, |asked| (asked.verdict % 2 == 0).then_some(0))),
+    ("admission: slot 8 passes", |m| {
+        m.admission(6, |asked| {
+            let requests = block::requests(&asked.block);
+            requests.iter().position(|request| usize::from(request.slot) > SLOTS || request.number == 0)
+        })
+    }),
+    ("admission: number 0 passes", |m| {
+        m.admission(6, |asked| {
+            let requests = block::requests(&asked.block);
+            requests.iter().position(|request| usize::from(request.slot) >= SLOTS)
+        })
+    }),
+    ("admission: a number of low byte 0 is refused", |m| {
+        m.admission(6, |asked| {
+            let requests = block::requests(&asked.block);
+            requests.iter().position(|request| usize::from(request.slot) >= SLOTS || request.number % 256 == 0)
+        })
+    }),
+    ("admission: the last bad request is named", |m| {
+        m.admission(6, |asked| {
+            let requests = block::requests(&asked.block);
+            requests.iter().rposition(|request| usize::from(request.slot) >= SLOTS || request.number == 0)
+        })
+    }),
+    ("admission: only neighbouring references are compared", |m| {
+        m.admission(7, |asked| {
+            let references = block::references(&asked.block);
+            (1..references.len()).find(|&index| references[index] == references[index - 1])
+        })
+    }),
+    ("admission: 7 names the earlier reference", |m| {
+        m.admission(7, |asked| {
+            let references = block::references(&asked.block);
+            (0..references.len()).find(|&index| references[index + 1..].contains(&references[index]))
+        })
+    }),
+    ("admission: 8 doesn't look at the last place", |m| {
+        m.admission(8, |asked| {
+            let place = asked.table.place_of(&asked.digest)?;
+            (place + 1 < asked.table.count).then_some(place)
+        })
+    }),
+    ("admission: 8 doesn't look at place 0", |m| {
+        m.admission(8, |asked| asked.table.place_of(&asked.digest).filter(|&place| place > 0))
+    }),
+    ("admission: 8 leaves out the digest's last byte", |m| {
+        m.admission(8, |asked| place_of_part(&asked.table, &asked.digest))
+    }),
+    ("admission: 9 leaves out the digest's last byte", |m| {
+        m.admission(9, |asked| {
+            let missing = |reference: &Digest| place_of_part(&asked.table, reference).is_none();
+            block::references(&asked.block).iter().position(missing)
+        })
+    }),
+    ("admission: references are looked for from the count on too", |m| {
+        m.admission(9, |asked| {
+            let found = |digest: &Digest| asked.table.rows.iter().any(|row| row.digest == *digest);
+            block::references(&asked.block).iter().position(|reference| !found(reference))
+        })
+    }),
+    ("admission: the last missing reference is named", |m| {
+        m.admission(9, |asked| {
+            let missing = |reference: &Digest| asked.table.place_of(reference).is_none();
+            block::references(&asked.block).iter().rposition(missing)
+        })
+    }),
+    ("admission: the 16th reference isn't looked for", |m| {
+        m.admission(9, |asked| {
+            let missing = |reference: &Digest| asked.table.place_of(reference).is_none();
+            block::references(&asked.block).iter().take(MAX_REFERENCES - 1).position(missing)
+        })
+    }),
+    ("admission: two parents pass", |m| {
+        m.admission(10, |asked| parents(asked, |row, count| row.sequence == 0 || count >= 1))
+    }),
+    ("admission: no parent passes", |m| {
+        m.admission(10, |asked| parents(asked, |row, count| row.sequence == 0 || count <= 1))
+    }),
+    ("admission: a sequence number of low byte 0 needs no parent", |m| {
+        m.admission(10, |asked| parents(asked, |row, count| row.sequence % 256 == 0 || count == 1))
+    }),
+    ("admission: the parent's low byte decides", |m| {
+        m.admission(10, |asked| {
+            let new = row(asked);
+            let old = |place: usize| &asked.table.rows[place];
+            let before = |old: &Row| old.site == new.site && old.sequence % 256 + 1 == new.sequence % 256;
+            let count = places(new.references).filter(|&place| before(old(place))).count();
+            (new.sequence != 0 && count != 1).then_some(0)
+        })
+    }),
+    ("admission: sequence 0 may not refer to its own site", |m| {
+        m.admission(10, |asked| {
+            let new = row(asked);
+            let rule = asked.table.parent_rule(new.site, new.sequence, new.references);
+            (!rule || new.sequence == 0 && own(asked, &new) > 0).then_some(0)
+        })
+    }),
+    ("admission: no own block but the parent may be referred to", |m| {
+        m.admission(10, |asked| {
+            let new = row(asked);
+            let rule = asked.table.parent_rule(new.site, new.sequence, new.references);
+            (!rule || new.sequence > 0 && own(asked, &new) > 1).then_some(0)
+        })
+    }),
+    ("admission: any own block is a parent", |m| {
+        m.admission(10, |asked| {
+            let new = row(asked);
+            (new.sequence > 0 && own(asked, &new) == 0).then_some(0)
+        })
+    }),
+    ("admission: a fork is refused", |m| {
+        m.admission(10, |asked| {
+            let new = row(asked);
+            let rule = asked.table.parent_rule(new.site, new.sequence, new.references);
+            let twin = |old: &Row| old.site == new.site && old.sequence == new.sequence;
+            (!rule || asked.table.held().iter().any(twin)).then_some(0)
+        })
+    }),
+    ("admission: 63 places are full", |m| m.admission(11, |asked| (asked.table.count >= PLACES - 1).then_some(0))),
+    // What is written
+    ("admission: the row is marked", |m| m.model.row = |asked| Row { mark: 1, ..row(asked) }),
+    ("admission: the last request of a slot counts", |m| {
+        m.model.row = |asked| {
+            let mut requests = [0; SLOTS];
+            for request in block::requests(&asked.block) {
+                requests[usize::from(request.slot)] = request.number;
+            }
+            Row { requests, ..row(asked) }
+        }
+    }),
+    ("admission: the greatest request of a slot counts", |m| {
+        m.model.row = |asked| {
+            let mut requests = [0; SLOTS];
+            for request in block::requests(&asked.block) {
+                let slot = usize::from(request.slot);
+                requests[slot] = request.number.max(requests[slot]);
+            }
+            Row { requests, ..row(asked) }
+        }
+    }),
+    ("admission: slots in reverse", |m| {
+        m.model.row = |asked| {
+            let mut new = row(asked);
+            new.requests.reverse();
+            new
+        }
+    }),
+    ("admission: request numbers low byte first", |m| {
+        m.model.row = |asked| Row { requests: row(asked).requests.map(u16::swap_bytes), ..row(asked) }
+    }),
+    ("admission: no requests", |m| m.model.row = |asked| Row { requests: [0; SLOTS], ..row(asked) }),
+    ("admission: sequence number low byte first", |m| {
+        m.model.row = |asked| Row { sequence: row(asked).sequence.swap_bytes(), ..row(asked) }
+    }),
+    ("admission: the set's bytes in reverse", |m| {
+        m.model.row = |asked| Row { references: row(asked).references.swap_bytes(), ..row(asked) }
+    }),
+    ("admission: the bits of the set's bytes in reverse", |m| {
+        m.model.row = |asked| Row { references: row(asked).references.reverse_bits().swap_bytes(), ..row(asked) }
+    }),
+    ("admission: the set has 32 places", |m| {
+        m.model.row = |asked| Row { references: row(asked).references & 0xffff_ffff, ..row(asked) }
+    }),
+    ("admission: the parent isn't in the set", |m| {
+        m.model.row = |asked| {
+            let new = row(asked);
+            let parent = |place: usize| {
+                let old = &asked.table.rows[place];
+                old.site == new.site && old.sequence.checked_add(1) == Some(new.sequence)
+            };
+            let others = places(new.references).filter(|&place| !parent(place));
+            Row { references: others.fold(0, |set, place| set | 1 << place), ..new }
+        }
+    }),
+    ("admission: no site", |m| m.model.row = |asked| Row { site: 0, ..row(asked) }),
+    ("admission: the digest leaves the last byte out", |m| {
+        m.model.row = |asked| Row { digest: sha256(&asked.block[..asked.block.len() - 1]), ..row(asked) }
+    }),
+    ("admission: the count isn't raised", |m| {
+        m.model.put = |table, row| {
+            put(table, row);
+            table.count -= 1;
+        }
+    }),
+    ("admission: the row isn't written", |m| m.model.put = |table, _| table.count += 1),
+    ("admission: rows are written from the end", |m| {
+        m.model.put = |table, row| {
+            if let Some(last) = (PLACES - 1).checked_sub(table.count) {
+                table.rows[last] = row;
+            }
+            table.count += 1;
+        }
+    }),
+    ("admission: a success clears row 0", |m| {
+        m.model.put = |table, row| {
+            table.rows[0] = Row::default();
+            put(table, row);
+        }
+    }),
+    ("admission: a success clears the marks", |m| {
+        m.model.put = |table, row| {
+            put(table, row);
+            table.rows.iter_mut().for_each(|row| row.mark = 0);
+        }
+    }),
+    // What is answered and left
+    ("admission: a success answers the count", |m| {
+        m.after_admission(|answer, _, _| value_beside(0, answer, answer.value + 1))
+    }),
+    ("admission: a success answers 0", |m| m.after_admission(|answer, _, _| value_beside(0, answer, 0))),
+    ("admission: a refusal writes the table's last byte", |m| {
+        m.after_admission(|answer, table, _| {
+            if let Some(last) = table.last_mut().filter(|_| answer.refusal != 0) {
+                *last ^= 1;
+            }
+            answer
+        })
+    }),
+    ("admission: refusal 10 leaves the digest written", |m| {
+        m.after_admission(|answer, table, block| {
+            if answer.refusal == 10 {
+                let mut held = Table::from_bytes(table);
+                if let Some(next) = held.rows.get_mut(held.count) {
+                    next.digest = sha256(block);
+                }
+                held.write(table);
+            }
+            answer
+        })
+    }),
+    ("admission: the block is written", |m| {
+        m.after_admission(|answer, _, block| {
+            if let Some(last) = block.last_mut() {
+                *last ^= 1;
+            }
+            answer
+        })
+    }),
+];
+
+/// The place that holds the digest, by all its bytes but the last.
+fn place_of_part(table: &Table, digest: &Digest) -> Option<usize> {
+    let part = |digest: &Digest| digest[..DIGEST_BYTES - 1].to_vec();
+    table.held().iter().position(|row| part(&row.digest) == part(digest))
+}
+
+/// Check 10 by a rule about the number of parents.
+fn parents(asked: &Arrival, passes: fn(&Row, usize) -> bool) -> Option<usize> {
+    let new = row(asked);
+    let count = if new.sequence == 0 { 0 } else { asked.table.parents(new.site, new.sequence, new.references) };
+    (!passes(&new, count)).then_some(0)
+}
+
+/// How many own blocks a row refers to.
+fn own(asked: &Arrival, row: &Row) -> usize {
+    places(row.references).filter(|&place| asked.table.rows[place].site == row.site).count()
+}

@@ -1,0 +1,96 @@
+//! Mistakes in making a fresh table.
+
+use super::{value_beside, Mistake};
+use crate::model::setup::{lawful, owners_lawful, site_count_lawful};
+use crate::model::sizes::{SLOTS, TABLE_BYTES};
+
+pub const MISTAKES: &[Mistake] = &[
+    ("gt_fresh without check 1", |m| m.fresh(1, |_| None)),
+    ("gt_fresh without check 2", |m| m.fresh(2, |_| None)),
+    ("gt_fresh: checks 1 and 2 swapped", |m| m.model.fresh.swap(0, 1)),
+    ("gt_fresh: a longer table passes", |m| m.fresh(2, |wanted| unless(wanted.length >= TABLE_BYTES))),
+    ("gt_fresh: a shorter table passes", |m| m.fresh(2, |wanted| unless(wanted.length <= TABLE_BYTES))),
+    ("gt_fresh: every n from 1 to 16 passes", |m| {
+        m.fresh(1, |wanted| unless((1..=16).contains(&wanted.sites) && eight_below(wanted.sites, &wanted.owners)))
+    }),
+    ("gt_fresh: n 19 passes", |m| {
+        m.fresh(1, |wanted| {
+            let sites_pass = wanted.sites == 19 || site_count_lawful(wanted.sites);
+            unless(sites_pass && eight_below(wanted.sites, &wanted.owners))
+        })
+    }),
+    ("gt_fresh: n 16 doesn't pass", |m| {
+        m.fresh(1, |wanted| unless(wanted.sites < 16 && lawful(wanted.sites, &wanted.owners)))
+    }),
+    ("gt_fresh: an owner may be n", |m| {
+        m.fresh(1, |wanted| unless(site_count_lawful(wanted.sites) && eight_below(wanted.sites + 1, &wanted.owners)))
+    }),
+    ("gt_fresh: the last owner isn't looked at", |m| {
+        m.fresh(1, |wanted| {
+            let looked_at = wanted.owners.get(..SLOTS - 1).unwrap_or(&[]);
+            let owners_pass = wanted.owners.len() == SLOTS && owners_lawful(wanted.sites, looked_at);
+            unless(site_count_lawful(wanted.sites) && owners_pass)
+        })
+    }),
+    ("gt_fresh: more than eight owners pass", |m| {
+        m.fresh(1, |wanted| {
+            let owners_pass = wanted.owners.len() >= SLOTS && owners_lawful(wanted.sites, &wanted.owners);
+            unless(site_count_lawful(wanted.sites) && owners_pass)
+        })
+    }),
+    ("gt_fresh: fewer than eight owners pass", |m| {
+        m.fresh(1, |wanted| {
+            let owners_pass = wanted.owners.len() <= SLOTS && owners_lawful(wanted.sites, &wanted.owners);
+            unless(site_count_lawful(wanted.sites) && owners_pass)
+        })
+    }),
+    ("gt_fresh: value 1 beside 1", |m| m.after_fresh(|answer, _, _| value_beside(1, answer, 1))),
+    ("gt_fresh: value 1 beside 2", |m| m.after_fresh(|answer, _, _| value_beside(2, answer, 1))),
+    ("gt_fresh: a success answers the length", |m| m.after_fresh(|answer, _, _| value_beside(0, answer, TABLE_BYTES))),
+    ("gt_fresh: refusal 1 zeroes the table", |m| {
+        m.after_fresh(|answer, _, table| {
+            if answer.refusal == 1 {
+                table.fill(0);
+            }
+            answer
+        })
+    }),
+    ("gt_fresh: refusal 2 zeroes the table", |m| {
+        m.after_fresh(|answer, _, table| {
+            if answer.refusal == 2 {
+                table.fill(0);
+            }
+            answer
+        })
+    }),
+    ("gt_fresh: the last byte isn't zero", |m| {
+        m.after_fresh(|answer, _, table| {
+            if answer.refusal == 0 {
+                table[TABLE_BYTES - 1] = 1;
+            }
+            answer
+        })
+    }),
+    ("gt_fresh: owners in reverse", |m| {
+        m.after_fresh(|answer, _, table| {
+            if answer.refusal == 0 {
+                table[1..=SLOTS].reverse();
+            }
+            answer
+        })
+    }),
+    ("gt_fresh: the owners are written", |m| {
+        m.after_fresh(|answer, owners, _| {
+            owners.fill(0);
+            answer
+        })
+    }),
+];
+
+fn unless(passes: bool) -> Option<usize> {
+    (!passes).then_some(0)
+}
+
+fn eight_below(bound: u8, owners: &[u8]) -> bool {
+    owners.len() == SLOTS && owners_lawful(bound, owners)
+}
