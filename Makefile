@@ -10,6 +10,7 @@
 # make host        builds the listing, the library for C and the control program
 # make install     puts them, the headers and the man pages below PREFIX, or below DESTDIR and PREFIX
 # make uninstall   removes what was installed there
+# make figures     writes into the documents how many crates, edits, tests and lines there are
 # make clean       removes all that was built
 
 CC = gcc
@@ -49,7 +50,7 @@ CRATES := $(shell sed -n 's/^\([a-z0-9_]*\):.*/\1/p' crates.txt)
 # All that the library and the listing are proved and built from. Folders are among it, so that a removed file counts as a change.
 LIBRARY_SOURCES := $(shell find crates.txt crates \( -name must-fail -prune \) -o -print)
 
-.PHONY: demo check test bench memory fuzz host install uninstall test-programs harness prerequisites clean
+.PHONY: demo check test bench memory fuzz host install uninstall test-programs harness figures prerequisites clean
 .DELETE_ON_ERROR:
 
 # The first target, so that a plain `make` shows something working.
@@ -112,6 +113,10 @@ test-programs: host $(HOST)/digests $(HOST)/calls $(HOST)/core_calls $(HOST)/rec
 # Cargo itself sees whether the harness's sources or the library changed.
 harness: prerequisites $(LIBRARY)
 	@cargo build --quiet --release --offline --manifest-path host/harness/Cargo.toml --target-dir target/harness
+
+# The documents' figures that follow from the tree. A host test compares them.
+figures:
+	python3 -B tools/figures.py
 
 # Removes all that was built; the next proof starts from nothing.
 clean:

@@ -20,7 +20,8 @@ checked() { # LANGUAGE COMMAND [ARGUMENT...]
 }
 
 checked Rattle rt fmt --check
-checked C clang-format --dry-run -Werror host/*.[ch] host/tests/*.[ch] bench/*.[ch] bench/baseline/*.[ch] examples/*.c
+# Another version of clang-format would lay some lines out differently.
+checked C clang-format-14 --dry-run -Werror host/*.[ch] host/tests/*.[ch] bench/*.[ch] bench/baseline/*.[ch] examples/*.c
 checked Rust cargo-fmt --check --manifest-path host/harness/Cargo.toml
 checked shell shellcheck .ci/run tools/*.sh
 

@@ -1,6 +1,6 @@
-/* Runs the campaigns of crates/cases/specs/Process.antt and Records.antt through admission and interpretation. There
- * they are computed from the definitions with a toy digest; here the compiled calls run them with SHA-256. Writes a
- * line for each row, and ends with exit status 1 if one fails. All that is lent lies in an allocation of its own
+/* Runs the campaigns of crates/cases/specs/Thresholds.antt, Traps.antt, Arrival.antt, Process.antt and Records.antt through
+ * admission and interpretation. There they are computed from the definitions with a toy digest; here the compiled calls run
+ * them with SHA-256. Writes a line for each row, and ends with exit status 1 if one fails. All that is lent lies in an allocation of its own
  * length, so that valgrind sees an access past its end. */
 #include "sides.h"
 
@@ -61,6 +61,15 @@ typedef struct {
 #define ECHOED \
     [0] = {0, 0, {0, 42}, TO_NOTHING, SENDS(42)}, [1] = {0, 1, NO_REQUEST, TO(0), ECHOES(42)}, \
     [2] = {1, 0, NO_REQUEST, TO(0), ECHOES(42)}, [3] = {2, 0, NO_REQUEST, TO(0), ECHOES(42)}
+
+/* Of seven sites: the first block, and ECHO 42 of sites 1 to 5; and then READY 42 of sites 1 to 3. */
+#define ECHOED_BY_FIVE \
+    [0] = {0, 0, {0, 42}, TO_NOTHING, SENDS(42)}, [1] = {1, 0, NO_REQUEST, TO(0), ECHOES(42)}, \
+    [2] = {2, 0, NO_REQUEST, TO(0), ECHOES(42)}, [3] = {3, 0, NO_REQUEST, TO(0), ECHOES(42)}, \
+    [4] = {4, 0, NO_REQUEST, TO(0), ECHOES(42)}, [5] = {5, 0, NO_REQUEST, TO(0), ECHOES(42)}
+#define READIED_BY_THREE \
+    ECHOED_BY_FIVE, [6] = {1, 1, NO_REQUEST, TO(1, 2, 3, 4, 5), READIES(42)}, \
+    [7] = {2, 1, NO_REQUEST, TO(1, 2, 3, 4, 5), READIES(42)}, [8] = {3, 1, NO_REQUEST, TO(1, 2, 3, 4, 5), READIES(42)}
 /* clang-format on */
 
 /* An array of steps, as pointer and count. */
@@ -135,7 +144,242 @@ static bool leaves(campaign c, size_t place, size_t slot, const uint16_t numbers
     return recorded(c, &records) && memcmp(records.numbers + 320 * place + 40 * slot, numbers, 2 * 40) == 0;
 }
 
-/* ---- ProcessCases, by the names that the rows have there */
+/* ---- ThresholdCases, by the names that the rows have there */
+
+/* clang-format off */
+
+static const step echoes_of_four[] = {
+    ECHOED,
+    [4] = {3, 0, NO_REQUEST, TO(1, 2), NOTHING},
+    [5] = {3, 1, NO_REQUEST, TO(4, 3), READIES(42)},
+};
+
+static const step readies_of_four[] = {
+    ECHOED,
+    [4] = {0, 2, NO_REQUEST, TO(1, 2, 3), READIES(42)},
+    [5] = {1, 1, NO_REQUEST, TO(1, 2, 3), READIES(42)},
+    [6] = {3, 0, NO_REQUEST, TO(4), NOTHING},
+    [7] = {3, 1, NO_REQUEST, TO(6, 5), READIES(42)},
+    [8] = {3, 2, NO_REQUEST, TO(7), DELIVERS(42)},
+};
+
+static const step readies_of_four_at_once[] = {
+    ECHOED,
+    [4] = {0, 2, NO_REQUEST, TO(1, 2, 3), READIES(42)},
+    [5] = {1, 1, NO_REQUEST, TO(1, 2, 3), READIES(42)},
+    [6] = {2, 1, NO_REQUEST, TO(1, 2, 3), READIES(42)},
+    [7] = {3, 0, NO_REQUEST, TO(4, 5, 6), READIES_AND_DELIVERS(42)},
+    [8] = {3, 1, NO_REQUEST, TO(7), NOTHING},
+};
+
+static const step echoes_of_seven[] = {
+    ECHOED_BY_FIVE,
+    [6] = {6, 0, NO_REQUEST, TO(1, 2, 3, 4), NOTHING},
+    [7] = {6, 1, NO_REQUEST, TO(6, 5), READIES(42)},
+};
+
+static const step readies_of_seven[] = {
+    READIED_BY_THREE,
+    [9] = {4, 1, NO_REQUEST, TO(1, 2, 3, 4, 5), READIES(42)},
+    [10] = {6, 0, NO_REQUEST, TO(6, 7), NOTHING},
+    [11] = {6, 1, NO_REQUEST, TO(10, 8), READIES(42)},
+    [12] = {6, 2, NO_REQUEST, TO(11), NOTHING},
+    [13] = {6, 3, NO_REQUEST, TO(12, 9), DELIVERS(42)},
+};
+
+static const step readies_of_seven_at_once[] = {
+    READIED_BY_THREE,
+    [9] = {4, 1, NO_REQUEST, TO(1, 2, 3, 4, 5), READIES(42)},
+    [10] = {5, 1, NO_REQUEST, TO(1, 2, 3, 4, 5), READIES(42)},
+    [11] = {6, 0, NO_REQUEST, TO(6, 7, 8, 9, 10), READIES_AND_DELIVERS(42)},
+    [12] = {6, 1, NO_REQUEST, TO(11), NOTHING},
+};
+
+/* clang-format on */
+
+static void check_thresholds(void)
+{
+    check("n 4, ECHO of two sites: nothing; of a third: READY", goes(of_sites(4, OF(echoes_of_four))));
+    check("n 4, READY of one site: nothing; of two: READY; the own one is the third: delivery",
+          goes(of_sites(4, OF(readies_of_four))));
+    check("n 4, READY of three sites at once: READY and delivery; a fourth: nothing more",
+          goes(of_sites(4, OF(readies_of_four_at_once))));
+    check("n 7, ECHO of four sites: nothing; of a fifth: READY", goes(of_sites(7, OF(echoes_of_seven))));
+    check("n 7, READY of two sites: nothing; of three: READY; of four: no delivery; of five: delivery",
+          goes(of_sites(7, OF(readies_of_seven))));
+    check("n 7, READY of five sites at once: READY and delivery; a sixth: nothing more",
+          goes(of_sites(7, OF(readies_of_seven_at_once))));
+}
+
+/* ---- TrapCases and SlotCases. A block of two requests is in core_calls.c. */
+
+/* clang-format off */
+
+static const step distinct_echoes[] = {
+    [0] = {0, 0, {0, 42}, TO_NOTHING, SENDS(42)},
+    [1] = {0, 1, NO_REQUEST, TO(0), ECHOES(42)},
+    [2] = {1, 0, NO_REQUEST, TO(0), ECHOES(42)},
+    [3] = {1, 0, MARKED, TO(0), ECHOES(42)},
+    [4] = {2, 0, NO_REQUEST, TO(0), ECHOES(42)},
+    [5] = {3, 0, NO_REQUEST, TO(2, 3, 4), NOTHING},
+    [6] = {3, 1, NO_REQUEST, TO(5, 1), READIES(42)},
+};
+
+static const step distinct_readies[] = {
+    ECHOED,
+    [4] = {1, 1, NO_REQUEST, TO(1, 2, 3), READIES(42)},
+    [5] = {1, 1, MARKED, TO(1, 2, 3), READIES(42)},
+    [6] = {2, 1, NO_REQUEST, TO(1, 2, 3), READIES(42)},
+    [7] = {3, 0, NO_REQUEST, TO(4), NOTHING},
+    [8] = {3, 1, NO_REQUEST, TO(7, 5), NOTHING},
+    [9] = {3, 2, NO_REQUEST, TO(8, 6), READIES(42)},
+};
+
+static const step direct_only[] = {
+    [0] = {0, 0, {0, 42}, TO_NOTHING, SENDS(42)},
+    [1] = {1, 0, NO_REQUEST, TO(0), ECHOES(42)},
+    [2] = {2, 0, NO_REQUEST, TO(1), NOTHING},
+};
+
+static const step parent_only[] = {
+    [0] = {0, 0, {0, 42}, TO_NOTHING, SENDS(42)},
+    [1] = {1, 0, MARKED, TO(0), ECHOES(42)},
+    [2] = {1, 0, NO_REQUEST, TO_NOTHING, NOTHING},
+    [3] = {1, 1, NO_REQUEST, TO(2, 0), ECHOES(42)},
+    [4] = {1, 1, NO_REQUEST, TO(3, 2, 0), ECHOES(42)},
+};
+
+static const step heard_in_branch[] = {
+    ECHOED,
+    [4] = {3, 0, NO_REQUEST, TO(1, 2), NOTHING},
+    [5] = {3, 0, NO_REQUEST, TO(3), NOTHING},
+};
+
+static const step lower_send_first[] = {
+    [0] = {0, 0, {0, 43}, TO_NOTHING, SENDS(43)},
+    [1] = {0, 0, {0, 42}, TO_NOTHING, SENDS(42)},
+    [2] = {1, 0, NO_REQUEST, TO(0, 1), ECHOES(42)},
+    [3] = {2, 0, NO_REQUEST, TO(1, 0), ECHOES(42)},
+};
+
+static const step lower_echo_first[] = {
+    [0] = {0, 0, {0, 43}, TO_NOTHING, SENDS(43)},
+    [1] = {1, 0, MARKED, TO(0), ECHOES(43)},
+    [2] = {0, 1, MARKED, TO(0), ECHOES(43)},
+    [3] = {2, 0, MARKED, TO(0), ECHOES(43)},
+    [4] = {0, 0, {0, 42}, TO_NOTHING, SENDS(42)},
+    [5] = {1, 0, NO_REQUEST, TO(4), ECHOES(42)},
+    [6] = {3, 0, NO_REQUEST, TO(1, 5, 2, 3), NOTHING},
+};
+
+static const step lower_sender_first[] = {
+    ECHOED,
+    [4] = {2, 1, NO_REQUEST, TO(1, 2, 3), READIES(42)},
+    [5] = {3, 0, NO_REQUEST, TO(1, 2, 3), READIES(42)},
+    [6] = {0, 0, {0, 43}, TO_NOTHING, SENDS(43)},
+    [7] = {0, 1, MARKED, TO(6), ECHOES(43)},
+    [8] = {1, 0, MARKED, TO(6), ECHOES(43)},
+    [9] = {2, 0, MARKED, TO(6), ECHOES(43)},
+    [10] = {0, 2, MARKED, TO(7, 8, 9), READIES(43)},
+    [11] = {1, 1, MARKED, TO(7, 8, 9), READIES(43)},
+    [12] = {3, 0, NO_REQUEST, TO(4, 5, 10, 11), READIES(43)},
+};
+
+static const step echo_before_ready[] = {
+    [0] = {0, 0, {0, 43}, TO_NOTHING, SENDS(43)},
+    [1] = {0, 1, MARKED, TO(0), ECHOES(43)},
+    [2] = {1, 0, MARKED, TO(0), ECHOES(43)},
+    [3] = {2, 0, MARKED, TO(0), ECHOES(43)},
+    [4] = {0, 2, MARKED, TO(1, 2, 3), READIES(43)},
+    [5] = {1, 1, MARKED, TO(1, 2, 3), READIES(43)},
+    [6] = {0, 0, {0, 42}, TO_NOTHING, SENDS(42)},
+    [7] = {0, 1, NO_REQUEST, TO(6), ECHOES(42)},
+    [8] = {1, 0, NO_REQUEST, TO(6), ECHOES(42)},
+    [9] = {2, 0, NO_REQUEST, TO(6), ECHOES(42)},
+    [10] = {3, 0, NO_REQUEST, TO(4, 5, 7, 8, 9), READIES(42)},
+};
+
+static const step echo_once[] = {
+    [0] = {0, 0, {0, 42}, TO_NOTHING, SENDS(42)},
+    [1] = {0, 0, {0, 43}, TO_NOTHING, SENDS(43)},
+    [2] = {1, 0, NO_REQUEST, TO(0), ECHOES(42)},
+    [3] = {1, 1, NO_REQUEST, TO(2, 1), NOTHING},
+};
+
+/* clang-format on */
+
+static void check_traps(void)
+{
+    check("two ECHOs of one site count once", goes(of_sites(4, OF(distinct_echoes))));
+    check("two READYs of one site count once, heard in two blocks", goes(of_sites(4, OF(distinct_readies))));
+    check("a SEND two references away is not heard", goes(of_sites(4, OF(direct_only))));
+    check("a site's two branches: each has its state from its parent", goes(of_sites(4, OF(parent_only))));
+    check("a site's two branches do not share what they heard", goes(of_sites(4, OF(heard_in_branch))));
+    check("of two SENDs the lower number is taken, in whatever order they arrive", goes(of_sites(4, OF(lower_send_first))));
+    check("of a site's two ECHOs the lower number is taken", goes(of_sites(4, OF(lower_echo_first))));
+    check("READYs are taken by sender, the lower first", goes(of_sites(4, OF(lower_sender_first))));
+    check("ECHOs are taken before READYs", goes(of_sites(4, OF(echo_before_ready))));
+    check("a second SEND brings no second ECHO", goes(of_sites(4, OF(echo_once))));
+}
+
+/* ---- ArrivalCases, but the thirteen blocks of `allFull`, which crates/vectors runs */
+
+/* clang-format off */
+
+static const step one_forked[] = {
+    [0] = {0, 0, {0, 42}, TO_NOTHING, SENDS(42)},
+    [1] = {3, 0, {1, 1}, TO_NOTHING, NOTHING},
+    [2] = {3, 0, {1, 2}, TO_NOTHING, NOTHING},
+    [3] = {0, 1, NO_REQUEST, TO(0), ECHOES(42)},
+    [4] = {1, 0, NO_REQUEST, TO(0), ECHOES(42)},
+    [5] = {2, 0, NO_REQUEST, TO(0, 1), ECHOES(42)},
+    [6] = {0, 2, NO_REQUEST, TO(3, 4, 5), READIES(42)},
+    [7] = {1, 1, NO_REQUEST, TO(3, 4, 5), READIES(42)},
+    [8] = {2, 1, NO_REQUEST, TO(3, 4, 5), READIES(42)},
+    [9] = {1, 2, NO_REQUEST, TO(6, 7, 8), DELIVERS(42)},
+};
+
+static const step owner_outside[] = {
+    [0] = {0, 0, NO_REQUEST, TO_NOTHING, NOTHING},
+    [1] = {0, 1, {0, 42}, TO(0), SENDS(42)},
+    [2] = {1, 0, NO_REQUEST, TO(0, 1), ECHOES(42)},
+    [3] = {2, 0, NO_REQUEST, TO(0, 1), ECHOES(42)},
+    [4] = {3, 0, NO_REQUEST, TO(0, 1), ECHOES(42)},
+    [5] = {1, 1, NO_REQUEST, TO(2, 3, 4), READIES(42)},
+    [6] = {2, 1, NO_REQUEST, TO(2, 3, 4), READIES(42)},
+    [7] = {3, 1, NO_REQUEST, TO(2, 3, 4), READIES(42)},
+    [8] = {0, 2, {0, 43}, TO(1, 2, 3, 4, 5, 6, 7), {.echo = 42, .ready = 42, .delivery = 42}},
+};
+
+static const step one_site_fewer[] = {
+    [0] = {0, 0, {0, 42}, TO_NOTHING, SENDS(42)},
+    [1] = {0, 1, NO_REQUEST, TO(0), ECHOES(42)},
+    [2] = {1, 0, NO_REQUEST, TO(0), ECHOES(42)},
+    [3] = {0, 2, NO_REQUEST, TO(1, 2), NOTHING},
+    [4] = {1, 1, NO_REQUEST, TO(1, 2), NOTHING},
+    [5] = {1, 2, NO_REQUEST, TO(3, 4), NOTHING},
+};
+
+static const step last_not_full[] = {
+    ECHOED,
+    [4] = {0, 2, NO_REQUEST, TO(1, 2, 3), READIES(42)},
+    [5] = {1, 1, NO_REQUEST, TO(1, 2, 3), READIES(42)},
+    [6] = {2, 1, NO_REQUEST, TO(1, 2, 3), READIES(42)},
+    [7] = {0, 3, NO_REQUEST, TO(4, 5, 6), DELIVERS(42)},
+    [8] = {3, 0, NO_REQUEST, TO(7), NOTHING},
+};
+
+/* clang-format on */
+
+static void check_arrivals(void)
+{
+    check("site 3 forked: delivered by the three others", goes(of_sites(4, OF(one_forked))));
+    check("the owner outside the set, and its later request: its first is delivered", goes(of_sites(4, OF(owner_outside))));
+    check("one site fewer than n - f: nothing", goes(of_sites(4, OF(one_site_fewer))));
+    check("a last block of a site that is not full: nothing", goes(of_sites(4, OF(last_not_full))));
+}
+
+/* ---- ProcessCases */
 
 /* clang-format off */
 static const step later_request[] = {
@@ -172,15 +416,7 @@ static const step readies_and_echo[] = {
 };
 
 static const step readies_then_echoes[] = {
-    [0] = {0, 0, {0, 42}, TO_NOTHING, SENDS(42)},
-    [1] = {1, 0, NO_REQUEST, TO(0), ECHOES(42)},
-    [2] = {2, 0, NO_REQUEST, TO(0), ECHOES(42)},
-    [3] = {3, 0, NO_REQUEST, TO(0), ECHOES(42)},
-    [4] = {4, 0, NO_REQUEST, TO(0), ECHOES(42)},
-    [5] = {5, 0, NO_REQUEST, TO(0), ECHOES(42)},
-    [6] = {1, 1, NO_REQUEST, TO(1, 2, 3, 4, 5), READIES(42)},
-    [7] = {2, 1, NO_REQUEST, TO(1, 2, 3, 4, 5), READIES(42)},
-    [8] = {3, 1, NO_REQUEST, TO(1, 2, 3, 4, 5), READIES(42)},
+    READIED_BY_THREE,
     [9] = {6, 0, NO_REQUEST, TO(4, 5, 6, 7, 8), READIES(42)},
     [10] = {6, 1, NO_REQUEST, TO(9, 1, 2), NOTHING},
 };
@@ -394,6 +630,9 @@ static void check_records(void)
 
 int main(void)
 {
+    check_thresholds();
+    check_traps();
+    check_arrivals();
     check_process();
     check_records();
     return all_ok ? EXIT_SUCCESS : EXIT_FAILURE;

@@ -7,7 +7,7 @@ from pathlib import Path
 
 from programs import ROOT, expect, run
 
-COMMANDS = {"Rattle": "rt", "C": "clang-format", "Rust": "cargo-fmt", "shell": "shellcheck"}
+COMMANDS = {"Rattle": "rt", "C": "clang-format-14", "Rust": "cargo-fmt", "shell": "shellcheck"}
 # For each language a file, and a last line that is not in the layout.
 SPOILED = {"Rattle": ("crates/base/src/lib.rt", "pub   fn spoiled() {}\n"), "C": ("host/dome.c", "int   spoiled;\n"),
            "Rust": ("host/harness/src/main.rs", "fn   spoiled() {}\n"), "shell": ("tools/install.sh", "echo $spoiled\n")}

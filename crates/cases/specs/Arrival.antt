@@ -21,7 +21,7 @@ use Rattle.arrival.specs.Full.{Full}
 use Rattle.arrival.specs.Arrival.{FirstRequest, InSet, AllInterpreted, Rounds, entryIn, Premises, DeliveredInChain}
 use Rattle.cases.specs.Toy.{toy, request, block}
 use Rattle.cases.specs.Run.{ledgerLeft, siteLeft, Step, _making_, sends, echoes, readies, delivers, readiesAndDelivers, arriving, Campaign}
-use Rattle.cases.specs.Blocks.{sites, first, later, threeSites, fourSites, echoing, readying, delivering}
+use Rattle.cases.specs.Blocks.{sites, first, later, threeSites, fourSites, echoing, readying, delivering, echoed}
 use Rattle.cases.specs.Starred.{thirteen}
 
 -- ---- blocks
@@ -178,14 +178,11 @@ pub record ArrivalCases : Type 0 where
       (delivering twoSites 1) 5 first (λ p. ltb p 2)
   -- sites 0, 1 and 2 are the set: site 0 delivers, and site 3, whose block is above all others, does not
   pub lastNotFull : LastNotFull
-      (first making sends 42
-      ∷ echoing 0 making echoes 42
-      ∷ echoing 1 making echoes 42
-      ∷ echoing 2 making echoes 42
-      ∷ readying threeSites 0 making readies 42
+      (echoed
+      (readying threeSites 0 making readies 42
       ∷ readying threeSites 1 making readies 42
       ∷ readying threeSites 2 making readies 42
       ∷ delivering threeSites 0 making delivers 42
       ∷ newcomer making none
-      ∷ [])
+      ∷ []))
       newcomer 8 first (λ p. ltb p 3)

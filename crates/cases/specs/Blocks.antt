@@ -8,7 +8,7 @@ use Rattle.table.specs.Layout.{layout}
 use Rattle.table.specs.Fresh.{nothing, emptyTable}
 use Rattle.admission.specs.Admission.{rowFor}
 use Rattle.cases.specs.Toy.{toy, request, block}
-use Rattle.cases.specs.Run.{good, tableAfter}
+use Rattle.cases.specs.Run.{Step, _making_, sends, echoes, good, tableAfter}
 
 -- ---- setups and tables that hold no block
 
@@ -92,3 +92,25 @@ four = tableAfter toy fresh (good first ∷ good fork ∷ good third ∷ good fo
 -- a table that holds the first k of the numbered blocks, written down at once: 64 admissions one after the other would be slow to evaluate
 unfoldable pub holding : ℕ → Bytes
 holding k = layout (sites 4) (record { retired = 0; held = k; row = λ i. rowFor toy nothing (numbered i) })
+
+-- ---- how many campaigns begin
+
+-- the first block, the ECHO 42 of sites 0 to 2, and then these steps
+abbrev pub echoed : List Step → List Step
+echoed rest =
+    first making sends 42
+    ∷ echoing 0 making echoes 42
+    ∷ echoing 1 making echoes 42
+    ∷ echoing 2 making echoes 42
+    ∷ rest
+
+-- the first block, the ECHO 42 of sites 1 to 5, and then these steps
+abbrev pub echoedByFive : List Step → List Step
+echoedByFive rest =
+    first making sends 42
+    ∷ echoing 1 making echoes 42
+    ∷ echoing 2 making echoes 42
+    ∷ echoing 3 making echoes 42
+    ∷ echoing 4 making echoes 42
+    ∷ echoing 5 making echoes 42
+    ∷ rest

@@ -1,25 +1,16 @@
 -- Document 01, "One slot's process" and "Interpreting a place": rows for sentences that a wrong rule could break while the rows of Starred,
 -- Thresholds and Traps still hold. Where nothing else is said site 0 owns the slot. The digest is the toy one.
-use mathlib.Core.List.{List, [], _∷_, map}
+use mathlib.Core.List.{[], _∷_, map}
 use Rattle.base.specs.Bytes.{Bytes}
 use Rattle.broadcast.specs.Record.{none, withEcho, withReady, withDelivered}
 use Rattle.cases.specs.Toy.{toy, request, block}
-use Rattle.cases.specs.Run.{Campaign, Step, _making_, sends, echoes, readies, delivers, readiesAndDelivers}
-use Rattle.cases.specs.Blocks.{sites, first, fork, third, threeSites, echoing, readying}
+use Rattle.cases.specs.Run.{Campaign, _making_, sends, echoes, readies, delivers, readiesAndDelivers}
+use Rattle.cases.specs.Blocks.{sites, first, fork, third, threeSites, echoing, readying, echoed, echoedByFive}
 use Rattle.cases.specs.Starred.{chained, twoReadies}
 use Rattle.cases.specs.Thresholds.{oneToFive, threeReadies}
 use Rattle.cases.specs.Traps.{mark, otherEchoing, otherReadying, idle, readyingThree, sharedOut}
 
 -- ---- the blocks
-
--- the first block, the ECHO 42 of sites 0 to 2, and then these steps
-abbrev pub echoed : List Step → List Step
-echoed rest =
-    first making sends 42
-    ∷ echoing 0 making echoes 42
-    ∷ echoing 1 making echoes 42
-    ∷ echoing 2 making echoes 42
-    ∷ rest
 
 -- site 0 requests nothing in its first block, and 42 in its second
 unfoldable pub silent : Bytes
@@ -126,18 +117,13 @@ pub record ProcessCases : Type 0 where
       ∷ []))
   -- n 7, READY of three sites and ECHO of two others: READY, no delivery; a block later the site's own READY and ECHO of two more: no delivery
   pub readiesThenEchoes : Campaign (sites 7) 0
-      (first making sends 42
-      ∷ echoing 1 making echoes 42
-      ∷ echoing 2 making echoes 42
-      ∷ echoing 3 making echoes 42
-      ∷ echoing 4 making echoes 42
-      ∷ echoing 5 making echoes 42
-      ∷ readying oneToFive 1 making readies 42
+      (echoedByFive
+      (readying oneToFive 1 making readies 42
       ∷ readying oneToFive 2 making readies 42
       ∷ readying oneToFive 3 making readies 42
       ∷ threeReadiesTwoEchoes making readies 42
       ∷ block 6 1 (toy threeReadiesTwoEchoes ∷ toy (echoing 1) ∷ toy (echoing 2) ∷ []) [] making none
-      ∷ [])
+      ∷ []))
   -- "READY v from p, none heard from p": a second READY of site 1, of another number, is not noted; the first stays noted, and with READY 42 of site
   -- 0 there are two supporters of 42
   pub otherReady : Campaign (sites 4) 0

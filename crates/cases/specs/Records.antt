@@ -10,10 +10,9 @@ use Rattle.broadcast.specs.Record.{none}
 use Rattle.records.specs.Layout.{recordSize, partSize, bufferSize}
 use Rattle.cases.specs.Toy.{toy, request, block}
 use Rattle.cases.specs.Run.{siteLeft, Step, _making_, sends, echoes, readies, delivers, arriving}
-use Rattle.cases.specs.Blocks.{sites, first, fork, third, threeSites, echoing, readying}
+use Rattle.cases.specs.Blocks.{sites, first, fork, third, threeSites, echoing, readying, echoed}
 use Rattle.cases.specs.Starred.{chained}
 use Rattle.cases.specs.Traps.{otherEchoing, otherReadying, sharedOut}
-use Rattle.cases.specs.Process.{echoed}
 
 -- the 40 numbers of a slot among the 320 of a place
 abbrev pub numbersAt : List ℕ → ℕ → ℕ → List ℕ

@@ -9,8 +9,8 @@ use Rattle.base.specs.List.{listBelow}
 use Rattle.setup.specs.Setup.{lawfulSites, faults, echoQuorum, readyAmplification, readyQuorum}
 use Rattle.broadcast.specs.Record.{none}
 use Rattle.cases.specs.Toy.{toy, block}
-use Rattle.cases.specs.Run.{Campaign, _making_, sends, echoes, readies, delivers, readiesAndDelivers}
-use Rattle.cases.specs.Blocks.{sites, first, threeSites, echoing, readying}
+use Rattle.cases.specs.Run.{Campaign, _making_, readies, delivers, readiesAndDelivers}
+use Rattle.cases.specs.Blocks.{sites, threeSites, echoing, readying, echoed, echoedByFive}
 use Rattle.cases.specs.Starred.{twoEchoes}
 
 -- every lawful n: 1, 4, 7, 10, 13 and 16
@@ -61,57 +61,38 @@ pub record ThresholdCases : Type 0 where
   pub readyQuorums : map readyQuorum lawfulCounts ≡ 1 ∷ 3 ∷ 5 ∷ 7 ∷ 9 ∷ 11 ∷ []
   -- n 4, ECHO from two sites: nothing; from a third: READY
   pub echoesOfFour : Campaign (sites 4) 0
-      (first making sends 42
-      ∷ echoing 0 making echoes 42
-      ∷ echoing 1 making echoes 42
-      ∷ echoing 2 making echoes 42
-      ∷ twoEchoes making none
+      (echoed
+      (twoEchoes making none
       ∷ block 3 1 (toy twoEchoes ∷ toy (echoing 2) ∷ []) [] making readies 42
-      ∷ [])
+      ∷ []))
   -- n 4, READY from one site: nothing; from two: READY, no delivery; a block later the site's own READY is the third: delivery
   pub readiesOfFour : Campaign (sites 4) 0
-      (first making sends 42
-      ∷ echoing 0 making echoes 42
-      ∷ echoing 1 making echoes 42
-      ∷ echoing 2 making echoes 42
-      ∷ readying threeSites 0 making readies 42
+      (echoed
+      (readying threeSites 0 making readies 42
       ∷ readying threeSites 1 making readies 42
       ∷ oneReady making none
       ∷ oneMoreReady making readies 42
       ∷ block 3 2 (toy oneMoreReady ∷ []) [] making delivers 42
-      ∷ [])
+      ∷ []))
   -- n 4, READY from three sites at once: READY and delivery; a block later the site's own READY is the fourth: nothing more
   pub readiesOfFourAtOnce : Campaign (sites 4) 0
-      (first making sends 42
-      ∷ echoing 0 making echoes 42
-      ∷ echoing 1 making echoes 42
-      ∷ echoing 2 making echoes 42
-      ∷ readying threeSites 0 making readies 42
+      (echoed
+      (readying threeSites 0 making readies 42
       ∷ readying threeSites 1 making readies 42
       ∷ readying threeSites 2 making readies 42
       ∷ threeReadies making readiesAndDelivers 42
       ∷ block 3 1 (toy threeReadies ∷ []) [] making none
-      ∷ [])
+      ∷ []))
   -- n 7, ECHO from four sites: nothing; from a fifth: READY
   pub echoesOfSeven : Campaign (sites 7) 0
-      (first making sends 42
-      ∷ echoing 1 making echoes 42
-      ∷ echoing 2 making echoes 42
-      ∷ echoing 3 making echoes 42
-      ∷ echoing 4 making echoes 42
-      ∷ echoing 5 making echoes 42
-      ∷ fourOfFiveEchoes making none
+      (echoedByFive
+      (fourOfFiveEchoes making none
       ∷ block 6 1 (toy fourOfFiveEchoes ∷ toy (echoing 5) ∷ []) [] making readies 42
-      ∷ [])
+      ∷ []))
   -- n 7, READY from two sites: nothing; from three: READY; a block later the site's own READY is the fourth: no delivery; from a fifth: delivery
   pub readiesOfSeven : Campaign (sites 7) 0
-      (first making sends 42
-      ∷ echoing 1 making echoes 42
-      ∷ echoing 2 making echoes 42
-      ∷ echoing 3 making echoes 42
-      ∷ echoing 4 making echoes 42
-      ∷ echoing 5 making echoes 42
-      ∷ readying oneToFive 1 making readies 42
+      (echoedByFive
+      (readying oneToFive 1 making readies 42
       ∷ readying oneToFive 2 making readies 42
       ∷ readying oneToFive 3 making readies 42
       ∷ readying oneToFive 4 making readies 42
@@ -119,20 +100,15 @@ pub record ThresholdCases : Type 0 where
       ∷ thirdReadyOfFive making readies 42
       ∷ ownReady making none
       ∷ block 6 3 (toy ownReady ∷ toy (readying oneToFive 4) ∷ []) [] making delivers 42
-      ∷ [])
+      ∷ []))
   -- n 7, READY from five sites at once: READY and delivery; a block later the site's own READY is the sixth: nothing more
   pub readiesOfSevenAtOnce : Campaign (sites 7) 0
-      (first making sends 42
-      ∷ echoing 1 making echoes 42
-      ∷ echoing 2 making echoes 42
-      ∷ echoing 3 making echoes 42
-      ∷ echoing 4 making echoes 42
-      ∷ echoing 5 making echoes 42
-      ∷ readying oneToFive 1 making readies 42
+      (echoedByFive
+      (readying oneToFive 1 making readies 42
       ∷ readying oneToFive 2 making readies 42
       ∷ readying oneToFive 3 making readies 42
       ∷ readying oneToFive 4 making readies 42
       ∷ readying oneToFive 5 making readies 42
       ∷ fiveReadies making readiesAndDelivers 42
       ∷ block 6 1 (toy fiveReadies ∷ []) [] making none
-      ∷ [])
+      ∷ []))

@@ -11,7 +11,7 @@ use Rattle.block.specs.declared.Request.{Request}
 use Rattle.broadcast.specs.Record.{none}
 use Rattle.cases.specs.Toy.{toy, request, block}
 use Rattle.cases.specs.Run.{Campaign, _making_, sends, echoes, readies}
-use Rattle.cases.specs.Blocks.{sites, first, fork, both, later, threeSites, echoing, readying}
+use Rattle.cases.specs.Blocks.{sites, first, fork, both, later, threeSites, echoing, readying, echoed}
 use Rattle.cases.specs.Starred.{twoEchoes}
 
 -- ---- forks: a request in slot 1 gives a second block of one sequence number another toy digest
@@ -86,17 +86,14 @@ pub record TrapCases : Type 0 where
       ∷ [])
   -- "counting messages in place of distinct senders": two READYs of one site count once, also where they are heard in two blocks
   pub distinctReadies : Campaign (sites 4) 0
-      (first making sends 42
-      ∷ echoing 0 making echoes 42
-      ∷ echoing 1 making echoes 42
-      ∷ echoing 2 making echoes 42
-      ∷ readying threeSites 1 making readies 42
+      (echoed
+      (readying threeSites 1 making readies 42
       ∷ readyingTwin making readies 42
       ∷ readying threeSites 2 making readies 42
       ∷ oneSender making none
       ∷ sameSender making none
       ∷ block 3 2 (toy sameSender ∷ toy (readying threeSites 2) ∷ []) [] making readies 42
-      ∷ [])
+      ∷ []))
   -- "hearing messages of all ancestors": the SEND is two references away
   pub directOnly : Campaign (sites 4) 0
       (first making sends 42
@@ -114,13 +111,10 @@ pub record TrapCases : Type 0 where
       ∷ [])
   -- two branches do not share what they heard: one heard two ECHOs, the other a third, and neither sends READY
   pub heardInBranch : Campaign (sites 4) 0
-      (first making sends 42
-      ∷ echoing 0 making echoes 42
-      ∷ echoing 1 making echoes 42
-      ∷ echoing 2 making echoes 42
-      ∷ twoEchoes making none
+      (echoed
+      (twoEchoes making none
       ∷ block 3 0 (toy (echoing 2) ∷ []) [] making none
-      ∷ [])
+      ∷ []))
   -- "taking messages in arrival order": of a site's two SENDs the lower number is taken, in whatever order they arrive or are listed
   pub lowerSendFirst : Campaign (sites 4) 0
       (fork making sends 43
@@ -140,11 +134,8 @@ pub record TrapCases : Type 0 where
       ∷ [])
   -- "then lower sender": READY 42 from sites 2 and 3 arrives first and is listed first, READY 43 from sites 0 and 1 is taken first
   pub lowerSenderFirst : Campaign (sites 4) 0
-      (first making sends 42
-      ∷ echoing 0 making echoes 42
-      ∷ echoing 1 making echoes 42
-      ∷ echoing 2 making echoes 42
-      ∷ readying threeSites 2 making readies 42
+      (echoed
+      (readying threeSites 2 making readies 42
       ∷ readyingThree making readies 42
       ∷ fork making sends 43
       ∷ otherEchoing 0 making echoes 43
@@ -153,7 +144,7 @@ pub record TrapCases : Type 0 where
       ∷ otherReadying 0 making readies 43
       ∷ otherReadying 1 making readies 43
       ∷ block 3 0 (toy (readying threeSites 2) ∷ toy readyingThree ∷ toy (otherReadying 0) ∷ toy (otherReadying 1) ∷ []) [] making readies 43
-      ∷ [])
+      ∷ []))
   -- "ECHO before READY": READY 43 from two sites arrives first and is listed first, three ECHOs of 42 are taken first
   pub echoBeforeReady : Campaign (sites 4) 0
       (fork making sends 43
