@@ -67,6 +67,14 @@ def test_a_wrong_name_in_the_trace_is_found():
         expect(any(wrong.strip("`") in line for line in unknown), f"{wrong}: {unknown}")
 
 
+def test_every_file_that_a_document_names_exists():
+    stored = [f"/{path.relative_to(ROOT)}" for path in ROOT.rglob("*.*") if "target" not in path.parts]
+    for page in [ROOT / "README.md", ROOT / "CONTRIBUTING.md", *sorted((ROOT / "docs").glob("*.md"))]:
+        named = set(re.findall(r"`([\w./-]+\.(?:antt|rt|rs|md|py|c|h|sh|txt))`", page.read_text(encoding="utf-8")))
+        missing = sorted(name for name in named if not any(path.endswith(f"/{name}") for path in stored))
+        expect(not missing, f"{page.name}: {missing}")
+
+
 def test_every_edit_stands_in_the_trace():
     missing = trace_page.stored_edits() - trace_page.named_edits(trace_page.TRACE.read_text(encoding="utf-8"))
     expect(not missing, f"{sorted(missing)}")

@@ -1,5 +1,6 @@
--- `broadcast::after` meets its contract: a walk of its MIR, by hand. The struct is copied to a local, which is lent to `receive` for a new lifetime and taken back at the last value that its contract says.
--- All that it knows of `receive` is that it meets its contract. Assumes nothing.
+-- `after` meets its contract, shown by hand, step by step of the compiled code (`rt mir broadcast` prints it): a lent struct is outside the kit's own
+-- walk. The struct is copied to a local, which is lent to `receive` and taken back at the last value that the contract of `receive` says. All that is
+-- used of `receive` is that it meets its contract. Assumes nothing.
 use mathlib.Core.Path.{_≡_, refl, sym, ap, subst}
 use Prim.Native.Nat.{ℕ, _<_, _^_}
 use mathlib.Core.List.{[], _∷_, List}

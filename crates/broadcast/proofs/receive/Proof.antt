@@ -1,5 +1,6 @@
--- `broadcast::receive` meets its contract: a walk of its MIR, by hand. The borrow is opened, the struct is copied out and passed to `step`, what that returns is stored, and the borrow is closed at it.
--- All that it knows of `step` is that it meets its contract. Assumes nothing.
+-- `receive` meets its contract, shown by hand, step by step of the compiled code (`rt mir broadcast` prints it): a lent struct is outside the kit's own
+-- walk. The borrow is opened, the struct is copied out and passed to `step`, what `step` returns is stored, and the borrow is closed at that value. All
+-- that is used of `step` is that it meets its contract. Assumes nothing.
 use mathlib.Core.Path.{_≡_, refl}
 use Prim.Native.Nat.{ℕ, _<_, _^_}
 use mathlib.Core.List.{[], _∷_, List}
