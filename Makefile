@@ -115,7 +115,7 @@ harness: prerequisites $(LIBRARY)
 	@cargo build --quiet --release --offline --manifest-path host/harness/Cargo.toml --target-dir target/harness
 
 # The documents' figures that follow from the tree. A host test compares them.
-figures:
+figures: prerequisites
 	python3 -B tools/figures.py
 
 # Removes all that was built; the next proof starts from nothing.

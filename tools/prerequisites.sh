@@ -35,7 +35,7 @@ need rt 'the Rattle toolchain: proves the crates and builds the library'
 need gcc 'compiles the control program, the host tests and the benchmarks, and links the harness'
 need make 'runs the targets of the Makefile'
 need cargo 'builds the test harness in Rust' test test-programs harness fuzz
-need python3 'runs the host tests, adds up the memory, and measures the listing' test bench memory
+need python3 'runs the host tests, adds up the memory, measures the listing, and writes figures of documents' test bench memory figures
 need nm 'says which calls are linked, for the memory budget' test memory
 need size 'says how much is linked, for the memory budget' test memory
 need g++ 'compiles the header as C++, a host test' test

@@ -8,7 +8,7 @@ from pathlib import Path
 from programs import ROOT, expect, make, run
 
 SCRIPT = str(ROOT / "tools" / "prerequisites.sh")
-TARGETS = ["demo", "check", "host", "install", "test", "test-programs", "harness", "fuzz", "bench", "memory"]
+TARGETS = ["demo", "check", "host", "install", "test", "test-programs", "harness", "fuzz", "bench", "memory", "figures"]
 ALL = ["rt", "gcc", "make", "cargo", "python3", "nm", "size", "g++", "groff", "valgrind"]
 FOR_TESTS = ["cargo", "g++", "groff", "valgrind"]
 
