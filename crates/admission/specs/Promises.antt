@@ -17,7 +17,7 @@ use Rattle.table.specs.Form.{inForm}
 use Rattle.table.specs.Promises.{Grown}
 use Rattle.admission.specs.Admission.{rowFor, admission, admitted}
 
--- Whole: checks 2 and 3 hold. OfSite: check 4 holds too. Vouched: check 5 holds too
+-- BlockShaped: checks 2 and 3 hold. OfSite: check 4 holds too. Vouched: check 5 holds too
 pub record BlockShaped (t b : Bytes) : Type 0 where
   pub formed : inForm t ≡ true
   pub shape : Shaped b

@@ -19,7 +19,7 @@ use Rattle.watch.specs.Forks.{ofSite}
 use Rattle.watch.specs.Promises.{Shares}
 use Rattle.build.specs.Building.{maxSequence, nextSequence, nextContent, nextBlock, buildingFrom, builtFrom}
 
--- BySite: checks 2 and 4 hold. Listed: check 3 holds too
+-- BySite: checks 2 and 4 hold. WholeList: check 3 holds too
 pub record BySite (t : Bytes) (p : ℕ) : Type 0 where
   pub formed : inForm t ≡ true
   pub site : p < setupOf t .sites

@@ -27,7 +27,7 @@ digestAnswer output = cond (ltb (length output) referenceSize) (refused 17 refer
 abbrev pub putOutput : Bytes → Bytes → Bytes
 putOutput part output = cond (ltb (length output) referenceSize) output (splice output 0 part)
 
--- the output after gt_digest, whose answer is putAnswer
+-- the output after gt_digest, whose answer is digestAnswer
 unfoldable pub digestOutput : Bytes → Bytes → Bytes
 digestOutput message output = putOutput (sha256 message) output
 

@@ -13,7 +13,7 @@ use Rattle.table.specs.Promises.{Marked}
 use Rattle.records.specs.Layout.{bufferSize}
 use Rattle.interpret.specs.Interpretation.{interpretation, marked, recorded}
 
--- Whole: checks 2 and 12 hold. Held: check 13 holds too. Open: check 14 holds too
+-- RecordsSized: checks 2 and 12 hold. PlaceHeld: check 13 holds too. Open: check 14 holds too
 pub record RecordsSized (t : Bytes) (buffer : List ℕ) : Type 0 where
   pub formed : inForm t ≡ true
   pub size : length buffer ≡ bufferSize

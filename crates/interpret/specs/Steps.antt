@@ -34,7 +34,7 @@ pub record Interpretable (t : Bytes) (i : ℕ) (buffer : List ℕ) : Type 0 wher
 abbrev pub referredBy : Bytes → ℕ → List ℕ
 referredBy t i = passingBelow (rowAt t i .refersTo) i
 
--- what Ready asks, with the list of the places that place i refers to, and a slot
+-- what Interpretable asks, with the list of the places that place i refers to, and a slot
 pub record InterpretableSlot (t : Bytes) (i : ℕ) (places buffer : List ℕ) (slot : ℕ) : Type 0 where
   pub ready : Interpretable t i buffer
   pub listed : places ≡ referredBy t i
