@@ -3,7 +3,7 @@ use mathlib.Core.Path.{_≡_, refl, sym, ap, ap₂, _∙_, subst}
 use mathlib.Core.Bool.{Bool, true, false, cond}
 use mathlib.Core.Logic.{_⊎_, ⊎-elim}
 use Prim.Native.Nat.{ℕ, zero, suc, _+_, _-_, _*_, _/_, _%_, _^_, _≤_, _<_, min, max, suc-le-suc}
-use native.Mathlib.Nat.{pow-suc, mul-assoc, mul-add-div-right, mul-add-mod-self-right, div-eq-of-lt, eq-or-lt-of-le, le-of-suc-le-suc, div-one, mod-lt, mod-eq-of-lt, div-add-mod', zero-div}
+use native.Mathlib.Nat.{pow-suc, mul-assoc, mul-add-div-right, mul-add-mod-self-right, div-eq-of-lt, eq-or-lt-of-le, le-of-suc-le-suc, div-one, mod-lt, mod-eq-of-lt, div-add-mod'}
 use native.Mathlib.Omega.{arith}
 use native.Mathlib.Numerals.{add-one}
 use lib.Dec.{lit<}
@@ -154,9 +154,3 @@ bits-ext (suc w) a b h k e =
     let lo : a % 2 ≡ b % 2 = sym (bit-zero a) ∙ e 0 (omega arith) ∙ bit-zero b in
     let hi : a / 2 ≡ b / 2 = bits-ext w (a / 2) (b / 2) (half-below w a h) (half-below w b k) (λ p l. sym (bit-suc a p) ∙ e (suc p) (suc-le-suc l) ∙ bit-suc b p) in
     omega (arith, div-add-mod' a 2, div-add-mod' b 2)
-
--- a mask with no bit of another: each place of the one is no place of the other
-pub disjoint-bit : (a b p : ℕ) → bitAnd a b ≡ 0 → bitAt a p ≡ 1 → bitAt b p ≡ 0
-disjoint-bit a b p z h =
-    let e : min (bitAt a p) (bitAt b p) ≡ 0 = sym (bit-and a b p) ∙ ap (λ (x : ℕ). bitAt x p) z ∙ ap (λ (x : ℕ). x % 2) (zero-div (2 ^ p)) in
-    omega arith

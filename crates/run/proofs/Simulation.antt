@@ -97,10 +97,6 @@ module _ (digest : Bytes → Bytes) where
       unfolding taken
       mark-new = rw (eq-eqb (l .held) (l .held) refl)
 
-      held-after : after .held ≡ suc (l .held)
-      unfolding taken
-      held-after = refl
-
       -- a place refers to lower places, and those stay
       pub refers-old : (a : Bytes) (i j : ℕ) → i ≤ l .held → (ltb j i && lists a (digest (l .block j))) ≡ (ltb j i && lists a (digest (after .block j)))
       refers-old a i j h = by-test (ltb j i)
