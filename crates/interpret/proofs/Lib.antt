@@ -22,7 +22,7 @@ pub mod Causes
 pub mod Effect
 -- what is written is the same in another table with other places
 pub mod Relocation
--- the ways out of `interpret`
-mod Call
+-- the ways out of the call
+mod Ways
 -- interpretation keeps its promises
 pub mod Promises

@@ -9,7 +9,7 @@ use Rattle.table.specs.Layout.{countOf, markAt}
 use Rattle.table.specs.Form.{inForm}
 use Rattle.table.proofs.InForm.{table-form}
 use Rattle.interpret.specs.Steps.{Interpretable}
-use Rattle.interpret.proofs.Call.{way2, way12, way13, way14, way15, way0, ready}
+use Rattle.interpret.proofs.Ways.{way2, way12, way13, way14, way15, way0, ready}
 use Rattle.interpret.proofs.interpret.Statement.{statement}
 use Rattle.interpret.proofs.interpret.Tie as tie
 
