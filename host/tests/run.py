@@ -13,7 +13,7 @@ from pathlib import Path
 
 HERE = Path(__file__).resolve().parent
 sys.dont_write_bytecode = True
-sys.path[:0] = [str(HERE), *(str(HERE.parents[1] / name) for name in ("examples", "tools", "docs"))]
+sys.path[:0] = [str(HERE), *(str(HERE.parents[1] / name) for name in ("examples", "tools", "docs", "bench"))]
 
 FAULTS = (Exception, SystemExit)
 
