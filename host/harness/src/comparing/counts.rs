@@ -18,15 +18,15 @@ use campaigns::Campaigns;
 use groups::Groups;
 use joins::Joins;
 use listings::Listings;
-use long_campaigns::Lasted;
+use long_campaigns::LongCampaigns;
 use retirings::Retirings;
 use shelves::Shelves;
 use takings_back::TakingsBack;
-use watch::Watched;
+use watch::WatchedTables;
 
-pub use groups::Met;
-pub use retirings::Coming;
-pub use takings_back::Going;
+pub use groups::PremisesMet;
+pub use retirings::BlockHistory;
+pub use takings_back::LastBlockHistory;
 
 /// The calls whose answers are counted.
 #[derive(Clone, Copy)]
@@ -56,18 +56,18 @@ const CALLS: [(Call, &str, &[u8]); 9] = [
 ];
 
 /// How often a call gave each answer, by its refusal number.
-struct Answered([u64; REFUSALS]);
+struct AnswerCounts([u64; REFUSALS]);
 
 /// Refusal numbers end at 33.
 const REFUSALS: usize = 34;
 
-impl Default for Answered {
+impl Default for AnswerCounts {
     fn default() -> Self {
-        Answered([0; REFUSALS])
+        AnswerCounts([0; REFUSALS])
     }
 }
 
-impl Answered {
+impl AnswerCounts {
     fn note(&mut self, refusal: u8) {
         self.0[usize::from(refusal)] += 1;
     }
@@ -109,19 +109,19 @@ pub struct Counts {
     pub digest: u64,
     pub campaigns: Campaigns,
     pub groups: Groups,
-    pub watched: Watched,
-    pub built: BuiltBlocks,
+    pub watched_tables: WatchedTables,
+    pub built_blocks: BuiltBlocks,
     pub shelves: Shelves,
     pub joins: Joins,
     pub retirings: Retirings,
     pub takings_back: TakingsBack,
-    pub lasted: Lasted,
+    pub long_campaigns: LongCampaigns,
     pub listings: Listings,
-    /// Of each call.
-    answers: [Answered; CALLS.len()],
+    /// The answers of each call.
+    answers: [AnswerCounts; CALLS.len()],
     replays: u64,
     /// The calls that ran in replays.
-    replayed: u64,
+    replayed_calls: u64,
     in_form: u64,
     not_in_form: u64,
 }
@@ -141,7 +141,7 @@ impl Counts {
 
     pub fn replay(&mut self, calls: usize) {
         self.replays += 1;
-        self.replayed += calls as u64;
+        self.replayed_calls += calls as u64;
     }
 }
 
@@ -156,7 +156,7 @@ impl Display for Counts {
         for (call, name, _) in CALLS {
             writeln!(to, "{name:<13} {:>8} calls", self.answers[call as usize].all())?;
         }
-        writeln!(to, "gt_replay     {:>8} calls of {} in all", self.replays, self.replayed)?;
+        writeln!(to, "gt_replay     {:>8} calls of {} in all", self.replays, self.replayed_calls)?;
         writeln!(to, "gt_read_block {:>8} calls", self.reading)?;
         writeln!(to, "gt_digest     {:>8} calls", self.digest)?;
         for (call, name, numbers) in CALLS {
@@ -167,7 +167,7 @@ impl Display for Counts {
         }
         writeln!(to, "tables in form     {:>8}", self.in_form)?;
         writeln!(to, "tables not in form {:>8}", self.not_in_form)?;
-        write!(to, "{}{}{}{}", self.campaigns, self.watched, self.built, self.groups)?;
-        write!(to, "{}{}{}{}{}", self.shelves, self.joins, self.retirings, self.takings_back, self.lasted)
+        write!(to, "{}{}{}{}", self.campaigns, self.watched_tables, self.built_blocks, self.groups)?;
+        write!(to, "{}{}{}{}{}", self.shelves, self.joins, self.retirings, self.takings_back, self.long_campaigns)
     }
 }

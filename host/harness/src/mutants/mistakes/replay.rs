@@ -1,7 +1,7 @@
 //! Mistakes in replaying a list of calls.
 
 use super::Mistake;
-use crate::model::replay::{first, note, wide, Call, First, WIDE_BYTES};
+use crate::model::replay::{first, note, wide, Call, FirstCall, WIDE_BYTES};
 
 pub const MISTAKES: &[Mistake] = &[
     // Reading the list
@@ -271,7 +271,7 @@ pub const MISTAKES: &[Mistake] = &[
     }),
 ];
 
-fn cut_block_runs(list: &[u8]) -> First<'_> {
+fn cut_block_runs(list: &[u8]) -> FirstCall<'_> {
     match list {
         [0, verdict, rest @ ..] => {
             let (length, rest) = wide(rest)?;
@@ -283,7 +283,7 @@ fn cut_block_runs(list: &[u8]) -> First<'_> {
     }
 }
 
-fn cut_place_runs(list: &[u8]) -> First<'_> {
+fn cut_place_runs(list: &[u8]) -> FirstCall<'_> {
     match list {
         [1, rest @ ..] if rest.len() < WIDE_BYTES => {
             let mut bytes = [0; WIDE_BYTES];
@@ -295,7 +295,7 @@ fn cut_place_runs(list: &[u8]) -> First<'_> {
 }
 
 /// The first call of a list; an interpretation is of a place that is read otherwise.
-fn other_place(list: &[u8], read: fn(u64) -> u64) -> First<'_> {
+fn other_place(list: &[u8], read: fn(u64) -> u64) -> FirstCall<'_> {
     match first(list)? {
         (Call::Interpretation { place }, rest) => {
             Some((Call::Interpretation { place: read(place as u64) as usize }, rest))

@@ -239,17 +239,17 @@ pub const ANCESTOR_MISTAKES: &[Mistake] = &[
     ("ancestors: none", |m| m.model.watch.ancestors = |_, _| 0),
     // The place
     ("ancestors: the place may be the count", |m| {
-        m.ancestors(13, |asked| (asked.place > asked.table.count).then_some(0))
+        m.ancestors(13, |input| (input.place > input.table.count).then_some(0))
     }),
     ("ancestors: the last place is refused", |m| {
-        m.ancestors(13, |asked| (asked.place >= asked.table.count.saturating_sub(1)).then_some(0))
+        m.ancestors(13, |input| (input.place >= input.table.count.saturating_sub(1)).then_some(0))
     }),
-    ("ancestors: places are compared with 64", |m| m.ancestors(13, |asked| (asked.place >= PLACES).then_some(0))),
+    ("ancestors: places are compared with 64", |m| m.ancestors(13, |input| (input.place >= PLACES).then_some(0))),
     ("ancestors: the place's low byte decides", |m| {
-        m.ancestors(13, |asked| (asked.place % 256 >= asked.table.count).then_some(0))
+        m.ancestors(13, |input| (input.place % 256 >= input.table.count).then_some(0))
     }),
     ("ancestors: the place's low half decides", |m| {
-        m.ancestors(13, |asked| (asked.place as u32 as usize >= asked.table.count).then_some(0))
+        m.ancestors(13, |input| (input.place as u32 as usize >= input.table.count).then_some(0))
     }),
     // The count, what stands beside a refusal, and what is left
     ("ancestors: the references are counted", |m| {
