@@ -27,6 +27,16 @@ impl Buffers {
         Buffers { table, records, ..Buffers::default() }
     }
 
+    /// A copy of what a site keeps.
+    pub fn table_and_records(&self) -> Buffers {
+        Buffers::new(self.table.clone(), self.records.clone())
+    }
+
+    /// The first so many outcomes.
+    pub fn first_outcomes(&self, count: usize) -> Vec<OutcomeNumbers> {
+        self.outcomes.chunks_exact(2).take(count).map(|pair| [pair[0], pair[1]]).collect()
+    }
+
     /// The first item that is other than in `expected`, if there is one.
     pub fn first_other(&self, expected: &Buffers) -> Option<String> {
         first_other("table", &self.table, &expected.table)
@@ -47,6 +57,9 @@ fn first_other_record(name: &str, tested: &[u16], expected: &[u16]) -> Option<St
     let RecordPosition { place, slot, entry } = RecordPosition::of(other_at(tested, expected)?);
     Some(format!("{what}: place {place}, slot {slot}, entry {entry}"))
 }
+
+/// What became of a block that waited, as the two numbers of its outcome: 0 and its place, or its refusal and 0.
+pub type OutcomeNumbers = [u64; 2];
 
 /// What a site's next block is built from.
 #[derive(Clone, Copy)]

@@ -24,6 +24,8 @@ use shelves::Shelves;
 use takings_back::TakingsBack;
 use watch::WatchedTables;
 
+use crate::model::sizes::SITE_COUNTS;
+
 pub use groups::PremisesMet;
 pub use retirings::BlockHistory;
 pub use takings_back::LastBlockHistory;
@@ -101,10 +103,31 @@ impl<const N: usize> Default for Times<N> {
     }
 }
 
+/// How many tables, or shelves, were in form, and how many weren't.
+#[derive(Default)]
+pub struct FormCounts {
+    in_form: u64,
+    not_in_form: u64,
+}
+
+impl FormCounts {
+    pub fn note(&mut self, in_form: bool) {
+        self.in_form += u64::from(in_form);
+        self.not_in_form += u64::from(!in_form);
+    }
+}
+
+/// The count of a number of sites, of those that a setup can have.
+fn of_site_count<T>(counts: &mut [T; SITE_COUNTS.len()], sites: u8) -> &mut T {
+    let index = SITE_COUNTS.iter().position(|&count| count == sites);
+    &mut counts[index.expect("a lawful setup")]
+}
+
 #[derive(Default)]
 pub struct Counts {
     pub cases: u64,
     pub fresh: u64,
+    pub tables: FormCounts,
     pub reading: u64,
     pub digest: u64,
     pub campaigns: Campaigns,
@@ -122,19 +145,9 @@ pub struct Counts {
     replays: u64,
     /// The calls that ran in replays.
     replayed_calls: u64,
-    in_form: u64,
-    not_in_form: u64,
 }
 
 impl Counts {
-    pub fn form(&mut self, in_form: bool) {
-        if in_form {
-            self.in_form += 1;
-        } else {
-            self.not_in_form += 1;
-        }
-    }
-
     pub fn answer(&mut self, call: Call, refusal: u8) {
         self.answers[call as usize].note(refusal);
     }
@@ -152,7 +165,7 @@ impl Display for Counts {
             return self.listings.fmt(to);
         }
         writeln!(to, "gt_fresh      {:>8} calls", self.fresh)?;
-        writeln!(to, "gt_in_form    {:>8} calls", self.in_form + self.not_in_form)?;
+        writeln!(to, "gt_in_form    {:>8} calls", self.tables.in_form + self.tables.not_in_form)?;
         for (call, name, _) in CALLS {
             writeln!(to, "{name:<13} {:>8} calls", self.answers[call as usize].all())?;
         }
@@ -165,8 +178,8 @@ impl Display for Counts {
                 writeln!(to, "{name} answered {number:>2} {times:>8} times")?;
             }
         }
-        writeln!(to, "tables in form     {:>8}", self.in_form)?;
-        writeln!(to, "tables not in form {:>8}", self.not_in_form)?;
+        writeln!(to, "tables in form     {:>8}", self.tables.in_form)?;
+        writeln!(to, "tables not in form {:>8}", self.tables.not_in_form)?;
         write!(to, "{}{}{}{}", self.campaigns, self.watched_tables, self.built_blocks, self.groups)?;
         write!(to, "{}{}{}{}{}", self.shelves, self.joins, self.retirings, self.takings_back, self.long_campaigns)
     }

@@ -24,6 +24,8 @@ mod taking_back;
 mod tries;
 mod watch;
 
+use std::ops::BitXorAssign;
+
 use crate::comparing::laws::*;
 use crate::model::admission::AdmissionInput;
 use crate::model::answer::{AncestorPlaces, Answer, ArrivalAnswer, ForkedSites, Reading};
@@ -571,6 +573,23 @@ impl Mutant {
 fn exchange<Input: ?Sized>(checks: &mut [Check<Input>], number: u8, finds: fn(&Input) -> Option<usize>) {
     let check = checks.iter_mut().find(|check| check.number == number);
     check.expect("a check of that number").finds = finds;
+}
+
+/// For each two neighbouring checks of a call, a mutant in which they are swapped.
+fn neighbours_swapped<Input: ?Sized>(call: &str, checks: fn(&mut Model) -> &mut Vec<Check<Input>>) -> Vec<Mutant> {
+    let numbers: Vec<u8> = checks(&mut Model::document()).iter().map(|check| check.number).collect();
+    let swapped = |first: usize| {
+        let name = format!("{call}: checks {} and {} swapped", numbers[first], numbers[first + 1]);
+        Mutant::with(name, |m| checks(&mut m.model).swap(first, first + 1))
+    };
+    (0..numbers.len() - 1).map(swapped).collect()
+}
+
+/// Writes a buffer: a bit of its last item is flipped, if it has one.
+fn flip_last<Item: BitXorAssign + From<u8>>(buffer: &mut [Item]) {
+    if let Some(last) = buffer.last_mut() {
+        *last ^= Item::from(1);
+    }
 }
 
 /// The answer with another value beside this refusal.

@@ -34,7 +34,7 @@ fn by_hand(random: &Random, compare: &mut Compare) -> Result<(), Difference> {
     let length = some_length(random);
     let mut sides = Sides::new(Buffers::new(bytes, any_numbers(random, length)));
     for _ in 0..RETIRINGS_A_TABLE {
-        let before = Buffers::new(sides.expected.table.clone(), sides.expected.records.clone());
+        let before = sides.expected.table_and_records();
         let answer = compare.retire(&mut sides)?;
         compare.counts.retirings.answer(&Table::from_bytes(&before.table), length, answer);
         if answer.refusal != 0 {
@@ -53,7 +53,7 @@ fn by_hand(random: &Random, compare: &mut Compare) -> Result<(), Difference> {
 
 /// Two controllers can be joined only where neither has retired.
 fn join(random: &Random, compare: &mut Compare, [left, right]: [&Buffers; 2]) -> Result<(), Difference> {
-    let mut sides = Sides::new(Buffers::new(left.table.clone(), left.records.clone()));
+    let mut sides = Sides::new(left.table_and_records());
     compare.join(&mut sides, right, &any_numbers(random, BUFFER_NUMBERS)).map(|_| ())
 }
 

@@ -3,9 +3,7 @@
 use crate::comparing::buffers::{Buffers, Sides};
 use crate::comparing::compare::Compare;
 use crate::comparing::difference::Difference;
-use crate::comparing::facts::arrival::{
-    ArrivalFacts, ArrivalTakenBack, OutcomeNumbers, PlainAdmissions, TableAndShelf,
-};
+use crate::comparing::facts::arrival::{ArrivalFacts, ArrivalTakenBack, PlainAdmissions, TableAndShelf};
 use crate::drawing::arrivals::Arrival;
 use crate::drawing::random::Random;
 use crate::model::answer::Answer;
@@ -30,8 +28,7 @@ pub fn arrival_facts(
     let answered = compare.arrive(sides, campaign, &arrival.block, arrival.verdict, &outcomes)?;
     let after = table_and_shelf(sides);
     let answer = answered.answer;
-    let pairs = sides.expected.outcomes.chunks_exact(2);
-    let listed: Vec<OutcomeNumbers> = pairs.take(answered.ended).map(|pair| [pair[0], pair[1]]).collect();
+    let listed = sides.expected.first_outcomes(answered.ended);
     let in_form = compare.shelf_in_form(&sides.expected.shelf)?;
     let model = compare.model;
     let reached = ![21, 17, 2].contains(&answer.refusal);

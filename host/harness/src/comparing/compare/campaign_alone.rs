@@ -51,6 +51,5 @@ fn arrive(
         sides.each(|buffers| buffers.shelf.clone_from(&before));
         return Ok(plain(Answer { refusal: 19, value: 0 }));
     }
-    let pairs = sides.expected.outcomes.chunks_exact(2);
-    Ok(Reply { answer, listed: pairs.take(ended).map(|pair| [pair[0], pair[1]]).collect() })
+    Ok(Reply { answer, listed: sides.expected.first_outcomes(ended) })
 }

@@ -2,6 +2,7 @@
 
 use std::fmt::{self, Display, Formatter};
 
+use super::of_site_count;
 use crate::comparing::facts::two_sites::{different, TwoSites};
 use crate::model::record::{Act, Part, ACTS};
 use crate::model::sizes::{SITE_COUNTS, SLOTS};
@@ -47,8 +48,7 @@ impl Campaigns {
         self.put_to_the_test += u64::from(few) * some(|slot| different(&slot.sent) && !slot.delivered.is_empty());
         self.two_delivered += u64::from(!few) * some(|slot| different(&slot.delivered));
         self.interpreted_at_both += two_sites.interpreted_at_both().count() as u64;
-        let index = SITE_COUNTS.iter().position(|&sites| sites == two_sites.site_count());
-        let [all, delivering] = &mut self.by_sites[index.expect("a lawful setup")];
+        let [all, delivering] = of_site_count(&mut self.by_sites, two_sites.site_count());
         *all += 1;
         *delivering += delivers;
     }

@@ -2,6 +2,7 @@
 
 use std::fmt::{self, Display, Formatter};
 
+use super::of_site_count;
 use crate::comparing::laws::SitePromises;
 use crate::model::promise::Promise;
 use crate::model::record::Act;
@@ -63,8 +64,7 @@ impl Groups {
         self.met_with_fewest += u64::from(met.with_fewest);
         self.lasts += met.lasts;
         self.delivering += met.delivering;
-        let index = SITE_COUNTS.iter().position(|&count| count == sites);
-        let [all, any, with_forks] = &mut self.by_sites[index.expect("a lawful setup")];
+        let [all, any, with_forks] = of_site_count(&mut self.by_sites, sites);
         *all += 1;
         *any += u64::from(met.any);
         *with_forks += u64::from(met.with_forks);

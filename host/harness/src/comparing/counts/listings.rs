@@ -2,7 +2,7 @@
 
 use std::fmt::{self, Display, Formatter};
 
-use super::AnswerCounts;
+use super::{of_site_count, AnswerCounts};
 use crate::model::listing::{first, Line, StreamArrival, LENGTH_BYTES, SETUP_BYTES};
 use crate::model::sizes::{HEADER_BYTES, MAX_BLOCK_BYTES, PLACES, SITE_COUNTS};
 
@@ -80,8 +80,7 @@ impl Listings {
 
     fn lawful(&mut self, sites: u8, arrivals: &[u8], lines: &[Line]) {
         let deliveries: Vec<&Line> = lines.iter().filter(|line| line.refusal == 0).collect();
-        let index = SITE_COUNTS.iter().position(|&count| count == sites);
-        let [all, delivering] = &mut self.by_sites[index.expect("a lawful setup")];
+        let [all, delivering] = of_site_count(&mut self.by_sites, sites);
         *all += 1;
         *delivering += u64::from(!deliveries.is_empty());
         self.without_arrival += u64::from(arrivals.is_empty());

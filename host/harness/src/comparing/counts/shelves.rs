@@ -2,6 +2,7 @@
 
 use std::fmt::{self, Display, Formatter};
 
+use super::FormCounts;
 use crate::comparing::facts::arrival::ArrivalFacts;
 use crate::comparing::facts::campaign_run::{Call, CampaignRun};
 use crate::model::shelf::Shelf;
@@ -14,8 +15,7 @@ const DROPPED: [u64; 4] = [4, 8, 10, 11];
 
 #[derive(Default)]
 pub struct Shelves {
-    in_form: u64,
-    not_in_form: u64,
+    pub shelves: FormCounts,
     /// Shelves of which each bit was changed in turn.
     pub every_bit: u64,
     /// Damaged shelves of which one condition of form alone doesn't hold, for each condition.
@@ -57,14 +57,6 @@ struct ArrivalsWithoutReference {
 }
 
 impl Shelves {
-    pub fn form(&mut self, in_form: bool) {
-        if in_form {
-            self.in_form += 1;
-        } else {
-            self.not_in_form += 1;
-        }
-    }
-
     pub fn damage(&mut self, shelf: &[u8]) {
         let shelf = Shelf::from_bytes(shelf);
         let broken = |condition: &usize| !(DOCUMENT[*condition].holds)(&shelf);
@@ -145,8 +137,8 @@ impl ArrivalsWithoutReference {
 impl Display for Shelves {
     fn fmt(&self, to: &mut Formatter) -> fmt::Result {
         let mut line = |name: &str, times: u64| super::line(to, name, times);
-        line("shelves in form", self.in_form)?;
-        line("shelves not in form", self.not_in_form)?;
+        line("shelves in form", self.shelves.in_form)?;
+        line("shelves not in form", self.shelves.not_in_form)?;
         line("shelves with each bit flipped in turn", self.every_bit)?;
         for (condition, times) in DOCUMENT.iter().zip(self.one_broken) {
             line(&format!("broken alone: {}", condition.name), times)?;

@@ -1,5 +1,6 @@
 //! One arrival for a campaign with a shelf: what there was before and after it.
 
+use crate::comparing::buffers::OutcomeNumbers;
 use crate::drawing::arrivals::Arrival;
 use crate::model::answer::{Answer, ArrivalAnswer};
 use crate::model::calls::Calls;
@@ -7,9 +8,6 @@ use crate::model::sha256::sha256;
 use crate::model::shelf::{Entry, Shelf};
 use crate::model::table::Table;
 use crate::model::Model;
-
-/// What became of a block that waited, as the two numbers of its outcome: 0 and its place, or its refusal and 0.
-pub type OutcomeNumbers = [u64; 2];
 
 /// The campaign's table and the shelf at some time.
 pub struct TableAndShelf {

@@ -1,6 +1,6 @@
 //! The calls of one campaign of a controller, and what they came to.
 
-use crate::comparing::facts::arrival::OutcomeNumbers;
+use crate::comparing::buffers::OutcomeNumbers;
 use crate::drawing::arrivals::Arrival;
 use crate::model::answer::Answer;
 

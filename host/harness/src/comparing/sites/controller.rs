@@ -305,8 +305,7 @@ impl<'a> Controller<'a> {
         let alone = alone(compare, &followed.start, &run, number)?;
         compare.counts.shelves.replayed_alone(&run);
         laws::check_campaign_runs(&SharedAndAlone { among_others: &run, alone: &alone })?;
-        let Buffers { table, records, .. } = followed.sides.expected.clone();
-        let after = Buffers::new(table, records);
+        let after = followed.sides.expected.table_and_records();
         let FollowedCampaign { start: before, list: calls, answers, .. } = &*followed;
         compare.replay_call_list(&CallList { before, calls, answers, after: &after }, &vec![0; 2 * answers.len()])
     }
@@ -350,7 +349,7 @@ impl FollowedCampaign {
 
     /// The campaign's calls and what they left, with the blocks that wait.
     fn campaign_run(&self, waiting: Vec<Vec<u8>>) -> CampaignRun {
-        let Buffers { table, records, .. } = self.sides.expected.clone();
+        let Buffers { table, records, .. } = self.sides.expected.table_and_records();
         CampaignRun { calls: self.calls.clone(), replies: self.replies.clone(), table, records, waiting }
     }
 }

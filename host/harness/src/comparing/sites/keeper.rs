@@ -122,7 +122,7 @@ impl<'a> Keeper<'a> {
     }
 
     fn stage(&mut self) {
-        let buffers = Buffers::new(self.buffers().table.clone(), self.buffers().records.clone());
+        let buffers = self.buffers().table_and_records();
         self.stages.push(Stage { bytes: self.calls.len(), calls: self.answers.len(), buffers });
     }
 

@@ -78,7 +78,7 @@ impl<'a> Retirer<'a> {
         let habits = Habits::drawn(random, campaign);
         let numbers = if random.one_in(24) { some_length(random) } else { BUFFER_NUMBERS };
         let site = SiteWithLedger::new(random, compare, (campaign.sites, campaign.owners), numbers, first_law)?;
-        let before = Buffers::new(site.buffers().table.clone(), site.buffers().records.clone());
+        let before = site.buffers().table_and_records();
         let on_copies = first_law.is_some() && random.one_in(2);
         let (calls, answers) = (Vec::new(), Vec::new());
         let mut retirer = Retirer { campaign, site, calls, answers, before, just_admitted: false, on_copies };
@@ -90,8 +90,8 @@ impl<'a> Retirer<'a> {
 
     /// Replays the whole list.
     pub fn replay(&self, random: &Random, compare: &mut Compare) -> Result<(), Difference> {
-        let left = Buffers::new(self.site.buffers().table.clone(), self.site.buffers().records.clone());
-        let list = CallList { before: &self.before, calls: &self.calls, answers: &self.answers, after: &left };
+        let after = self.site.buffers().table_and_records();
+        let list = CallList { before: &self.before, calls: &self.calls, answers: &self.answers, after: &after };
         let room = 2 * self.answers.len();
         let length = random.pick(&[room, room, room + 1, room.saturating_sub(1)]);
         let answers: Vec<u64> = (0..length).map(|_| random.set()).collect();

@@ -1,6 +1,6 @@
 //! Mistakes in admission: in its checks, in their order, in what it writes and in what it leaves.
 
-use super::{value_beside, Mistake, Mutant};
+use super::{flip_last, neighbours_swapped, value_beside, Mistake, Mutant};
 use crate::model::admission::{put, row, AdmissionInput, CHECKS};
 use crate::model::block;
 use crate::model::sha256::{sha256, Digest};
@@ -22,12 +22,7 @@ pub fn checks_exchanged() -> Vec<Mutant> {
             m.after_admission(move |answer, _, _| value_beside(number, answer, 0));
         }));
     }
-    for first in 0..CHECKS.len() - 1 {
-        let (earlier, later) = (CHECKS[first].number, CHECKS[first + 1].number);
-        mutants.push(Mutant::with(format!("admission: checks {earlier} and {later} swapped"), |m| {
-            m.model.admission.swap(first, first + 1);
-        }));
-    }
+    mutants.extend(neighbours_swapped("admission", |model| &mut model.admission));
     mutants
 }
 
@@ -260,8 +255,8 @@ pub const MISTAKES: &[Mistake] = &[
     ("admission: a success answers 0", |m| m.after_admission(|answer, _, _| value_beside(0, answer, 0))),
     ("admission: a refusal writes the table's last byte", |m| {
         m.after_admission(|answer, table, _| {
-            if let Some(last) = table.last_mut().filter(|_| answer.refusal != 0) {
-                *last ^= 1;
+            if answer.refusal != 0 {
+                flip_last(table);
             }
             answer
         })
@@ -280,9 +275,7 @@ pub const MISTAKES: &[Mistake] = &[
     }),
     ("admission: the block is written", |m| {
         m.after_admission(|answer, _, block| {
-            if let Some(last) = block.last_mut() {
-                *last ^= 1;
-            }
+            flip_last(block);
             answer
         })
     }),

@@ -1,6 +1,6 @@
 //! Mistakes in what an arrival with a shelf is answered, and in what it leaves.
 
-use super::{ArrivalBuffers, Mistake, Mutant};
+use super::{flip_last, neighbours_swapped, ArrivalBuffers, Mistake, Mutant};
 use crate::model::answer::{Answer, ArrivalAnswer};
 use crate::model::calls::Calls;
 use crate::model::shelf::{entry_at, Entry, Shelf};
@@ -16,12 +16,7 @@ pub fn checks_exchanged() -> Vec<Mutant> {
         let number = check.number;
         mutants.push(Mutant::with(format!("arrival without check {number}"), |m| m.arrival(number, |_| None)));
     }
-    for first in 0..CHECKS.len() - 1 {
-        let (earlier, later) = (CHECKS[first].number, CHECKS[first + 1].number);
-        mutants.push(Mutant::with(format!("arrival: checks {earlier} and {later} swapped"), |m| {
-            m.model.shelving.checks.swap(first, first + 1);
-        }));
-    }
+    mutants.extend(neighbours_swapped("arrival", |model| &mut model.shelving.checks));
     for number in [2, 3, 4, 5, 6, 7, 8, 9, 10, 11, 17, 19, 20, 21] {
         mutants.push(Mutant::with(format!("arrival: a value one more beside {number}"), |m| {
             m.arrival_value(number, |value| value + 1);
@@ -308,12 +303,6 @@ pub fn change_row(table: &mut [u8], place: usize, change: fn(&mut Row)) {
     if let Some(row) = held.rows.get_mut(place) {
         change(row);
         held.write(table);
-    }
-}
-
-fn flip_last(bytes: &mut [u8]) {
-    if let Some(last) = bytes.last_mut() {
-        *last ^= 1;
     }
 }
 

@@ -1,6 +1,6 @@
 //! Mistakes in building: in its checks and their order, in what the block says, in what is answered and left.
 
-use super::{value_beside, BuildingBuffers, Mistake, Mutant};
+use super::{flip_last, neighbours_swapped, value_beside, BuildingBuffers, Mistake, Mutant};
 use crate::model::block::{list_of, Request};
 use crate::model::building::{
     self, cut, greatest, long_or_cut, others, own_rows, past_last_sequence, sequence, shared_sequence, BuildingInput,
@@ -24,12 +24,7 @@ pub fn checks_exchanged() -> Vec<Mutant> {
             m.after_building(move |answer, _| value_beside(number, answer, 0));
         }));
     }
-    for first in 0..CHECKS.len() - 1 {
-        let (earlier, later) = (CHECKS[first].number, CHECKS[first + 1].number);
-        mutants.push(Mutant::with(format!("building: checks {earlier} and {later} swapped"), |m| {
-            m.model.building.checks.swap(first, first + 1);
-        }));
-    }
+    mutants.extend(neighbours_swapped("building", |model| &mut model.building.checks));
     mutants
 }
 
@@ -462,9 +457,7 @@ pub const MISTAKES: &[Mistake] = &[
     }),
     ("building: the table is written", |m| {
         m.after_building(|answer, buffers| {
-            if let Some(last) = buffers.table.last_mut() {
-                *last ^= 1;
-            }
+            flip_last(buffers.table);
             answer
         })
     }),

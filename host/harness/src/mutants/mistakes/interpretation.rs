@@ -1,6 +1,6 @@
 //! Mistakes in interpreting a place: in its checks, in what is written and in what is left.
 
-use super::{value_beside, Mistake, Mutant};
+use super::{flip_last, neighbours_swapped, value_beside, Mistake, Mutant};
 use crate::model::interpretation::{not_interpreted, parent, write, InterpretationInput, CHECKS};
 use crate::model::record::{part_of, record_at, Part, MADE};
 use crate::model::sizes::{BUFFER_NUMBERS, PART_NUMBERS, PLACES, RECORD_NUMBERS, SLOTS};
@@ -20,12 +20,8 @@ pub fn checks_exchanged() -> Vec<Mutant> {
             m.after_interpretation(move |answer, _, _, _| value_beside(number, answer, answer.value + 1));
         }));
     }
-    for first in [0, 1] {
-        let (earlier, later) = (CHECKS[first].number, CHECKS[first + 1].number);
-        mutants.push(Mutant::with(format!("interpretation: checks {earlier} and {later} swapped"), |m| {
-            m.model.interpretation.checks.swap(first, first + 1);
-        }));
-    }
+    let swapped = neighbours_swapped("interpretation", |model| &mut model.interpretation.checks);
+    mutants.extend(swapped.into_iter().take(2));
     mutants
 }
 
@@ -182,8 +178,8 @@ pub const MISTAKES: &[Mistake] = &[
     ("interpretation: value 0 beside 15", |m| m.after_interpretation(|answer, _, _, _| value_beside(15, answer, 0))),
     ("interpretation: a refusal writes the table's last byte", |m| {
         m.after_interpretation(|answer, table, _, _| {
-            if let Some(last) = table.last_mut().filter(|_| answer.refusal != 0) {
-                *last ^= 1;
+            if answer.refusal != 0 {
+                flip_last(table);
             }
             answer
         })

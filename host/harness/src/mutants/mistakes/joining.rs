@@ -1,6 +1,6 @@
 //! Mistakes in what a join is answered, and in what its refusals leave. Those about equal digests stand apart.
 
-use super::{value_beside, JoinBuffers, Mistake, Mutant};
+use super::{flip_last, neighbours_swapped, value_beside, JoinBuffers, Mistake, Mutant};
 use crate::model::answer::Answer;
 use crate::model::form::lacks_parent;
 use crate::model::joining::{blocks, setups_differ, JoinInput, CHECKS};
@@ -20,11 +20,7 @@ pub fn checks_exchanged() -> Vec<Mutant> {
             m.after_refused_join(number, |buffers| flip_last(buffers.left));
         }));
         mutants.push(Mutant::with(format!("join: {number} writes the third buffer's last number"), |m| {
-            m.after_refused_join(number, |buffers| {
-                if let Some(last) = buffers.third.last_mut() {
-                    *last ^= 1;
-                }
-            });
+            m.after_refused_join(number, |buffers| flip_last(buffers.third));
         }));
         mutants.push(Mutant::with(format!("join: {number} hands back the right's table"), |m| {
             m.after_refused_join(number, |buffers| {
@@ -34,12 +30,7 @@ pub fn checks_exchanged() -> Vec<Mutant> {
             });
         }));
     }
-    for first in 0..CHECKS.len() - 1 {
-        let (earlier, later) = (CHECKS[first].number, CHECKS[first + 1].number);
-        mutants.push(Mutant::with(format!("join: checks {earlier} and {later} swapped"), |m| {
-            m.model.joining.checks.swap(first, first + 1);
-        }));
-    }
+    mutants.extend(neighbours_swapped("join", |model| &mut model.joining.checks));
     mutants
 }
 
@@ -206,17 +197,9 @@ pub const MISTAKES: &[Mistake] = &[
     }),
 ];
 
-fn flip_last(bytes: &mut [u8]) {
-    if let Some(last) = bytes.last_mut() {
-        *last ^= 1;
-    }
-}
-
 /// The answer, with a number of records changed.
 fn changed(answer: Answer, records: &mut [u16]) -> Answer {
-    if let Some(last) = records.last_mut() {
-        *last ^= 1;
-    }
+    flip_last(records);
     answer
 }
 

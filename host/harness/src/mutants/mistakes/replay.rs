@@ -1,6 +1,6 @@
 //! Mistakes in replaying a list of calls.
 
-use super::Mistake;
+use super::{flip_last, Mistake};
 use crate::model::replay::{first, note, wide, Call, FirstCall, WIDE_BYTES};
 
 pub const MISTAKES: &[Mistake] = &[
@@ -255,17 +255,13 @@ pub const MISTAKES: &[Mistake] = &[
     }),
     ("replay: the table's last byte is written", |m| {
         m.after_replay(|ran, table, _, _, _| {
-            if let Some(last) = table.last_mut() {
-                *last ^= 1;
-            }
+            flip_last(table);
             ran
         })
     }),
     ("replay: the records' last number is written", |m| {
         m.after_replay(|ran, _, records, _, _| {
-            if let Some(last) = records.last_mut() {
-                *last ^= 1;
-            }
+            flip_last(records);
             ran
         })
     }),

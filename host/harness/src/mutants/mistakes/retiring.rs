@@ -1,6 +1,6 @@
 //! Mistakes in retiring: in its checks and their order, in the table and the records that it leaves, in what is answered.
 
-use super::{value_beside, Mistake, Mutant};
+use super::{flip_last, neighbours_swapped, value_beside, Mistake, Mutant};
 use crate::model::admission::put;
 use crate::model::record::part_of;
 use crate::model::retiring::{
@@ -20,11 +20,7 @@ pub fn checks_exchanged() -> Vec<Mutant> {
             m.after_retiring(move |answer, _, _| value_beside(number, answer, answer.value + 1));
         }));
         mutants.push(Mutant::with(format!("retiring: {number} writes the table's last byte"), |m| {
-            m.after_refused_retiring(number, |table, _| {
-                if let Some(last) = table.last_mut() {
-                    *last ^= 1;
-                }
-            });
+            m.after_refused_retiring(number, |table, _| flip_last(table));
         }));
         mutants.push(Mutant::with(format!("retiring: {number} sets that something was retired"), |m| {
             m.after_refused_retiring(number, |table, _| {
@@ -37,12 +33,7 @@ pub fn checks_exchanged() -> Vec<Mutant> {
             m.after_refused_retiring(number, |_, numbers| move_part(numbers, 0));
         }));
     }
-    for first in 0..CHECKS.len() - 1 {
-        let (earlier, later) = (CHECKS[first].number, CHECKS[first + 1].number);
-        mutants.push(Mutant::with(format!("retiring: checks {earlier} and {later} swapped"), |m| {
-            m.model.retiring.checks.swap(first, first + 1);
-        }));
-    }
+    mutants.extend(neighbours_swapped("retiring", |model| &mut model.retiring.checks));
     mutants
 }
 

@@ -1,7 +1,7 @@
 //! Mistakes in taking back: in its checks and their order, in the table that it leaves, in what is answered, and in
 //! which blocks count after it.
 
-use super::{value_beside, Mistake, Mutant};
+use super::{flip_last, value_beside, Mistake, Mutant};
 use crate::model::form::{self, in_form};
 use crate::model::record::part_of;
 use crate::model::retiring;
@@ -19,11 +19,7 @@ pub fn checks_exchanged() -> Vec<Mutant> {
             m.after_taking_back(move |answer, _| value_beside(number, answer, answer.value + 1));
         }));
         mutants.push(Mutant::with(format!("taking back: {number} writes the table's last byte"), |m| {
-            m.after_refused_taking_back(number, |table| {
-                if let Some(last) = table.last_mut() {
-                    *last ^= 1;
-                }
-            });
+            m.after_refused_taking_back(number, flip_last);
         }));
         mutants.push(Mutant::with(format!("taking back: {number} clears that something was retired"), |m| {
             m.after_refused_taking_back(number, |table| {

@@ -1,6 +1,6 @@
 //! Mistakes in the watch: in whom it names, in the ancestors, in the counts and in what stands beside a refusal.
 
-use super::{Mistake, Mutant};
+use super::{flip_last, Mistake, Mutant};
 use crate::model::answer::{AncestorPlaces, ForkedSites};
 use crate::model::setup::faults;
 use crate::model::sizes::{MAX_SITES, PLACES};
@@ -169,7 +169,7 @@ pub const FORK_MISTAKES: &[Mistake] = &[
     }),
     ("forks: the table is written", |m| {
         m.after_forks(|answer, table| {
-            write_last(table);
+            flip_last(table);
             answer
         })
     }),
@@ -291,7 +291,7 @@ pub const ANCESTOR_MISTAKES: &[Mistake] = &[
     }),
     ("ancestors: the table is written", |m| {
         m.after_ancestors(|answer, table, _| {
-            write_last(table);
+            flip_last(table);
             answer
         })
     }),
@@ -354,10 +354,4 @@ fn kept(table: &Table, place: usize, keeps: fn(bool, &Row) -> bool) -> u64 {
         keeps(row.site == site, row)
     };
     set(places(table.ancestors(place)).filter(keeps))
-}
-
-fn write_last(table: &mut [u8]) {
-    if let Some(last) = table.last_mut() {
-        *last ^= 1;
-    }
 }
