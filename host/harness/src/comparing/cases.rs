@@ -60,7 +60,7 @@ pub const RETIRINGS: Kind = Kind { name: "retirings", shares: 2, run: retirings:
 
 pub const TAKINGS_BACK: Kind = Kind { name: "takings-back", shares: 1, run: takings_back::run };
 
-/// Long campaigns of 300 blocks. They are run only where they are named: a case takes long.
+/// Long campaigns, shorter than those of the kind `long`. They are run only where they are named: a case takes long.
 pub const LASTING: Kind = Kind { name: "lasting", shares: 0, run: long_campaigns::shorter };
 
 /// Listings are run only where they are named: a case takes a process, of a program that not every run has.
