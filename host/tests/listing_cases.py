@@ -9,6 +9,17 @@ OWNERS = [0, 1, 2, 3, 0, 1, 2, 3]
 FOUR_SITES = setup(4, OWNERS)
 ONE_SITE = setup(1, [0] * 8)
 
+
+def one_site():
+    """A campaign of one site, which owns all slots."""
+    return Campaign(1, [0] * 8)
+
+
+def four_sites():
+    """A campaign of four sites, each of which owns two slots."""
+    return Campaign(4, OWNERS)
+
+
 FIRST = block(0, 0)
 UNKNOWN = digest(b"no block")
 
@@ -47,7 +58,7 @@ SETUPS = [
 
 def longest():
     """A chain of 16 blocks, and a block of 541 bytes that refers to them all, twice."""
-    night = Campaign(1, [0] * 8)
+    night = one_site()
     parts = [night.site(0) for _ in range(16)]
     last = night.site(0).refers_to(*parts)
     for slot in range(8):
@@ -161,7 +172,7 @@ def more_blocks(night, count):
 
 
 def full_table():
-    night = Campaign(4, OWNERS)
+    night = four_sites()
     more_blocks(night, 64)
     return night
 
@@ -216,16 +227,18 @@ CUTS = [
 ]
 
 
-# ---- Campaigns that deliver, or don't. Each function is a case: its name, the campaign that it gives, and the lines above it.
+# ---- Campaigns that deliver, or don't. Each function is a case: its name says what it shows, and it fills the campaign above it,
+# of which the lines follow.
 
 DELIVERIES = []
 
 
-def lists(*lines):
-    """Makes a function a case of DELIVERIES: these are the lines of the campaign that it gives."""
-    def add(written):
-        DELIVERIES.append(Case(written.__name__.replace("_", " "), written().stream(), list(lines)))
-        return written
+def lists(night, *lines):
+    """Makes a function a case of DELIVERIES: it fills this campaign, of which these are the lines."""
+    def add(fill):
+        fill(night)
+        DELIVERIES.append(Case(fill.__name__.replace("_", " "), night.stream(), list(lines)))
+        return fill
     return add
 
 
@@ -250,17 +263,17 @@ def up_to_ready(night, sites):
 
 # ---- One site: a request, and three blocks later its delivery
 
-@lists("3 3 0 3 0 1 0",
+@lists(one_site(),
+       "3 3 0 3 0 1 0",
        "3 3 0 3 3 256 0",
        "3 3 0 3 7 65535 0")
-def several_slots_in_one_block_the_lower_first():
-    night = Campaign(1, [0] * 8)
+def several_slots_in_one_block_the_lower_first(night):
     night.site(0).requests(65535, slot=7).requests(1, slot=0).requests(256, slot=3)
     more_blocks(night, 3)
-    return night
 
 
-@lists("3 3 0 3 0 10000 0",
+@lists(one_site(),
+       "3 3 0 3 0 10000 0",
        "3 3 0 3 1 10001 0",
        "3 3 0 3 2 10002 0",
        "3 3 0 3 3 10003 0",
@@ -268,138 +281,117 @@ def several_slots_in_one_block_the_lower_first():
        "3 3 0 3 5 10005 0",
        "3 3 0 3 6 10006 0",
        "3 3 0 3 7 10007 0")
-def all_slots_in_one_block():
-    night = Campaign(1, [0] * 8)
+def all_slots_in_one_block(night):
     first = night.site(0)
     for slot in reversed(range(8)):
         first.requests(10000 + slot, slot=slot)
     more_blocks(night, 3)
-    return night
 
 
-@lists("3 3 0 3 0 7 0",
+@lists(one_site(),
+       "3 3 0 3 0 7 0",
        "4 4 0 4 1 9 0")
-def two_slots_in_two_blocks():
-    night = Campaign(1, [0] * 8)
+def two_slots_in_two_blocks(night):
     night.site(0).requests(7, slot=0)
     night.site(0).requests(9, slot=1)
     more_blocks(night, 4)
-    return night
 
 
-@lists("3 3 0 3 2 5 0")
-def of_two_requests_in_a_block_the_first_counts():
-    night = Campaign(1, [0] * 8)
+@lists(one_site(), "3 3 0 3 2 5 0")
+def of_two_requests_in_a_block_the_first_counts(night):
     night.site(0).requests(5, slot=2).requests(6, slot=2)
     more_blocks(night, 5)
-    return night
 
 
-@lists("3 3 0 3 0 7 0")
-def the_second_request_a_block_later_sends_nothing():
-    night = Campaign(1, [0] * 8)
+@lists(one_site(), "3 3 0 3 0 7 0")
+def the_second_request_a_block_later_sends_nothing(night):
     night.site(0).requests(7, slot=0)
     night.site(0).requests(8, slot=0)
     more_blocks(night, 5)
-    return night
 
 
-@lists("12 12 0 12 0 12345 0")
-def a_sequence_number_of_two_digits():
-    night = Campaign(1, [0] * 8)
+@lists(one_site(), "12 12 0 12 0 12345 0")
+def a_sequence_number_of_two_digits(night):
     more_blocks(night, 9)
     night.site(0).requests(12345, slot=0)
     more_blocks(night, 3)
-    return night
 
 
-@lists("63 63 0 63 2 65535 0",
+@lists(one_site(),
+       "63 63 0 63 2 65535 0",
        "64 - - - - - 11")
-def the_last_place_delivers():
-    night = Campaign(1, [0] * 8)
+def the_last_place_delivers(night):
     more_blocks(night, 60)
     night.site(0).requests(65535, slot=2)
     more_blocks(night, 4)
-    return night
 
 
-@lists(*(f"{number} - - - - - 5" for number in range(100)),
+@lists(one_site(),
+       *(f"{number} - - - - - 5" for number in range(100)),
        "103 3 0 3 0 7 0")
-def arrival_numbers_go_on_where_places_do_not():
-    night = Campaign(1, [0] * 8)
+def arrival_numbers_go_on_where_places_do_not(night):
     for _ in range(100):
         night.arrives(FIRST, verdict=0)
     night.site(0).requests(7, slot=0)
     more_blocks(night, 3)
-    return night
 
 
 # ---- Four sites, and more: the thresholds
 
-@lists("9 9 0 3 0 42 0",
+@lists(four_sites(),
+       "9 9 0 3 0 42 0",
        "10 10 1 2 0 42 0",
        "11 11 2 2 0 42 0",
        "12 12 3 2 0 42 0")
-def thirteen_blocks():
-    night = Campaign(4, OWNERS)
+def thirteen_blocks(night):
     all_refer(night, range(4), up_to_ready(night, range(4)))
-    return night
 
 
-@lists("7 7 0 3 0 42 0",
+@lists(four_sites(),
+       "7 7 0 3 0 42 0",
        "8 8 1 2 0 42 0",
        "9 9 2 2 0 42 0")
-def three_sites_of_four():
-    night = Campaign(4, OWNERS)
+def three_sites_of_four(night):
     all_refer(night, range(3), up_to_ready(night, range(3)))
-    return night
 
 
-@lists()
-def two_sites_of_four_deliver_nothing():
-    night = Campaign(4, OWNERS)
+@lists(four_sites())
+def two_sites_of_four_deliver_nothing(night):
     more_rounds(night, range(2), up_to_ready(night, range(2)), 5)
-    return night
 
 
-@lists("11 11 0 3 0 42 0",
+@lists(Campaign(7, [0] * 8),
+       "11 11 0 3 0 42 0",
        "12 12 1 2 0 42 0",
        "13 13 2 2 0 42 0",
        "14 14 3 2 0 42 0",
        "15 15 4 2 0 42 0")
-def five_sites_of_seven():
-    night = Campaign(7, [0] * 8)
+def five_sites_of_seven(night):
     all_refer(night, range(5), up_to_ready(night, range(5)))
-    return night
 
 
-@lists()
-def four_sites_of_seven_deliver_nothing():
-    night = Campaign(7, [0] * 8)
+@lists(Campaign(7, [0] * 8))
+def four_sites_of_seven_deliver_nothing(night):
     more_rounds(night, range(4), up_to_ready(night, range(4)), 5)
-    return night
 
 
-@lists("33 33 0 3 0 42 0",
+@lists(Campaign(16, [0] * 8),
+       "33 33 0 3 0 42 0",
        *(f"{33 + site} {33 + site} {site} 2 0 42 0" for site in range(1, 16)))
-def sixteen_sites_and_sixteen_references():
-    night = Campaign(16, [0] * 8)
+def sixteen_sites_and_sixteen_references(night):
     all_refer(night, range(16), up_to_ready(night, range(16)))
-    return night
 
 
-@lists("7 7 3 0 0 42 0")
-def a_site_delivers_in_its_first_block():
-    night = Campaign(4, OWNERS)
+@lists(four_sites(), "7 7 3 0 0 42 0")
+def a_site_delivers_in_its_first_block(night):
     readies = up_to_ready(night, range(3))
     night.site(3).refers_to(*readies)
-    return night
 
 
-@lists("7 7 0 3 0 42 0",
+@lists(four_sites(),
+       "7 7 0 3 0 42 0",
        "8 8 3 1 0 42 0")
-def two_that_are_ready_make_a_third_ready():
-    night = Campaign(4, OWNERS)
+def two_that_are_ready_make_a_third_ready(night):
     request = night.site(0).requests(42, slot=0)
     echoes = all_refer(night, range(3), [request])
     zero, one = all_refer(night, range(2), echoes)
@@ -407,82 +399,69 @@ def two_that_are_ready_make_a_third_ready():
     night.site(0).refers_to(one, three)
     night.site(3)  # hears that it is ready itself
     night.site(1).refers_to(zero)  # has heard of two alone
-    return night
 
 
-@lists()
-def two_echoes_make_nobody_ready():
-    night = Campaign(4, OWNERS)
+@lists(four_sites())
+def two_echoes_make_nobody_ready(night):
     request = night.site(0).requests(42, slot=0)
     echoes = all_refer(night, range(2), [request])
     more_rounds(night, range(4), echoes, 3)
-    return night
 
 
-@lists()
-def one_that_is_ready_makes_nobody_ready():
-    night = Campaign(4, OWNERS)
+@lists(four_sites())
+def one_that_is_ready_makes_nobody_ready(night):
     request = night.site(0).requests(42, slot=0)
     echoes = all_refer(night, range(3), [request])
     ready = night.site(0).refers_to(*echoes)
     more_rounds(night, range(1, 4), [ready], 3)
-    return night
 
 
-@lists("9 9 0 3 0 42 0")
-def a_number_is_delivered_once():
-    night = Campaign(4, OWNERS)
+@lists(four_sites(), "9 9 0 3 0 42 0")
+def a_number_is_delivered_once(night):
     readies = up_to_ready(night, range(4))
     night.site(0).refers_to(*readies[:3])
     night.site(0).refers_to(readies[3])
-    return night
 
 
-@lists("7 7 0 3 0 42 0",
+@lists(four_sites(),
+       "7 7 0 3 0 42 0",
        "8 8 1 2 0 42 0",
        "9 9 2 2 0 42 0")
-def a_site_is_ready_once():
-    night = Campaign(4, OWNERS)
+def a_site_is_ready_once(night):
     blocks = all_refer(night, range(3), up_to_ready(night, range(3)))
     night.site(3).refers_to(*blocks)
-    return night
 
 
-@lists()
-def the_second_request_is_not_sent_to_sites_that_missed_the_first():
-    night = Campaign(4, OWNERS)
+@lists(four_sites())
+def the_second_request_is_not_sent_to_sites_that_missed_the_first(night):
     night.site(0).requests(42, slot=0)
     second = night.site(0).requests(43, slot=0)
     more_rounds(night, range(1, 4), [second], 4)
-    return night
 
 
-@lists()
-def a_request_by_another_site_than_the_owner():
-    night = Campaign(4, [0] * 8)
+@lists(Campaign(4, [0] * 8))
+def a_request_by_another_site_than_the_owner(night):
     request = night.site(1).requests(42, slot=0)
     more_rounds(night, range(4), [request], 4)
-    return night
 
 
-@lists("9 9 0 3 0 42 0",
+@lists(four_sites(),
+       "9 9 0 3 0 42 0",
        "11 11 1 3 0 42 0")
-def messages_of_further_ancestors_are_not_heard():
-    night = Campaign(4, OWNERS)
+def messages_of_further_ancestors_are_not_heard(night):
     readies = up_to_ready(night, range(4))
     zero = night.site(0).refers_to(*readies)
     night.site(1).refers_to(zero)  # arrival 10: refers to one of the readies, its own
     night.site(1).refers_to(*readies)
-    return night
 
 
 # ---- Forks
 
-@lists("5 5 0 3 0 7 0",
+@lists(one_site(),
+       "5 5 0 3 0 7 0",
        "6 6 0 3 0 7 0",
        "8 8 0 4 1 9 0")
-def both_branches_of_one_site_deliver():
-    night = Campaign(1, [0] * 8)
+def both_branches_of_one_site_deliver(night):
     night.site(0).requests(7, slot=0)
     night.site(0)
     right = night.fork(0).requests(9, slot=1)
@@ -492,53 +471,49 @@ def both_branches_of_one_site_deliver():
     right = night.after(right)
     night.site(0)
     night.after(right)
-    return night
 
 
-@lists("6 6 0 3 0 42 0",
+@lists(one_site(),
+       "6 6 0 3 0 42 0",
        "7 7 0 3 0 43 0")
-def more_than_f_forks_and_two_numbers():
-    night = Campaign(1, [0] * 8)
+def more_than_f_forks_and_two_numbers(night):
     night.site(0).requests(42, slot=0)
     right = night.fork(0).requests(43, slot=0)
     for _ in range(3):
         night.site(0)
         right = night.after(right)
-    return night
 
 
-@lists("10 10 0 3 0 42 0",
+@lists(four_sites(),
+       "10 10 0 3 0 42 0",
        "11 11 1 2 0 42 0",
        "12 12 2 2 0 42 0",
        "13 13 3 2 0 42 0")
-def the_owner_forks_and_the_lower_number_is_echoed():
-    night = Campaign(4, OWNERS)
+def the_owner_forks_and_the_lower_number_is_echoed(night):
     lower = night.site(0).requests(42, slot=0)
     higher = night.fork(0).requests(43, slot=0)
     echoes = [night.site(1).refers_to(higher, lower), night.site(3).refers_to(higher, lower),
               night.site(2).refers_to(higher), night.site(0)]
     readies = all_refer(night, range(4), echoes)
     all_refer(night, range(4), readies)
-    return night
 
 
-@lists("9 9 0 3 0 42 0",
+@lists(four_sites(),
+       "9 9 0 3 0 42 0",
        "10 10 1 2 0 42 0",
        "11 11 2 2 0 42 0",
        "12 12 3 2 0 42 0",
        "13 13 3 2 0 42 0")
-def both_branches_of_one_of_four_sites_deliver():
-    night = Campaign(4, OWNERS)
+def both_branches_of_one_of_four_sites_deliver(night):
     readies = up_to_ready(night, range(4))
     all_refer(night, range(4), readies)
     night.fork(3).refers_to(*readies).requests(8, slot=3)
-    return night
 
 
-@lists("9 9 3 2 0 42 0",
+@lists(four_sites(),
+       "9 9 3 2 0 42 0",
        "12 12 3 3 0 42 0")
-def a_branch_starts_as_its_parent():
-    night = Campaign(4, OWNERS)
+def a_branch_starts_as_its_parent(night):
     request = night.site(0).requests(42, slot=0)
     echoes = all_refer(night, range(4), [request])
     readies = all_refer(night, range(4), echoes)
@@ -546,38 +521,33 @@ def a_branch_starts_as_its_parent():
     branch = night.after(echoes[3])  # arrival 10: not ready
     branch = night.after(branch).refers_to(readies[0], readies[1])  # ready, as two others
     night.after(branch)
-    return night
 
 
-@lists("9 9 1 2 0 42 0")
-def a_forked_site_counts_once():
-    night = Campaign(4, OWNERS)
+@lists(four_sites(), "9 9 1 2 0 42 0")
+def a_forked_site_counts_once(night):
     request = night.site(0).requests(42, slot=0)
     echoes = all_refer(night, range(4), [request])
     zero, three = all_refer(night, [0, 3], echoes)
     other = night.fork(3).refers_to(*echoes).requests(8, slot=3)
     night.site(1).refers_to(zero, three, other)  # arrival 8: two sites are ready, in three blocks
     night.site(1)  # and now itself
-    return night
 
 
-@lists("9 9 0 3 0 42 0",
+@lists(four_sites(),
+       "9 9 0 3 0 42 0",
        "10 10 1 2 0 42 0",
        "11 11 2 2 0 42 0")
-def of_two_echoes_of_a_forked_site_the_lower_is_noted():
-    night = Campaign(4, OWNERS)
+def of_two_echoes_of_a_forked_site_the_lower_is_noted(night):
     lower = night.site(0).requests(42, slot=0)
     higher = night.fork(0).requests(43, slot=0)
     zero, other = night.site(0), night.after(higher)
     one, two = all_refer(night, [1, 2], [lower])
     readies = [night.site(0).refers_to(one, two), *all_refer(night, [1, 2], [other, zero, one, two])]
     all_refer(night, range(3), readies)
-    return night
 
 
-@lists()
-def a_site_echoes_once():
-    night = Campaign(4, OWNERS)
+@lists(four_sites())
+def a_site_echoes_once(night):
     lower = night.site(0).requests(42, slot=0)
     higher = night.fork(0).requests(43, slot=0)
     all_refer(night, range(1, 4), [lower])
@@ -586,74 +556,65 @@ def a_site_echoes_once():
     blocks = [night.arrives(Draft(site).refers_to(*blocks)) for site in range(1, 4)]
     for parent in blocks:
         night.after(parent).refers_to(*blocks)
-    return night
 
 
-@lists("3 3 0 3 0 7 0",
+@lists(one_site(),
+       "3 3 0 3 0 7 0",
        "5 5 0 1 0 7 0")
-def sequence_0_starts_anew():
-    night = Campaign(1, [0] * 8)
+def sequence_0_starts_anew(night):
     night.site(0).requests(7, slot=0)
     night.site(0)
     ready = night.site(0)
     delivering = night.site(0)
     anew = night.arrives(Draft(0).refers_to(delivering))
     night.after(anew).refers_to(ready)
-    return night
 
 
 # Sites 1, 2 and 3 fork, more than f: one branch of each is for 42, the other for 43, and site 0 sees some of both.
 
-def two_camps():
-    """The campaign up to arrival 13, and blocks of sites 1, 2 and 3 in it: that echo 42, are ready for 42, are ready for 43."""
-    night = Campaign(4, OWNERS)
+def two_camps(night):
+    """Arrivals 0 to 13, and blocks of sites 1, 2 and 3 among them: that echo 42, are ready for 42, are ready for 43."""
     lower = night.site(0).requests(42, slot=0)
     higher = night.fork(0).requests(43, slot=0)
     echoes = all_refer(night, range(1, 4), [lower])
     others = [night.fork(site).refers_to(higher) for site in range(1, 4)]
     readies = all_refer(night, range(1, 4), echoes)
-    return night, echoes, readies, [night.after(parent).refers_to(*others) for parent in others]
+    return echoes, readies, [night.after(parent).refers_to(*others) for parent in others]
 
 
-@lists("15 15 0 2 0 42 0")
-def two_numbers_are_counted_apart():
-    night, _, lower, higher = two_camps()
+@lists(four_sites(), "15 15 0 2 0 42 0")
+def two_numbers_are_counted_apart(night):
+    _, lower, higher = two_camps(night)
     night.site(0).refers_to(lower[0], higher[1], lower[2])  # gets ready for 42
     night.site(0)  # and hears itself as the third
-    return night
 
 
-@lists("15 15 0 2 0 42 0")
-def of_two_numbers_that_a_forked_site_is_ready_for_the_lower_is_noted():
-    night, _, lower, higher = two_camps()
+@lists(four_sites(), "15 15 0 2 0 42 0")
+def of_two_numbers_that_a_forked_site_is_ready_for_the_lower_is_noted(night):
+    _, lower, higher = two_camps(night)
     night.site(0).refers_to(higher[0], lower[0], lower[1])
     night.site(0)
-    return night
 
 
-@lists()
-def echoes_are_heard_before_readiness():
-    night, echoes, _, higher = two_camps()
+@lists(four_sites())
+def echoes_are_heard_before_readiness(night):
+    echoes, _, higher = two_camps(night)
     night.site(0).refers_to(higher[0], higher[1], *echoes)  # gets ready for 42, with two others for 43
     night.site(0)
-    return night
 
 
-@lists("2 - - - - - 8")
-def sequence_0_may_refer_to_its_own_fork():
-    night = Campaign(4, OWNERS)
+@lists(four_sites(), "2 - - - - - 8")
+def sequence_0_may_refer_to_its_own_fork(night):
     one = night.site(1)
     other = night.fork(1).refers_to(one)
     night.arrives(other)
-    return night
 
 
-@lists("0 - - - - - 9",
+@lists(four_sites(),
+       "0 - - - - - 9",
        "2 - - - - - 8")
-def a_block_that_comes_before_its_parent_and_is_not_sent_again():
-    night = Campaign(4, OWNERS)
+def a_block_that_comes_before_its_parent_and_is_not_sent_again(night):
     first = Draft(2).requests(7, slot=2)
     night.after(first)
     night.arrives(first)
     night.arrives(first)
-    return night

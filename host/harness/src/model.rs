@@ -31,28 +31,28 @@ pub mod table;
 pub mod taking_back;
 pub mod watch;
 
-use admission::Arrival;
+use admission::AdmissionInput;
 use answer::{AncestorPlaces, Answer, ArrivalAnswer, Fields, ForkedSites, Reading};
-use building::{Building, Task};
+use building::{Building, BuildingInput};
 use calls::Calls;
 use checks::{first_refusal, Check};
 use exit::Exit;
 use form::Condition;
-use interpretation::{Asked, Interpretation};
-use joining::{Joining, Two};
+use interpretation::{Interpretation, InterpretationInput};
+use joining::{JoinInput, Joining};
 use listing::{Line, Listing};
 use replay::{Call, Replay};
-use retiring::{Leaving, Retiring};
+use retiring::{Retiring, RetiringInput};
 use sha256::{sha256, Digest};
 use shelf::Shelf;
-use shelving::{Coming, Shelving};
+use shelving::{ArrivalInput, Shelving};
 use sizes::{DIGEST_BYTES, PLACES, SLOTS, TABLE_BYTES};
 use table::{Row, Table};
-use taking_back::{Taken, TakingBack};
-use watch::{Question, Watch};
+use taking_back::{TakingBack, TakingBackInput};
+use watch::{Watch, WatchInput};
 
-/// What a fresh table is asked for with.
-pub struct Wanted {
+/// What the call for a fresh table is given: a setup, and the length of the buffer for the table.
+pub struct FreshInput {
     pub sites: u8,
     pub owners: Vec<u8>,
     pub length: usize,
@@ -60,10 +60,10 @@ pub struct Wanted {
 
 /// The rules that the model follows. Each is a value, so that the self-test can change one.
 pub struct Model {
-    pub fresh: Vec<Check<Wanted>>,
+    pub fresh: Vec<Check<FreshInput>>,
     pub form: Vec<Condition<Table>>,
-    pub admission: Vec<Check<Arrival>>,
-    pub row: fn(&Arrival) -> Row,
+    pub admission: Vec<Check<AdmissionInput>>,
+    pub row: fn(&AdmissionInput) -> Row,
     pub put: fn(&mut Table, Row),
     pub interpretation: Interpretation,
     pub retiring: Retiring,
@@ -83,8 +83,8 @@ impl Model {
     pub fn document() -> Model {
         Model {
             fresh: vec![
-                Check { number: 1, finds: |wanted| (!setup::lawful(wanted.sites, &wanted.owners)).then_some(0) },
-                Check { number: 2, finds: |wanted| (wanted.length != TABLE_BYTES).then_some(0) },
+                Check { number: 1, finds: |input| (!setup::lawful(input.sites, &input.owners)).then_some(0) },
+                Check { number: 2, finds: |input| (input.length != TABLE_BYTES).then_some(0) },
             ],
             form: form::DOCUMENT.to_vec(),
             admission: admission::CHECKS.to_vec(),
@@ -116,14 +116,14 @@ impl Model {
     }
 
     /// A table's bytes as fields, and whether it is in form.
-    fn held(&self, table: &[u8]) -> (Table, bool) {
+    fn read_table(&self, table: &[u8]) -> (Table, bool) {
         let held = Table::from_bytes(table);
         let in_form = form::in_form(&self.form, &held);
         (held, in_form)
     }
 
     /// A shelf's bytes as fields, and whether it is in form.
-    fn shelved(&self, shelf: &[u8]) -> (Shelf, bool) {
+    fn read_shelf(&self, shelf: &[u8]) -> (Shelf, bool) {
         let held = Shelf::from_bytes(shelf);
         let in_form = form::in_form(&self.shelving.form, &held);
         (held, in_form)
@@ -132,8 +132,8 @@ impl Model {
 
 impl Calls for Model {
     fn fresh(&self, sites: u8, owners: &mut [u8], table: &mut [u8]) -> Answer {
-        let wanted = Wanted { sites, owners: owners.to_vec(), length: table.len() };
-        if let Some(refusal) = first_refusal(&self.fresh, &wanted) {
+        let input = FreshInput { sites, owners: owners.to_vec(), length: table.len() };
+        if let Some(refusal) = first_refusal(&self.fresh, &input) {
             return refusal;
         }
         let slots: [u8; SLOTS] = std::array::from_fn(|slot| owners.get(slot).copied().unwrap_or(0));
@@ -142,17 +142,17 @@ impl Calls for Model {
     }
 
     fn in_form(&self, table: &mut [u8]) -> bool {
-        self.held(table).1
+        self.read_table(table).1
     }
 
     fn admit(&self, table: &mut [u8], block: &mut [u8], verdict: u8) -> Answer {
-        let (held, in_form) = self.held(table);
-        let arrival = Arrival { table: held, in_form, block: block.to_vec(), digest: sha256(block), verdict };
-        if let Some(refusal) = first_refusal(&self.admission, &arrival) {
+        let (held, in_form) = self.read_table(table);
+        let input = AdmissionInput { table: held, in_form, block: block.to_vec(), digest: sha256(block), verdict };
+        if let Some(refusal) = first_refusal(&self.admission, &input) {
             return refusal;
         }
-        let row = (self.row)(&arrival);
-        let mut held = arrival.table;
+        let row = (self.row)(&input);
+        let mut held = input.table;
         let place = held.count;
         (self.put)(&mut held, row);
         held.write(table);
@@ -160,14 +160,14 @@ impl Calls for Model {
     }
 
     fn interpret(&self, table: &mut [u8], place: usize, records: &mut [u16]) -> Answer {
-        let (held, in_form) = self.held(table);
-        let asked = Asked { table: held, in_form, place, numbers: records.len() };
-        if let Some(refusal) = first_refusal(&self.interpretation.checks, &asked) {
+        let (held, in_form) = self.read_table(table);
+        let input = InterpretationInput { table: held, in_form, place, numbers: records.len() };
+        if let Some(refusal) = first_refusal(&self.interpretation.checks, &input) {
             return refusal;
         }
         // Only a model without check 13 comes here with a place that no table has.
         if place < PLACES {
-            let mut held = asked.table;
+            let mut held = input.table;
             let part = self.interpretation.part(&held, place, records);
             (self.interpretation.write)(records, place, &part);
             (self.interpretation.mark)(&mut held, place);
@@ -177,49 +177,49 @@ impl Calls for Model {
     }
 
     fn retire(&self, table: &mut [u8], records: &mut [u16]) -> Answer {
-        let (held, in_form) = self.held(table);
-        let leaving = Leaving { table: held, in_form, numbers: records.len() };
-        if let Some(refusal) = first_refusal(&self.retiring.checks, &leaving) {
+        let (held, in_form) = self.read_table(table);
+        let input = RetiringInput { table: held, in_form, numbers: records.len() };
+        if let Some(refusal) = first_refusal(&self.retiring.checks, &input) {
             return refusal;
         }
-        let left = (self.retiring.table)(&self.retiring, &leaving.table);
+        let left = (self.retiring.table)(&self.retiring, &input.table);
         (self.retiring.records)(records, &left);
         left.write(table);
         Answer::success(0)
     }
 
     fn take_back(&self, table: &mut [u8]) -> Answer {
-        let (held, in_form) = self.held(table);
-        let taken = Taken { table: held, in_form };
-        if let Some(refusal) = first_refusal(&self.taking_back.checks, &taken) {
+        let (held, in_form) = self.read_table(table);
+        let input = TakingBackInput { table: held, in_form };
+        if let Some(refusal) = first_refusal(&self.taking_back.checks, &input) {
             return refusal;
         }
-        (self.taking_back.table)(&self.taking_back, &taken.table).write(table);
+        (self.taking_back.table)(&self.taking_back, &input.table).write(table);
         Answer::success(0)
     }
 
     fn forks(&self, table: &mut [u8]) -> ForkedSites {
-        let (table, in_form) = self.held(table);
-        self.watch.forks(&Question { table, in_form, place: 0 })
+        let (table, in_form) = self.read_table(table);
+        self.watch.forks(&WatchInput { table, in_form, place: 0 })
     }
 
     fn ancestors(&self, table: &mut [u8], place: usize) -> AncestorPlaces {
-        let (table, in_form) = self.held(table);
-        self.watch.ancestors(&Question { table, in_form, place })
+        let (table, in_form) = self.read_table(table);
+        self.watch.ancestors(&WatchInput { table, in_form, place })
     }
 
     fn build(&self, table: &mut [u8], site: u8, requests: &mut [u8], output: &mut [u8]) -> Answer {
-        let (table, in_form) = self.held(table);
+        let (table, in_form) = self.read_table(table);
         let block = self.building.block(&table, site, requests);
-        let task = Task { table, in_form, site, requests: requests.to_vec(), block, room: output.len() };
-        if let Some(refusal) = first_refusal(&self.building.checks, &task) {
+        let input = BuildingInput { table, in_form, site, requests: requests.to_vec(), block, room: output.len() };
+        if let Some(refusal) = first_refusal(&self.building.checks, &input) {
             return refusal;
         }
         // Only a model without check 17 comes here with an output that is too short.
-        if task.block.len() <= output.len() {
-            (self.building.write)(output, &task.block);
+        if input.block.len() <= output.len() {
+            (self.building.write)(output, &input.block);
         }
-        Answer::success(task.block.len())
+        Answer::success(input.block.len())
     }
 
     /// As if the calls of the list had been made one after the other.
@@ -250,7 +250,7 @@ impl Calls for Model {
     }
 
     fn shelf_in_form(&self, shelf: &mut [u8]) -> bool {
-        self.shelved(shelf).1
+        self.read_shelf(shelf).1
     }
 
     fn arrive(
@@ -266,17 +266,17 @@ impl Calls for Model {
         // On a copy: a check may refuse what admission alone would let in.
         let mut after = table.to_vec();
         let admission = self.admit(&mut after, block, verdict);
-        let (held, shelf_in_form) = self.shelved(shelf);
+        let (held, shelf_in_form) = self.read_shelf(shelf);
         let takes = (rules.takes)(&held, campaign);
         let (block, room) = (block.to_vec(), outcomes.len());
-        let coming = Coming { campaign, shelf: held, shelf_in_form, block, admission, takes, room };
-        if let Some(refusal) = first_refusal(&rules.checks, &coming) {
+        let input = ArrivalInput { campaign, shelf: held, shelf_in_form, block, admission, takes, room };
+        if let Some(refusal) = first_refusal(&rules.checks, &input) {
             return ArrivalAnswer::refused(refusal);
         }
         table.copy_from_slice(&after);
-        let mut held = coming.shelf;
+        let mut held = input.shelf;
         if admission.refusal == 9 {
-            (rules.put)(&mut held, campaign, &coming.block);
+            (rules.put)(&mut held, campaign, &input.block);
         }
         let mut ended = Vec::new();
         if (rules.tries_after)(admission) {
@@ -298,15 +298,16 @@ impl Calls for Model {
         third: &mut [u16],
     ) -> Answer {
         let rules = &self.joining;
-        let ((left_table, left_in_form), (right_table, right_in_form)) = (self.held(left), self.held(right));
+        let ((left_table, left_in_form), (right_table, right_in_form)) =
+            (self.read_table(left), self.read_table(right));
         let numbers = [left_records.len(), right_records.len(), third.len()];
-        let two = Two { left: left_table, right: right_table, left_in_form, right_in_form, numbers };
-        if let Some(refusal) = first_refusal(&rules.checks, &two) {
+        let input = JoinInput { left: left_table, right: right_table, left_in_form, right_in_form, numbers };
+        if let Some(refusal) = first_refusal(&rules.checks, &input) {
             return refusal;
         }
-        let blocks = (rules.blocks)(&two);
-        rules.copy(&two, &blocks, left_records, right_records, third);
-        rules.table(&two, &blocks).write(left);
+        let blocks = (rules.blocks)(&input);
+        rules.copy(&input, &blocks, left_records, right_records, third);
+        rules.table(&input, &blocks).write(left);
         Answer::success(blocks.len())
     }
 
@@ -327,6 +328,6 @@ impl Calls for Model {
     }
 
     fn listing(&self, input: &[u8]) -> Exit {
-        self.listing.ended(&self.lines(input))
+        self.listing.exit(&self.lines(input))
     }
 }

@@ -5,9 +5,9 @@ use std::mem::size_of;
 
 use crate::model::sizes::{PART_NUMBERS, RECORD_NUMBERS};
 
-/// A site keeps its table and its records from call to call. The other buffers are filled for a call.
+/// The buffers of one site. It keeps its table and its records from call to call; the others are filled for a call.
 #[derive(Clone, Default)]
-pub struct Lent {
+pub struct Buffers {
     pub table: Vec<u8>,
     pub records: Vec<u16>,
     pub block: Vec<u8>,
@@ -22,13 +22,23 @@ pub struct Lent {
     pub third: Vec<u16>,
 }
 
-impl Lent {
-    pub fn new(table: Vec<u8>, records: Vec<u16>) -> Lent {
-        Lent { table, records, ..Lent::default() }
+impl Buffers {
+    pub fn new(table: Vec<u8>, records: Vec<u16>) -> Buffers {
+        Buffers { table, records, ..Buffers::default() }
+    }
+
+    /// A copy of what a site keeps.
+    pub fn table_and_records(&self) -> Buffers {
+        Buffers::new(self.table.clone(), self.records.clone())
+    }
+
+    /// The first so many outcomes.
+    pub fn first_outcomes(&self, count: usize) -> Vec<OutcomeNumbers> {
+        self.outcomes.chunks_exact(2).take(count).map(|pair| [pair[0], pair[1]]).collect()
     }
 
     /// The first item that is other than in `expected`, if there is one.
-    pub fn first_other(&self, expected: &Lent) -> Option<String> {
+    pub fn first_other(&self, expected: &Buffers) -> Option<String> {
         first_other("table", &self.table, &expected.table)
             .or_else(|| first_other_record("records", &self.records, &expected.records))
             .or_else(|| first_other("block", &self.block, &expected.block))
@@ -44,44 +54,47 @@ impl Lent {
 
 fn first_other_record(name: &str, tested: &[u16], expected: &[u16]) -> Option<String> {
     let what = first_other(name, tested, expected)?;
-    let At { place, slot, entry } = At::of(other_at(tested, expected)?);
+    let RecordPosition { place, slot, entry } = RecordPosition::of(other_at(tested, expected)?);
     Some(format!("{what}: place {place}, slot {slot}, entry {entry}"))
 }
 
+/// What became of a block that waited, as the two numbers of its outcome: 0 and its place, or its refusal and 0.
+pub type OutcomeNumbers = [u64; 2];
+
 /// What a site's next block is built from.
 #[derive(Clone, Copy)]
-pub struct Next<'a> {
+pub struct NextBlock<'a> {
     pub table: &'a [u8],
     pub site: u8,
     pub requests: &'a [u8],
 }
 
 /// Where a number of the record buffer stands.
-struct At {
+struct RecordPosition {
     place: usize,
     slot: usize,
     entry: usize,
 }
 
-impl At {
-    fn of(number: usize) -> At {
+impl RecordPosition {
+    fn of(number: usize) -> RecordPosition {
         let (place, in_part) = (number / PART_NUMBERS, number % PART_NUMBERS);
-        At { place, slot: in_part / RECORD_NUMBERS, entry: in_part % RECORD_NUMBERS }
+        RecordPosition { place, slot: in_part / RECORD_NUMBERS, entry: in_part % RECORD_NUMBERS }
     }
 }
 
 /// Each side goes on with the buffers that its own calls left. Between calls both have the same in them.
 pub struct Sides {
-    pub tested: Lent,
-    pub expected: Lent,
+    pub tested: Buffers,
+    pub expected: Buffers,
 }
 
 impl Sides {
-    pub fn new(lent: Lent) -> Sides {
-        Sides { tested: lent.clone(), expected: lent }
+    pub fn new(buffers: Buffers) -> Sides {
+        Sides { tested: buffers.clone(), expected: buffers }
     }
 
-    pub fn each(&mut self, change: impl Fn(&mut Lent)) {
+    pub fn each(&mut self, change: impl Fn(&mut Buffers)) {
         change(&mut self.tested);
         change(&mut self.expected);
     }
@@ -94,7 +107,7 @@ impl Sides {
 
     /// The slot in which the sides' records first differ, if they do.
     pub fn other_slot(&self) -> Option<usize> {
-        other_at(&self.tested.records, &self.expected.records).map(|number| At::of(number).slot)
+        other_at(&self.tested.records, &self.expected.records).map(|number| RecordPosition::of(number).slot)
     }
 }
 

@@ -60,10 +60,10 @@ pub const RETIRINGS: Kind = Kind { name: "retirings", shares: 2, run: retirings:
 
 pub const TAKINGS_BACK: Kind = Kind { name: "takings-back", shares: 1, run: takings_back::run };
 
-/// These are run only where they are named: a case takes long.
+/// Long campaigns, shorter than those of the kind `long`. They are run only where they are named: a case takes long.
 pub const LASTING: Kind = Kind { name: "lasting", shares: 0, run: long_campaigns::shorter };
 
-/// It is run only where it is named: its cases take a process each, of a program that not every run has.
+/// Listings are run only where they are named: a case takes a process, of a program that not every run has.
 pub static LISTINGS: Kind = Kind { name: "listings", shares: 0, run: listings::run };
 
 /// Which cases are run.
@@ -76,7 +76,7 @@ pub struct Cases {
 }
 
 /// A case in which the two sides differ.
-pub struct Found {
+pub struct FoundDifference {
     pub case: u64,
     pub kind: &'static str,
     pub difference: Difference,
@@ -84,7 +84,12 @@ pub struct Found {
 
 /// Runs the cases in turn up to the first in which the two sides differ, which it gives. The cases left are those after
 /// it.
-pub fn first_difference(tested: &dyn Calls, model: &Model, cases: &mut Cases, counts: &mut Counts) -> Option<Found> {
+pub fn first_difference(
+    tested: &dyn Calls,
+    model: &Model,
+    cases: &mut Cases,
+    counts: &mut Counts,
+) -> Option<FoundDifference> {
     for case in &mut cases.numbers {
         counts.cases += 1;
         let random = Random::for_case(cases.seed, case);
@@ -93,7 +98,7 @@ pub fn first_difference(tested: &dyn Calls, model: &Model, cases: &mut Cases, co
         let kind = cases.kind.unwrap_or(drawn);
         let mut compare = Compare { tested, model, counts };
         if let Err(difference) = (kind.run)(&random, &mut compare) {
-            return Some(Found { case, kind: kind.name, difference });
+            return Some(FoundDifference { case, kind: kind.name, difference });
         }
     }
     None

@@ -2,15 +2,15 @@
 //! this folder make several calls, and put together what there was before and after them.
 
 pub mod arrival;
+pub mod campaign_alone;
 pub mod join;
 mod site;
-pub mod story;
 mod taking_back;
 mod watch;
 
 use std::fmt::Debug;
 
-use crate::comparing::buffers::{first_other, hex, Lent, Next, Sides};
+use crate::comparing::buffers::{first_other, hex, Buffers, NextBlock, Sides};
 use crate::comparing::counts::{Call, Counts};
 use crate::comparing::difference::{counted, shown, Difference};
 use crate::model::answer::{AncestorPlaces, Answer, ArrivalAnswer, ForkedSites};
@@ -23,7 +23,7 @@ use crate::model::Model;
 
 /// Bytes behind an output that aren't lent with it: a call that writes past the output's end is seen.
 const BEHIND_OUTPUT: usize = MAX_BLOCK_BYTES;
-/// The same of outcomes, and of a third record buffer.
+/// Numbers behind outcomes, and behind a third record buffer, that aren't lent either.
 const BEHIND_OUTCOMES: usize = OUTCOMES_NUMBERS;
 const BEHIND_THIRD: usize = PART_NUMBERS;
 
@@ -35,11 +35,11 @@ pub struct Compare<'a> {
 }
 
 /// A list of calls that were made one by one: what there was before, what they answered, and what they left.
-pub struct Made<'a> {
-    pub before: &'a Lent,
+pub struct CallList<'a> {
+    pub before: &'a Buffers,
     pub calls: &'a [u8],
     pub answers: &'a [Answer],
-    pub after: &'a Lent,
+    pub after: &'a Buffers,
 }
 
 impl Compare<'_> {
@@ -66,17 +66,21 @@ impl Compare<'_> {
         }
     }
 
-    /// Makes a call on the sides' own buffers. What differs, if something does.
+    /// Makes a call on the sides' own buffers. A difference shows the inputs, by the table before the call and the sides
+    /// after it. Gives back the model's answer.
     fn on_sides<T: Debug + PartialEq>(
         &mut self,
+        call: &'static str,
         sides: &mut Sides,
-        make: impl Fn(&dyn Calls, &mut Lent) -> T,
-    ) -> Result<T, String> {
+        make: impl Fn(&dyn Calls, &mut Buffers) -> T,
+        inputs: impl Fn(&[u8], &Sides) -> Vec<(String, String)>,
+    ) -> Result<T, Difference> {
+        let table = sides.expected.table.clone();
         let answer = make(self.tested, &mut sides.tested);
         let expected = make(self.model, &mut sides.expected);
         match other_answer(&answer, &expected).or_else(|| sides.tested.first_other(&sides.expected)) {
             None => Ok(expected),
-            Some(what) => Err(what),
+            Some(what) => Err(Difference { call, what, inputs: inputs(&table, sides) }),
         }
     }
 
@@ -91,55 +95,52 @@ impl Compare<'_> {
 
     pub fn in_form(&mut self, table: &[u8]) -> Result<bool, Difference> {
         let (answer, _) = self.on_copies("gt_in_form", [("table", table)], |calls, [table]| calls.in_form(table))?;
-        self.counts.form(answer);
+        self.counts.tables.note(answer);
         Ok(answer)
     }
 
     pub fn admit(&mut self, sides: &mut Sides, block: &[u8], verdict: u8) -> Result<Answer, Difference> {
-        let before = sides.expected.table.clone();
-        sides.each(|lent| lent.block = block.to_vec());
-        let answer = self.on_sides(sides, |calls, lent| calls.admit(&mut lent.table, &mut lent.block, verdict));
-        let answer = answer.map_err(|what| {
-            let inputs = vec![shown("table", &before), shown("block", block), shown("verdict", &[verdict])];
-            Difference { call: "gt_admit", what, inputs }
-        })?;
+        sides.each(|buffers| buffers.block = block.to_vec());
+        let answer = self.on_sides(
+            "gt_admit",
+            sides,
+            |calls, buffers| calls.admit(&mut buffers.table, &mut buffers.block, verdict),
+            |table, _| vec![shown("table", table), shown("block", block), shown("verdict", &[verdict])],
+        )?;
         self.counts.answer(Call::Admit, answer.refusal);
         Ok(answer)
     }
 
     pub fn interpret(&mut self, sides: &mut Sides, place: usize) -> Result<Answer, Difference> {
-        let before = sides.expected.table.clone();
-        let answer = self.on_sides(sides, |calls, lent| calls.interpret(&mut lent.table, place, &mut lent.records));
-        let answer = answer.map_err(|what| {
+        let inputs = |table: &[u8], sides: &Sides| {
             let records = &sides.expected.records;
-            let mut inputs = vec![shown("table", &before), counted("place", place), counted("records", records.len())];
+            let mut inputs = vec![shown("table", table), counted("place", place), counted("records", records.len())];
             if let Some(slot) = sides.other_slot() {
-                inputs.extend(records_read(&Table::from_bytes(&before), place, slot, records));
+                inputs.extend(records_read(&Table::from_bytes(table), place, slot, records));
             }
-            Difference { call: "gt_interpret", what, inputs }
-        })?;
+            inputs
+        };
+        let make =
+            |calls: &dyn Calls, buffers: &mut Buffers| calls.interpret(&mut buffers.table, place, &mut buffers.records);
+        let answer = self.on_sides("gt_interpret", sides, make, inputs)?;
         self.counts.answer(Call::Interpret, answer.refusal);
         Ok(answer)
     }
 
     pub fn retire(&mut self, sides: &mut Sides) -> Result<Answer, Difference> {
-        let before = sides.expected.table.clone();
-        let answer = self.on_sides(sides, |calls, lent| calls.retire(&mut lent.table, &mut lent.records));
-        let answer = answer.map_err(|what| {
-            let inputs = vec![shown("table", &before), counted("records", sides.expected.records.len())];
-            Difference { call: "gt_retire", what, inputs }
-        })?;
+        let answer = self.on_sides(
+            "gt_retire",
+            sides,
+            |calls, buffers| calls.retire(&mut buffers.table, &mut buffers.records),
+            |table, sides| vec![shown("table", table), counted("records", sides.expected.records.len())],
+        )?;
         self.counts.answer(Call::Retire, answer.refusal);
         Ok(answer)
     }
 
     pub fn take_back(&mut self, sides: &mut Sides) -> Result<Answer, Difference> {
-        let before = sides.expected.table.clone();
-        let answer = self.on_sides(sides, |calls, lent| calls.take_back(&mut lent.table));
-        let answer = answer.map_err(|what| {
-            let inputs = vec![shown("table", &before)];
-            Difference { call: "gt_take_back", what, inputs }
-        })?;
+        let make = |calls: &dyn Calls, buffers: &mut Buffers| calls.take_back(&mut buffers.table);
+        let answer = self.on_sides("gt_take_back", sides, make, |table, _| vec![shown("table", table)])?;
         self.counts.answer(Call::TakeBack, answer.refusal);
         Ok(answer)
     }
@@ -161,7 +162,7 @@ impl Compare<'_> {
     }
 
     /// The answer, and the output afterwards.
-    pub fn build(&mut self, next: &Next, output: &[u8]) -> Result<(Answer, Vec<u8>), Difference> {
+    pub fn build(&mut self, next: &NextBlock, output: &[u8]) -> Result<(Answer, Vec<u8>), Difference> {
         let room = output.len();
         let guarded = [output, &[0; BEHIND_OUTPUT]].concat();
         let site = [next.site];
@@ -180,34 +181,34 @@ impl Compare<'_> {
 
     /// Replays a list. How many calls ran.
     pub fn replay(&mut self, sides: &mut Sides, calls: &[u8], answers: &[u64]) -> Result<usize, Difference> {
-        let before = sides.expected.table.clone();
-        sides.each(|lent| {
-            lent.calls = calls.to_vec();
-            lent.answers = answers.to_vec();
+        sides.each(|buffers| {
+            buffers.calls = calls.to_vec();
+            buffers.answers = answers.to_vec();
         });
-        let ran = self.on_sides(sides, |calls, lent| {
-            calls.replay(&mut lent.table, &mut lent.records, &mut lent.calls, &mut lent.answers)
-        });
-        let ran = ran.map_err(|what| {
+        let inputs = |table: &[u8], sides: &Sides| {
             let lengths = [counted("records", sides.expected.records.len()), counted("answers", answers.len())];
-            let inputs = [vec![shown("table", &before), shown("calls", calls)], lengths.to_vec()].concat();
-            Difference { call: "gt_replay", what, inputs }
-        })?;
+            [vec![shown("table", table), shown("calls", calls)], lengths.to_vec()].concat()
+        };
+        let make = |calls: &dyn Calls, Buffers { table, records, calls: list, answers, .. }: &mut Buffers| {
+            calls.replay(table, records, list, answers)
+        };
+        let ran = self.on_sides("gt_replay", sides, make, inputs)?;
         self.counts.replay(ran);
         Ok(ran)
     }
 
     /// Replays calls that were made one by one, which comes to the same. The model isn't asked again.
-    pub fn replay_made(&mut self, made: &Made, answers: &[u64]) -> Result<(), Difference> {
-        let mut lent = Lent { calls: made.calls.to_vec(), answers: answers.to_vec(), ..made.before.clone() };
-        let mut expected = Lent { calls: made.calls.to_vec(), answers: answers.to_vec(), ..made.after.clone() };
-        for (index, answer) in made.answers.iter().enumerate() {
+    pub fn replay_call_list(&mut self, list: &CallList, answers: &[u64]) -> Result<(), Difference> {
+        let mut buffers = Buffers { calls: list.calls.to_vec(), answers: answers.to_vec(), ..list.before.clone() };
+        let mut expected = Buffers { calls: list.calls.to_vec(), answers: answers.to_vec(), ..list.after.clone() };
+        for (index, answer) in list.answers.iter().enumerate() {
             replay::note(&mut expected.answers, index, *answer);
         }
-        let ran = self.tested.replay(&mut lent.table, &mut lent.records, &mut lent.calls, &mut lent.answers);
-        let other = other_answer(&ran, &made.answers.len()).or_else(|| lent.first_other(&expected));
+        let ran =
+            self.tested.replay(&mut buffers.table, &mut buffers.records, &mut buffers.calls, &mut buffers.answers);
+        let other = other_answer(&ran, &list.answers.len()).or_else(|| buffers.first_other(&expected));
         if let Some(what) = other {
-            let inputs = vec![shown("table", &made.before.table), shown("calls", made.calls)];
+            let inputs = vec![shown("table", &list.before.table), shown("calls", list.calls)];
             return Err(Difference { call: "gt_replay after single calls", what, inputs });
         }
         self.counts.replay(ran);
@@ -217,7 +218,7 @@ impl Compare<'_> {
     pub fn shelf_in_form(&mut self, shelf: &[u8]) -> Result<bool, Difference> {
         let (answer, _) =
             self.on_copies("gt_shelf_in_form", [("shelf", shelf)], |calls, [shelf]| calls.shelf_in_form(shelf))?;
-        self.counts.shelves.form(answer);
+        self.counts.shelves.shelves.note(answer);
         Ok(answer)
     }
 
@@ -230,46 +231,45 @@ impl Compare<'_> {
         verdict: u8,
         outcomes: &[u64],
     ) -> Result<ArrivalAnswer, Difference> {
-        let [table, shelf] = [&sides.expected.table, &sides.expected.shelf].map(Vec::clone);
+        let shelf = sides.expected.shelf.clone();
         let room = outcomes.len();
-        sides.each(|lent| {
-            lent.block = block.to_vec();
-            lent.outcomes = [outcomes, &[0; BEHIND_OUTCOMES]].concat();
+        sides.each(|buffers| {
+            buffers.block = block.to_vec();
+            buffers.outcomes = [outcomes, &[0; BEHIND_OUTCOMES]].concat();
         });
-        let answer = self.on_sides(sides, |calls, Lent { table, shelf, block, outcomes, .. }| {
-            calls.arrive(table, shelf, campaign, block, verdict, &mut outcomes[..room])
-        });
-        let answer = answer.map_err(|what| {
-            let buffers = [shown("table", &table), shown("shelf", &shelf), shown("block", block)];
+        let inputs = |table: &[u8], _: &Sides| {
+            let buffers = [shown("table", table), shown("shelf", &shelf), shown("block", block)];
             let numbers = [counted("campaign", campaign.into()), counted("verdict", verdict.into())];
-            let inputs = [&buffers[..], &numbers, &[counted("outcomes", room)]].concat();
-            Difference { call: "gt_arrive", what, inputs }
-        })?;
+            [&buffers[..], &numbers, &[counted("outcomes", room)]].concat()
+        };
+        let make = |calls: &dyn Calls, Buffers { table, shelf, block, outcomes, .. }: &mut Buffers| {
+            calls.arrive(table, shelf, campaign, block, verdict, &mut outcomes[..room])
+        };
+        let answer = self.on_sides("gt_arrive", sides, make, inputs)?;
         self.counts.answer(Call::Arrive, answer.answer.refusal);
         Ok(answer)
     }
 
     /// Joins a right side's table and records to the left's, which the sides have. What it wrote to the third buffer is
     /// left there.
-    pub fn join(&mut self, sides: &mut Sides, right: &Lent, third: &[u16]) -> Result<Answer, Difference> {
-        let before = sides.expected.table.clone();
+    pub fn join(&mut self, sides: &mut Sides, right: &Buffers, third: &[u16]) -> Result<Answer, Difference> {
         let room = third.len();
-        sides.each(|lent| {
-            lent.right.clone_from(&right.table);
-            lent.right_records.clone_from(&right.records);
-            lent.third = [third, &[0; BEHIND_THIRD]].concat();
+        sides.each(|buffers| {
+            buffers.right.clone_from(&right.table);
+            buffers.right_records.clone_from(&right.records);
+            buffers.third = [third, &[0; BEHIND_THIRD]].concat();
         });
-        let answer = self.on_sides(sides, |calls, Lent { table, records, right, right_records, third, .. }| {
-            calls.join(table, right, records, right_records, &mut third[..room])
-        });
-        let answer = answer.map_err(|what| {
-            let tables = [shown("left", &before), shown("right", &right.table)];
+        let inputs = |left: &[u8], sides: &Sides| {
+            let tables = [shown("left", left), shown("right", &right.table)];
             let records = [&sides.expected.records, &right.records].map(Vec::len);
             let lengths = [counted("left records", records[0]), counted("right records", records[1])];
-            let inputs = [&tables[..], &lengths, &[counted("third", room)]].concat();
-            Difference { call: "gt_join", what, inputs }
-        })?;
-        sides.each(|lent| lent.third.truncate(room));
+            [&tables[..], &lengths, &[counted("third", room)]].concat()
+        };
+        let make = |calls: &dyn Calls, Buffers { table, records, right, right_records, third, .. }: &mut Buffers| {
+            calls.join(table, right, records, right_records, &mut third[..room])
+        };
+        let answer = self.on_sides("gt_join", sides, make, inputs)?;
+        sides.each(|buffers| buffers.third.truncate(room));
         self.counts.answer(Call::Join, answer.refusal);
         Ok(answer)
     }
@@ -289,11 +289,11 @@ impl Compare<'_> {
 
     pub fn listing(&mut self, input: &[u8]) -> Result<(), Difference> {
         let lines = self.model.lines(input);
-        let ended = self.tested.listing(input);
-        if let Some(what) = ended.other(&self.model.listing.ended(&lines)) {
+        let exit = self.tested.listing(input);
+        if let Some(what) = exit.other(&self.model.listing.exit(&lines)) {
             return Err(Difference { call: "listing", what, inputs: vec![shown("input", input)] });
         }
-        self.counts.listings.listed(input, &lines);
+        self.counts.listings.listing(input, &lines);
         Ok(())
     }
 }

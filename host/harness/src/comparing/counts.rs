@@ -18,15 +18,17 @@ use campaigns::Campaigns;
 use groups::Groups;
 use joins::Joins;
 use listings::Listings;
-use long_campaigns::Lasted;
+use long_campaigns::LongCampaigns;
 use retirings::Retirings;
 use shelves::Shelves;
 use takings_back::TakingsBack;
-use watch::Watched;
+use watch::WatchedTables;
 
-pub use groups::Met;
-pub use retirings::Coming;
-pub use takings_back::Going;
+use crate::model::sizes::SITE_COUNTS;
+
+pub use groups::PremisesMet;
+pub use retirings::BlockHistory;
+pub use takings_back::LastBlockHistory;
 
 /// The calls whose answers are counted.
 #[derive(Clone, Copy)]
@@ -56,18 +58,18 @@ const CALLS: [(Call, &str, &[u8]); 9] = [
 ];
 
 /// How often a call gave each answer, by its refusal number.
-struct Answered([u64; REFUSALS]);
+struct AnswerCounts([u64; REFUSALS]);
 
 /// Refusal numbers end at 33.
 const REFUSALS: usize = 34;
 
-impl Default for Answered {
+impl Default for AnswerCounts {
     fn default() -> Self {
-        Answered([0; REFUSALS])
+        AnswerCounts([0; REFUSALS])
     }
 }
 
-impl Answered {
+impl AnswerCounts {
     fn note(&mut self, refusal: u8) {
         self.0[usize::from(refusal)] += 1;
     }
@@ -101,47 +103,58 @@ impl<const N: usize> Default for Times<N> {
     }
 }
 
+/// How many tables, or shelves, were in form, and how many weren't.
 #[derive(Default)]
-pub struct Counts {
-    pub cases: u64,
-    pub fresh: u64,
-    pub reading: u64,
-    pub digest: u64,
-    pub campaigns: Campaigns,
-    pub groups: Groups,
-    pub watched: Watched,
-    pub built: BuiltBlocks,
-    pub shelves: Shelves,
-    pub joins: Joins,
-    pub retirings: Retirings,
-    pub takings_back: TakingsBack,
-    pub lasted: Lasted,
-    pub listings: Listings,
-    /// Of each call.
-    answers: [Answered; CALLS.len()],
-    replays: u64,
-    /// The calls that ran in replays.
-    replayed: u64,
+pub struct FormCounts {
     in_form: u64,
     not_in_form: u64,
 }
 
-impl Counts {
-    pub fn form(&mut self, in_form: bool) {
-        if in_form {
-            self.in_form += 1;
-        } else {
-            self.not_in_form += 1;
-        }
+impl FormCounts {
+    pub fn note(&mut self, in_form: bool) {
+        self.in_form += u64::from(in_form);
+        self.not_in_form += u64::from(!in_form);
     }
+}
 
+/// The count of a number of sites, of those that a setup can have.
+fn of_site_count<T>(counts: &mut [T; SITE_COUNTS.len()], sites: u8) -> &mut T {
+    let index = SITE_COUNTS.iter().position(|&count| count == sites);
+    &mut counts[index.expect("a lawful setup")]
+}
+
+#[derive(Default)]
+pub struct Counts {
+    pub cases: u64,
+    pub fresh: u64,
+    pub tables: FormCounts,
+    pub reading: u64,
+    pub digest: u64,
+    pub campaigns: Campaigns,
+    pub groups: Groups,
+    pub watched_tables: WatchedTables,
+    pub built_blocks: BuiltBlocks,
+    pub shelves: Shelves,
+    pub joins: Joins,
+    pub retirings: Retirings,
+    pub takings_back: TakingsBack,
+    pub long_campaigns: LongCampaigns,
+    pub listings: Listings,
+    /// The answers of each call.
+    answers: [AnswerCounts; CALLS.len()],
+    replays: u64,
+    /// The calls that ran in replays.
+    replayed_calls: u64,
+}
+
+impl Counts {
     pub fn answer(&mut self, call: Call, refusal: u8) {
         self.answers[call as usize].note(refusal);
     }
 
     pub fn replay(&mut self, calls: usize) {
         self.replays += 1;
-        self.replayed += calls as u64;
+        self.replayed_calls += calls as u64;
     }
 }
 
@@ -152,11 +165,11 @@ impl Display for Counts {
             return self.listings.fmt(to);
         }
         writeln!(to, "gt_fresh      {:>8} calls", self.fresh)?;
-        writeln!(to, "gt_in_form    {:>8} calls", self.in_form + self.not_in_form)?;
+        writeln!(to, "gt_in_form    {:>8} calls", self.tables.in_form + self.tables.not_in_form)?;
         for (call, name, _) in CALLS {
             writeln!(to, "{name:<13} {:>8} calls", self.answers[call as usize].all())?;
         }
-        writeln!(to, "gt_replay     {:>8} calls of {} in all", self.replays, self.replayed)?;
+        writeln!(to, "gt_replay     {:>8} calls of {} in all", self.replays, self.replayed_calls)?;
         writeln!(to, "gt_read_block {:>8} calls", self.reading)?;
         writeln!(to, "gt_digest     {:>8} calls", self.digest)?;
         for (call, name, numbers) in CALLS {
@@ -165,9 +178,9 @@ impl Display for Counts {
                 writeln!(to, "{name} answered {number:>2} {times:>8} times")?;
             }
         }
-        writeln!(to, "tables in form     {:>8}", self.in_form)?;
-        writeln!(to, "tables not in form {:>8}", self.not_in_form)?;
-        write!(to, "{}{}{}{}", self.campaigns, self.watched, self.built, self.groups)?;
-        write!(to, "{}{}{}{}{}", self.shelves, self.joins, self.retirings, self.takings_back, self.lasted)
+        writeln!(to, "tables in form     {:>8}", self.tables.in_form)?;
+        writeln!(to, "tables not in form {:>8}", self.tables.not_in_form)?;
+        write!(to, "{}{}{}{}", self.campaigns, self.watched_tables, self.built_blocks, self.groups)?;
+        write!(to, "{}{}{}{}{}", self.shelves, self.joins, self.retirings, self.takings_back, self.long_campaigns)
     }
 }

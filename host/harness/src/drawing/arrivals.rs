@@ -5,8 +5,9 @@ use crate::drawing::random::Random;
 use crate::model::sizes::{DIGEST_BYTES, HEADER_BYTES, MAX_BLOCK_BYTES, OUTCOMES_NUMBERS, REQUEST_BYTES};
 use crate::model::table::Table;
 
+/// A block's bytes, or others, and the link's verdict on them.
 #[derive(Clone)]
-pub struct Sent {
+pub struct Arrival {
     pub block: Vec<u8>,
     pub verdict: u8,
 }
@@ -15,18 +16,18 @@ pub struct Sent {
 const MOST_RANDOM_BYTES: usize = 600;
 
 /// An arrival that the table admits, unless it is full.
-pub fn good(random: &Random, table: &Table) -> Sent {
-    sent(lawful(random, table))
+pub fn good(random: &Random, table: &Table) -> Arrival {
+    arrival_of(lawful(random, table))
 }
 
 /// Any arrival. `earlier` are blocks that came before.
-pub fn any(random: &Random, table: &Table, earlier: &[Vec<u8>]) -> Sent {
+pub fn any(random: &Random, table: &Table, earlier: &[Vec<u8>]) -> Arrival {
     match random.below(16) {
         0..=4 => good(random, table),
         5..=10 => {
             let mut draft = lawful(random, table);
             spoil(random, table, &mut draft);
-            sent(draft)
+            arrival_of(draft)
         }
         11 => again(random, table, earlier),
         12 => {
@@ -39,53 +40,53 @@ pub fn any(random: &Random, table: &Table, earlier: &[Vec<u8>]) -> Sent {
             if random.one_in(2) {
                 spoil(random, table, &mut draft);
             }
-            let mut sent = sent(draft);
-            damage(random, &mut sent.block);
-            sent
+            let mut arrival = arrival_of(draft);
+            damage(random, &mut arrival.block);
+            arrival
         }
-        14 => Sent { block: little_bytes(random), verdict: 1 },
+        14 => Arrival { block: little_bytes(random), verdict: 1 },
         _ => {
             let length = random.between(0, MOST_RANDOM_BYTES);
-            Sent { block: random.bytes(length), verdict: 1 }
+            Arrival { block: random.bytes(length), verdict: 1 }
         }
     }
 }
 
-/// As long as a block may be.
-pub fn longest(random: &Random, table: &Table) -> Sent {
-    sent(draft::longest(random, table))
+/// An arrival as long as a block may be.
+pub fn longest(random: &Random, table: &Table) -> Arrival {
+    arrival_of(draft::longest(random, table))
 }
 
-/// Longer than a block may be, though it begins as one of the greatest length.
-pub fn over_long(random: &Random, table: &Table) -> Sent {
-    let mut sent = longest(random, table);
+/// An arrival longer than a block may be, though it begins as one of the greatest length.
+pub fn over_long(random: &Random, table: &Table) -> Arrival {
+    let mut arrival = longest(random, table);
     let twice = 2 * MAX_BLOCK_BYTES;
     let any = random.between(MAX_BLOCK_BYTES + 1, 3 * MAX_BLOCK_BYTES);
     let length = random.pick(&[MAX_BLOCK_BYTES + 1, MAX_BLOCK_BYTES + 1, MAX_BLOCK_BYTES + 2, twice, twice + 1, any]);
     // Rarely as long as two bytes can say.
     let length = if random.one_in(16) { u16::MAX.into() } else { length };
-    sent.block.extend(random.bytes(length - MAX_BLOCK_BYTES));
-    sent
+    arrival.block.extend(random.bytes(length - MAX_BLOCK_BYTES));
+    arrival
 }
 
-/// Shorter than any block is.
-pub fn short(random: &Random) -> Sent {
+/// An arrival shorter than any block is.
+pub fn short(random: &Random) -> Arrival {
     let length = random.below(HEADER_BYTES);
-    Sent { block: random.bytes(length), verdict: random.pick(&[1, 1, 0, random.byte()]) }
+    Arrival { block: random.bytes(length), verdict: random.pick(&[1, 1, 0, random.byte()]) }
 }
 
-fn sent(draft: Draft) -> Sent {
-    Sent { block: draft.to_bytes(), verdict: draft.verdict }
+fn arrival_of(draft: Draft) -> Arrival {
+    Arrival { block: draft.to_bytes(), verdict: draft.verdict }
 }
 
 /// A block that came before, if there is one.
-fn again(random: &Random, table: &Table, earlier: &[Vec<u8>]) -> Sent {
+fn again(random: &Random, table: &Table, earlier: &[Vec<u8>]) -> Arrival {
     let mut draft = lawful(random, table);
     if random.one_in(4) {
         bad_verdict(random, table, &mut draft);
     }
     let block = if earlier.is_empty() { draft.to_bytes() } else { earlier[random.below(earlier.len())].clone() };
-    Sent { block, verdict: draft.verdict }
+    Arrival { block, verdict: draft.verdict }
 }
 
 /// Flips a bit, cuts, lengthens, or changes one of the two counts.

@@ -7,8 +7,8 @@ use crate::model::setup::faults;
 use crate::model::sha256::{sha256, Digest};
 use crate::model::sizes::{MAX_REFERENCES, MAX_REQUESTS, PLACES, SLOTS};
 
-/// A block, by its bytes and by what the campaign needs to know of it.
-pub struct Built {
+/// A block of a campaign, with what the drawing of further blocks needs of it.
+pub struct CampaignBlock {
     pub bytes: Vec<u8>,
     /// The blocks that it refers to: bit i is block i.
     pub references: u128,
@@ -21,7 +21,7 @@ pub struct Campaign {
     pub sites: u8,
     pub owners: [u8; SLOTS],
     /// Each refers to earlier ones only.
-    pub blocks: Vec<Built>,
+    pub blocks: Vec<CampaignBlock>,
 }
 
 /// Some campaigns have more blocks than a table holds.
@@ -57,7 +57,7 @@ struct Builder<'a> {
     random: &'a Random,
     habits: Habits,
     campaign: Campaign,
-    /// Of each site.
+    /// The heads of each site.
     heads: Vec<Heads>,
 }
 
@@ -179,7 +179,7 @@ impl Builder<'_> {
             return None;
         }
         let references = references.iter().fold(0, |set, block| set | 1 << block);
-        let built = Built { bytes, references, digest, site: plan.site, sequence: plan.sequence };
+        let built = CampaignBlock { bytes, references, digest, site: plan.site, sequence: plan.sequence };
         self.campaign.blocks.push(built);
         Some(self.campaign.blocks.len() - 1)
     }

@@ -38,7 +38,7 @@ fn some_number(random: &Random) -> u16 {
 /// A site, a sequence number and a set of places that keep the parent rule on top of the table's places.
 pub type Lineage = (u8, u16, u64);
 
-/// That of any site, which often forks.
+/// The lineage of a block of any site, which often forks.
 pub fn lineage(random: &Random, table: &Table) -> Lineage {
     let site = random.below(table.sites.into()) as u8;
     let own: Vec<usize> = table.own(site).collect();
@@ -50,7 +50,8 @@ pub fn lineage(random: &Random, table: &Table) -> Lineage {
     lineage_of(random, table, site, parent)
 }
 
-/// That of a site on top of a block of its own; without one, of sequence number 0. On top of the last number nothing comes.
+/// The lineage of a site's block on top of another of its own; without one, of sequence number 0. Nothing comes on top of
+/// the last number.
 pub fn lineage_of(random: &Random, table: &Table, site: u8, parent: Option<usize>) -> Lineage {
     let parent = parent.filter(|&place| table.rows[place].sequence < u16::MAX);
     let sequence = parent.map_or(0, |place| table.rows[place].sequence + 1);
@@ -82,7 +83,7 @@ pub fn longest(random: &Random, table: &Table) -> Draft {
     draft
 }
 
-/// The same with as many references to held blocks as a block may have: the table admits it if it holds enough.
+/// A lawful block with as many references to held blocks as a block may have: the table admits it if it holds enough.
 pub fn longest_lawful(random: &Random, table: &Table) -> Draft {
     let mut draft = lawful(random, table);
     let parent = |row: &Row| row.site == draft.site && row.sequence.checked_add(1) == Some(draft.sequence);
@@ -105,7 +106,7 @@ fn fill_requests(random: &Random, draft: &mut Draft, count: usize) {
     }
 }
 
-/// As many as a block may have.
+/// As many requests as a block may have.
 pub fn some_requests(random: &Random) -> Vec<Request> {
     let count = some_count(random, MAX_REQUESTS);
     // Few slots make it likely that one is requested twice.

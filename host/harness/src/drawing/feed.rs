@@ -2,7 +2,7 @@
 
 use crate::drawing::draft::{self, lawful, longest_lawful, missing_reference, some_requests, spoil, Draft};
 use crate::drawing::random::Random;
-use crate::model::admission::{put, row, Arrival};
+use crate::model::admission::{put, row, AdmissionInput};
 use crate::model::block;
 use crate::model::sha256::{sha256, Digest};
 use crate::model::sizes::{MAX_REFERENCES, MOST_HELD, PLACES};
@@ -22,7 +22,7 @@ impl Feed {
         self.to_come.is_empty()
     }
 
-    /// These blocks have to come too, after all others and out of order.
+    /// Adds blocks that come after all others, and out of order.
     pub fn add(&mut self, random: &Random, mut blocks: Vec<Vec<u8>>) {
         out_of_order(random, &mut blocks);
         blocks.reverse();
@@ -146,9 +146,14 @@ fn spoiled(random: &Random, table: &Table) -> Vec<u8> {
 pub fn with(table: &Table, block: &[u8]) -> Table {
     let mut after = table.clone();
     if table.count < PLACES {
-        let arrival =
-            Arrival { table: table.clone(), in_form: true, block: block.to_vec(), digest: sha256(block), verdict: 1 };
-        put(&mut after, row(&arrival));
+        let input = AdmissionInput {
+            table: table.clone(),
+            in_form: true,
+            block: block.to_vec(),
+            digest: sha256(block),
+            verdict: 1,
+        };
+        put(&mut after, row(&input));
     }
     after
 }

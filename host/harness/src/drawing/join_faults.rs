@@ -8,15 +8,16 @@ use crate::drawing::tables_with_retirings::lose_parent;
 use crate::model::sizes::{BUFFER_NUMBERS, TABLE_BYTES};
 use crate::model::table::Table;
 
-pub struct Spoiled {
+/// The tables and buffer lengths of a join that mostly is refused.
+pub struct FaultyJoin {
     /// The left's bytes and the right's.
     pub tables: [Vec<u8>; 2],
     /// How many numbers the left's, the right's and the third record buffer have.
     pub lengths: [usize; 3],
 }
 
-impl Spoiled {
-    pub fn drawn(random: &Random, tables: &[Table; 2]) -> Spoiled {
+impl FaultyJoin {
+    pub fn drawn(random: &Random, tables: &[Table; 2]) -> FaultyJoin {
         // Often one thing, and often two, so that the order of checks shows.
         let one_in = random.pick(&[1, 2, 3, 6, 1000]);
         let mut tables = tables.clone();
@@ -47,7 +48,7 @@ impl Spoiled {
                 lengths = [near; 3];
             }
         }
-        Spoiled { tables: bytes, lengths }
+        FaultyJoin { tables: bytes, lengths }
     }
 }
 

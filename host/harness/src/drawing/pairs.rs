@@ -11,9 +11,9 @@ use crate::model::table::{Row, Table};
 
 /// What one controller holds, by the pool's blocks.
 pub struct Share {
-    /// In the order of its places.
+    /// The blocks that it holds, in the order of its places.
     pub held: Vec<usize>,
-    /// In an order in which they could be interpreted.
+    /// The blocks that it has interpreted, in an order in which that could be.
     pub interpreted: Vec<usize>,
 }
 
@@ -63,7 +63,7 @@ fn two_sets(random: &Random, pool: &Campaign, all: u128, apart: usize) -> (u128,
 }
 
 impl Share {
-    /// Of a set, as many blocks as a table holds.
+    /// A share of as many blocks of a set as a table holds.
     fn drawn(random: &Random, pool: &Campaign, set: u128) -> Share {
         let held = some_of(random, &pool.blocks, set, PLACES);
         let count = random.pick(&[0, held.len(), random.between(0, held.len())]);
@@ -71,7 +71,7 @@ impl Share {
         Share { held, interpreted }
     }
 
-    /// Of a set, in any order, all interpreted.
+    /// A share of all blocks of a set, in any order, all interpreted.
     pub fn whole(random: &Random, pool: &Campaign, set: u128) -> Share {
         let held = some_order(random, &pool.blocks, set);
         Share { interpreted: held.clone(), held }

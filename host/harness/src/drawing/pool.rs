@@ -1,13 +1,13 @@
 //! Pools of blocks, from which two controllers get theirs: those of a campaign and others, as many as are wanted. And
 //! sets of such blocks: bit i is block i.
 
-use crate::drawing::campaign::{Built, Campaign};
+use crate::drawing::campaign::{Campaign, CampaignBlock};
 use crate::drawing::draft::{some_requests, Draft};
 use crate::drawing::random::Random;
 use crate::model::sha256::sha256;
 use crate::model::sizes::{DIGEST_BYTES, MAX_REFERENCES};
 
-/// As many as a set has bits.
+/// A pool has at most as many blocks as a set has bits.
 pub const MOST_BLOCKS: usize = u128::BITS as usize;
 
 /// A campaign's blocks, or the first of them, and others up to so many in all. With how many of the first ones no later
@@ -27,7 +27,7 @@ pub fn pool(random: &Random, count: usize) -> (Campaign, usize) {
 }
 
 /// A block that refers to none before the one named; unless it would be an old one once more.
-fn another(random: &Random, pool: &Campaign, from: usize) -> Option<Built> {
+fn another(random: &Random, pool: &Campaign, from: usize) -> Option<CampaignBlock> {
     let blocks = &pool.blocks;
     let site = random.below(pool.sites.into()) as u8;
     let own: Vec<usize> = (from..blocks.len()).filter(|&block| blocks[block].site == site).collect();
@@ -52,7 +52,7 @@ fn another(random: &Random, pool: &Campaign, from: usize) -> Option<Built> {
     let digest = sha256(&bytes);
     let references = set_of(&references);
     let new = blocks.iter().all(|block| block.digest != digest);
-    new.then_some(Built { bytes, references, digest, site, sequence })
+    new.then_some(CampaignBlock { bytes, references, digest, site, sequence })
 }
 
 /// Other digests for some blocks: one that is nearly another's, or zero. No calls reach tables with such blocks.
@@ -81,13 +81,13 @@ pub fn first(count: usize) -> u128 {
 }
 
 /// The set with all that its blocks rest on.
-pub fn hull(blocks: &[Built], set: u128) -> u128 {
+pub fn hull(blocks: &[CampaignBlock], set: u128) -> u128 {
     // References are to earlier ones, so one pass from the last on finds all.
     (0..blocks.len()).rev().fold(set, |set, block| if has(set, block) { set | blocks[block].references } else { set })
 }
 
 /// The blocks of a set, which has all that they rest on, in an order in which they could come.
-pub fn some_order(random: &Random, blocks: &[Built], set: u128) -> Vec<usize> {
+pub fn some_order(random: &Random, blocks: &[CampaignBlock], set: u128) -> Vec<usize> {
     let manner = random.below(3);
     let mut order = Vec::new();
     let mut come = 0;
@@ -102,7 +102,7 @@ pub fn some_order(random: &Random, blocks: &[Built], set: u128) -> Vec<usize> {
 }
 
 /// So many blocks of a set at most, with all that they rest on.
-pub fn some_of(random: &Random, blocks: &[Built], set: u128, most: usize) -> Vec<usize> {
+pub fn some_of(random: &Random, blocks: &[CampaignBlock], set: u128, most: usize) -> Vec<usize> {
     let mut order = some_order(random, blocks, set);
     order.truncate(most);
     order

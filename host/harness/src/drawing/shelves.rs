@@ -10,19 +10,19 @@ use crate::model::sizes::{CAMPAIGNS, MOST_HELD, PLACES, RESERVED, SHELF_PLACES};
 use crate::model::table::Table;
 
 /// How many places each campaign holds.
-pub type Holds = [usize; CAMPAIGNS];
+pub type PlaceCounts = [usize; CAMPAIGNS];
 
 /// How many places are left over if each campaign gets what it lacks; none if there aren't as many.
-fn left_over(holds: &Holds) -> Option<usize> {
+fn left_over(holds: &PlaceCounts) -> Option<usize> {
     let spoken_for = holds.iter().map(|&held| held.max(RESERVED)).sum();
     SHELF_PLACES.checked_sub(spoken_for)
 }
 
 /// Few and many. Often as many that there is no further place, or just one.
-pub fn some_holds(random: &Random) -> Holds {
+pub fn some_holds(random: &Random) -> PlaceCounts {
     loop {
         let some = || random.pick(&[0, 1, RESERVED, 3, MOST_HELD - 1, MOST_HELD, random.between(0, MOST_HELD)]);
-        let mut holds: Holds = std::array::from_fn(|_| some());
+        let mut holds: PlaceCounts = std::array::from_fn(|_| some());
         let Some(left) = left_over(&holds) else { continue };
         if random.one_in(2) {
             let one = &mut holds[random.below(CAMPAIGNS)];
@@ -36,7 +36,7 @@ pub fn some_holds(random: &Random) -> Holds {
 
 /// A shelf on which campaigns hold so many places. What waits fits the table, or the table as it will be; some of it
 /// came in batches, and some waits for two campaigns.
-pub fn holding(random: &Random, holds: &Holds, table: &Table, ahead: &Table) -> Shelf {
+pub fn holding(random: &Random, holds: &PlaceCounts, table: &Table, ahead: &Table) -> Shelf {
     let mut order: Vec<u8> = (0..CAMPAIGNS).flat_map(|campaign| vec![campaign as u8; holds[campaign]]).collect();
     random.shuffle(&mut order);
     let mut ahead = ahead.clone();

@@ -1,12 +1,12 @@
 //! Streams for the listing program: a setup and arrivals. The blocks of a campaign come in turn, with odd arrivals in
 //! between and more blocks after them.
 
-use crate::drawing::arrivals::{any, good, longest, over_long, short, Sent};
+use crate::drawing::arrivals::{any, good, longest, over_long, short, Arrival};
 use crate::drawing::campaign::Campaign;
 use crate::drawing::random::Random;
 use crate::drawing::tables;
 use crate::model::calls::Calls;
-use crate::model::listing::arrival;
+use crate::model::listing::arrival_bytes;
 use crate::model::sizes::{MAX_BLOCK_BYTES, PLACES};
 use crate::model::table::Table;
 use crate::model::Model;
@@ -93,7 +93,7 @@ impl Sender<'_> {
         }
         for block in order {
             self.odd_ones(habits);
-            self.send(Sent { block: self.campaign.blocks[block].bytes.clone(), verdict: 1 });
+            self.send(Arrival { block: self.campaign.blocks[block].bytes.clone(), verdict: 1 });
         }
         for _ in 0..habits.more {
             self.odd_ones(habits);
@@ -106,24 +106,24 @@ impl Sender<'_> {
         Table::from_bytes(&self.table)
     }
 
-    fn send(&mut self, mut sent: Sent) {
-        self.arrivals.push(arrival(sent.verdict, &sent.block));
-        self.model.admit(&mut self.table, &mut sent.block, sent.verdict);
+    fn send(&mut self, mut arrival: Arrival) {
+        self.arrivals.push(arrival_bytes(arrival.verdict, &arrival.block));
+        self.model.admit(&mut self.table, &mut arrival.block, arrival.verdict);
         // An over-long one doesn't come again: made longer still, its length might not fit into two bytes.
-        if sent.block.len() <= MAX_BLOCK_BYTES {
-            self.earlier.push(sent.block);
+        if arrival.block.len() <= MAX_BLOCK_BYTES {
+            self.earlier.push(arrival.block);
         }
     }
 
     fn odd_ones(&mut self, habits: &Habits) {
         while self.random.one_in(habits.odd_one_in) {
-            let sent = self.odd_one();
-            self.send(sent);
+            let arrival = self.odd_one();
+            self.send(arrival);
         }
     }
 
     /// An arrival that is mostly refused.
-    fn odd_one(&self) -> Sent {
+    fn odd_one(&self) -> Arrival {
         let random = self.random;
         match random.below(8) {
             0 => short(random),
@@ -135,9 +135,9 @@ impl Sender<'_> {
     }
 
     /// A block of the campaign that is held already, or comes without its references, or with another verdict.
-    fn out_of_turn(&self) -> Sent {
+    fn out_of_turn(&self) -> Arrival {
         let block = self.random.below(self.campaign.blocks.len());
         let verdict = self.random.pick(&[1, 1, 1, 0, 2, 255]);
-        Sent { block: self.campaign.blocks[block].bytes.clone(), verdict }
+        Arrival { block: self.campaign.blocks[block].bytes.clone(), verdict }
     }
 }

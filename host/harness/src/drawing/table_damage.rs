@@ -162,7 +162,7 @@ fn zero_digests(random: &Random, table: &mut Table) {
     }
 }
 
-/// Those below change the row of one place.
+/// Damage to the row of one place.
 fn change_row(random: &Random, table: &mut Table, change: fn(&Random, &Table, usize, &mut Row)) {
     if table.count > 0 {
         let place = some_place(random, table);

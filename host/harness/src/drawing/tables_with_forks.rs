@@ -12,7 +12,7 @@ use crate::model::watch::bit;
 
 /// Which sequence numbers a forking site uses again.
 #[derive(Clone, Copy)]
-enum Again {
+enum RepeatedSequence {
     First,
     Greatest,
     /// Any but the greatest, where there is another.
@@ -23,10 +23,10 @@ enum Again {
 struct Habits {
     /// The sites that fork, as a mask.
     forking: u16,
-    again: Again,
+    repeats: RepeatedSequence,
     /// From this place on, of so many blocks of a forking site one has a sequence number again.
     from: usize,
-    again_one_in: usize,
+    repeats_one_in: usize,
     /// Each block is one of these sites.
     sites: Vec<u8>,
 }
@@ -41,9 +41,14 @@ impl Habits {
         let forking = order[..count].iter().fold(0, |mask, &site| mask | bit(site));
         Habits {
             forking,
-            again: random.pick(&[Again::First, Again::Greatest, Again::Lower, Again::Any]),
+            repeats: random.pick(&[
+                RepeatedSequence::First,
+                RepeatedSequence::Greatest,
+                RepeatedSequence::Lower,
+                RepeatedSequence::Any,
+            ]),
             from: random.pick(&[0, 0, random.between(0, places), places.saturating_sub(1)]),
-            again_one_in: random.pick(&[1, 2, 4, 8]),
+            repeats_one_in: random.pick(&[1, 2, 4, 8]),
             sites: some_sites(random, order),
         }
     }
@@ -55,17 +60,17 @@ impl Habits {
     /// The parent of a site's next block; none if that has sequence number 0.
     fn parent(&self, random: &Random, table: &Table, site: u8) -> Option<usize> {
         let last = greatest(table, site)?;
-        if !self.forks(site) || table.count < self.from || !random.one_in(self.again_one_in) {
+        if !self.forks(site) || table.count < self.from || !random.one_in(self.repeats_one_in) {
             return Some(last);
         }
         let most = table.rows[last].sequence;
-        let again = match self.again {
-            Again::First => 0,
-            Again::Greatest => most,
-            Again::Lower => random.below(usize::from(most).max(1)) as u16,
-            Again::Any => random.between(0, most.into()) as u16,
+        let repeats = match self.repeats {
+            RepeatedSequence::First => 0,
+            RepeatedSequence::Greatest => most,
+            RepeatedSequence::Lower => random.below(usize::from(most).max(1)) as u16,
+            RepeatedSequence::Any => random.between(0, most.into()) as u16,
         };
-        let parents = |place: &usize| table.rows[*place].sequence + 1 == again;
+        let parents = |place: &usize| table.rows[*place].sequence + 1 == repeats;
         let parents: Vec<usize> = table.own(site).filter(parents).collect();
         (!parents.is_empty()).then(|| random.pick(&parents))
     }
@@ -126,7 +131,7 @@ pub fn some_left(random: &Random) -> usize {
 }
 
 /// The places of other sites' blocks that no block of the site refers to.
-pub fn left(table: &Table, site: u8) -> Vec<usize> {
+pub fn places_left(table: &Table, site: u8) -> Vec<usize> {
     let referred = |place: usize| table.own(site).any(|own| table.rows[own].references >> place & 1 == 1);
     (0..table.held().len()).filter(|&place| table.rows[place].site != site && !referred(place)).collect()
 }
@@ -135,7 +140,7 @@ pub fn left(table: &Table, site: u8) -> Vec<usize> {
 /// be. A table in form stays so.
 pub fn leave(random: &Random, table: &mut Table, site: u8, wanted: usize) {
     let own: Vec<usize> = table.own(site).collect();
-    let mut left = left(table, site);
+    let mut left = places_left(table, site);
     random.shuffle(&mut left);
     for &place in left.iter().skip(wanted) {
         refer(random, table, &own, place);

@@ -27,7 +27,7 @@ pub fn aged(random: &Random, mut table: Table) -> Table {
     table
 }
 
-/// The same, with a site at the last sequence number or right before it.
+/// The table as one that has retired something, with a site at the last sequence number or right before it.
 pub fn at_end(random: &Random, table: Table, site: u8) -> Table {
     let mut table = aged(random, table);
     let first = table.own(site).next();

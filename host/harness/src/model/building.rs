@@ -6,8 +6,8 @@ use crate::model::sha256::Digest;
 use crate::model::sizes::{MAX_REFERENCES, MAX_REQUESTS, REQUEST_BYTES};
 use crate::model::table::{places, Row, Table};
 
-/// What building is asked, with the answer of form and the block that the rules give.
-pub struct Task {
+/// What building is given, with the answer of form and the block that the rules give.
+pub struct BuildingInput {
     pub table: Table,
     pub in_form: bool,
     pub site: u8,
@@ -19,7 +19,7 @@ pub struct Task {
 
 /// The rules. Each is a value, so that the self-test can change one.
 pub struct Building {
-    pub checks: Vec<Check<Task>>,
+    pub checks: Vec<Check<BuildingInput>>,
     /// The place of a site's greatest block; none if the site has no held block.
     pub greatest: fn(&Table, u8) -> Option<usize>,
     /// The next sequence number after the greatest block's.
@@ -37,14 +37,14 @@ pub struct Building {
 }
 
 /// "Checks 2, 4, 3, 6, 16, 17", and 30 "straight after 16".
-pub const CHECKS: [Check<Task>; 7] = [
-    Check { number: 2, finds: |task| (!task.in_form).then_some(0) },
-    Check { number: 4, finds: |task| (task.site >= task.table.sites).then_some(0) },
-    Check { number: 3, finds: |task| long_or_cut(&task.requests).then_some(0) },
-    Check { number: 6, finds: |task| list_of(&task.requests).iter().position(Request::bad) },
-    Check { number: 16, finds: |task| shared_sequence(&task.table, task.site).then_some(0) },
-    Check { number: 30, finds: |task| past_last_sequence(&task.table, task.site).then_some(0) },
-    Check { number: 17, finds: |task| (task.room < task.block.len()).then_some(task.block.len()) },
+pub const CHECKS: [Check<BuildingInput>; 7] = [
+    Check { number: 2, finds: |input| (!input.in_form).then_some(0) },
+    Check { number: 4, finds: |input| (input.site >= input.table.sites).then_some(0) },
+    Check { number: 3, finds: |input| long_or_cut(&input.requests).then_some(0) },
+    Check { number: 6, finds: |input| list_of(&input.requests).iter().position(Request::bad) },
+    Check { number: 16, finds: |input| shared_sequence(&input.table, input.site).then_some(0) },
+    Check { number: 30, finds: |input| past_last_sequence(&input.table, input.site).then_some(0) },
+    Check { number: 17, finds: |input| (input.room < input.block.len()).then_some(input.block.len()) },
 ];
 
 /// "request list over 24 bytes or no multiple of 3"

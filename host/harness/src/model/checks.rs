@@ -3,20 +3,20 @@
 use crate::model::answer::Answer;
 
 /// `finds` gives the number that is returned beside the refusal, 0 where the document names none.
-pub struct Check<Asked: ?Sized> {
+pub struct Check<Input: ?Sized> {
     pub number: u8,
-    pub finds: fn(&Asked) -> Option<usize>,
+    pub finds: fn(&Input) -> Option<usize>,
 }
 
-impl<Asked: ?Sized> Clone for Check<Asked> {
+impl<Input: ?Sized> Clone for Check<Input> {
     fn clone(&self) -> Self {
         Check { number: self.number, finds: self.finds }
     }
 }
 
-pub fn first_refusal<Asked: ?Sized>(checks: &[Check<Asked>], asked: &Asked) -> Option<Answer> {
+pub fn first_refusal<Input: ?Sized>(checks: &[Check<Input>], input: &Input) -> Option<Answer> {
     checks.iter().find_map(|check| {
-        let value = (check.finds)(asked)?;
+        let value = (check.finds)(input)?;
         Some(Answer { refusal: check.number, value })
     })
 }

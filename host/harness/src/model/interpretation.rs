@@ -6,8 +6,8 @@ use crate::model::record::{part_of, record_at, Act, Part, Record, MADE, MESSAGES
 use crate::model::sizes::{BUFFER_NUMBERS, RECORD_NUMBERS};
 use crate::model::table::{places, Row, Table};
 
-/// What interpretation is asked, with the answer of form.
-pub struct Asked {
+/// What interpretation is given, with the answer of form.
+pub struct InterpretationInput {
     pub table: Table,
     pub in_form: bool,
     pub place: usize,
@@ -15,7 +15,7 @@ pub struct Asked {
     pub numbers: usize,
 }
 
-impl Asked {
+impl InterpretationInput {
     /// The row of the place; none if the table has no such place at all.
     pub fn row(&self) -> Option<&Row> {
         self.table.rows.get(self.place)
@@ -24,7 +24,7 @@ impl Asked {
 
 /// The rules. Each is a value, so that the self-test can change one.
 pub struct Interpretation {
-    pub checks: Vec<Check<Asked>>,
+    pub checks: Vec<Check<InterpretationInput>>,
     /// The place whose records the processes start as.
     pub parent: fn(&Table, usize) -> Option<usize>,
     /// How many entries of the parent's record they start as; those after it start as 0.
@@ -49,18 +49,18 @@ pub struct Interpretation {
 }
 
 /// "Checks 2, 12, 13, 14, 15."
-pub const CHECKS: [Check<Asked>; 5] = [
-    Check { number: 2, finds: |asked| (!asked.in_form).then_some(0) },
-    Check { number: 12, finds: |asked| (asked.numbers != BUFFER_NUMBERS).then_some(0) },
-    Check { number: 13, finds: |asked| (asked.place >= asked.table.count).then_some(0) },
-    Check { number: 14, finds: |asked| asked.row().filter(|row| row.mark != 0).map(|_| 0) },
-    Check { number: 15, finds: |asked| not_interpreted(asked).next() },
+pub const CHECKS: [Check<InterpretationInput>; 5] = [
+    Check { number: 2, finds: |input| (!input.in_form).then_some(0) },
+    Check { number: 12, finds: |input| (input.numbers != BUFFER_NUMBERS).then_some(0) },
+    Check { number: 13, finds: |input| (input.place >= input.table.count).then_some(0) },
+    Check { number: 14, finds: |input| input.row().filter(|row| row.mark != 0).map(|_| 0) },
+    Check { number: 15, finds: |input| not_interpreted(input).next() },
 ];
 
 /// The direct references that aren't interpreted, lowest place first.
-pub fn not_interpreted(asked: &Asked) -> impl Iterator<Item = usize> + '_ {
-    let references = asked.row().map_or(0, |row| row.references);
-    places(references).filter(|&place| asked.table.rows[place].mark == 0)
+pub fn not_interpreted(input: &InterpretationInput) -> impl Iterator<Item = usize> + '_ {
+    let references = input.row().map_or(0, |row| row.references);
+    places(references).filter(|&place| input.table.rows[place].mark == 0)
 }
 
 impl Interpretation {

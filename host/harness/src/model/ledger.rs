@@ -14,8 +14,8 @@ use crate::model::sizes::{BUFFER_NUMBERS, PLACES, RECORD_NUMBERS, SLOTS};
 use crate::model::table::{Row, Table};
 use crate::model::watch::bit;
 
-/// A block that was ever admitted.
-pub struct Known {
+/// A block that was ever admitted to the ledger.
+pub struct LedgerBlock {
     pub digest: Digest,
     pub site: u8,
     pub sequence: u16,
@@ -25,27 +25,27 @@ pub struct Known {
     /// Its records, "from the setup and the bytes of the block and its ancestors alone".
     pub meaning: Part,
     /// The numbers that the owner of each slot requests in its ancestors.
-    pub asked: [Vec<u16>; SLOTS],
+    pub requested: [Vec<u16>; SLOTS],
     /// How often it was admitted, how many of these admissions were taken back, and whether it was ever retired.
     admitted: usize,
     taken_back: usize,
     retired: bool,
 }
 
-impl Known {
+impl LedgerBlock {
     fn is_parent_of(&self, site: u8, sequence: u16) -> bool {
         self.site == site && self.sequence.checked_add(1) == Some(sequence)
     }
 
     /// Whether the two are a fork.
-    pub fn is_twin_of(&self, other: &Known) -> bool {
+    pub fn is_twin_of(&self, other: &LedgerBlock) -> bool {
         (self.site, self.sequence) == (other.site, other.sequence) && self.digest != other.digest
     }
 }
 
-/// A block at a place.
+/// What stands at a place: a block, by its number among those ever admitted, and whether it is interpreted.
 #[derive(Clone, Copy)]
-struct Standing {
+struct LedgerPlace {
     block: usize,
     marked: bool,
 }
@@ -56,9 +56,9 @@ pub struct Ledger {
     /// How many numbers the record buffer has.
     numbers: usize,
     /// Each once, in the order in which they first came.
-    blocks: Vec<Known>,
+    blocks: Vec<LedgerBlock>,
     by_digest: HashMap<Digest, usize>,
-    places: Vec<Standing>,
+    places: Vec<LedgerPlace>,
     retirings: usize,
     /// Whether a block counts, by how often it was admitted and taken back.
     counts: fn(usize, usize) -> bool,
@@ -82,9 +82,9 @@ impl Ledger {
             return refusal;
         }
         // The same bytes once more are the same block, at a new place.
-        let block = self.by_digest.get(&digest).copied().unwrap_or_else(|| self.learn(bytes, digest));
+        let block = self.by_digest.get(&digest).copied().unwrap_or_else(|| self.add_block(bytes, digest));
         self.blocks[block].admitted += 1;
-        self.places.push(Standing { block, marked: false });
+        self.places.push(LedgerPlace { block, marked: false });
         Answer::success(self.places.len() - 1)
     }
 
@@ -153,7 +153,7 @@ impl Ledger {
 
     /// "the ledger then loses that last place"
     pub fn take_back(&mut self) -> Answer {
-        let Some(&Standing { block, marked }) = self.places.last() else { return refused(32, 0) };
+        let Some(&LedgerPlace { block, marked }) = self.places.last() else { return refused(32, 0) };
         if marked {
             return refused(33, 0);
         }
@@ -167,11 +167,11 @@ impl Ledger {
     pub fn may_retire(&self) -> bool {
         let Some(first) = self.places.first() else { return false };
         let leaving = &self.blocks[first.block];
-        let held = || self.places.iter().map(|standing| (&self.blocks[standing.block], standing.marked));
-        let follows = |known: &Known| known.site == leaving.site && known.sequence > leaving.sequence;
+        let held = || self.places.iter().map(|place| (&self.blocks[place.block], place.marked));
+        let follows = |block: &LedgerBlock| block.site == leaving.site && block.sequence > leaving.sequence;
         first.marked
-            && held().all(|(known, marked)| marked || !known.references.contains(&first.block))
-            && held().any(|(known, marked)| marked && follows(known))
+            && held().all(|(block, marked)| marked || !block.references.contains(&first.block))
+            && held().any(|(block, marked)| marked && follows(block))
     }
 
     // ---- What stands where
@@ -182,10 +182,10 @@ impl Ledger {
 
     pub fn place_of(&self, digest: &Digest) -> Option<usize> {
         let block = *self.by_digest.get(digest)?;
-        self.places.iter().position(|standing| standing.block == block)
+        self.places.iter().position(|place| place.block == block)
     }
 
-    pub fn at(&self, place: usize) -> &Known {
+    pub fn at(&self, place: usize) -> &LedgerBlock {
         &self.blocks[self.places[place].block]
     }
 
@@ -216,7 +216,7 @@ impl Ledger {
         table.retired = u8::from(self.retirings > 0);
         table.count = self.count();
         for place in 0..self.count() {
-            let Known { digest, site, sequence, requests, .. } = *self.at(place);
+            let LedgerBlock { digest, site, sequence, requests, .. } = *self.at(place);
             let lower = (0..place).filter(|&lower| self.refers(place, lower));
             let references = lower.fold(0, |set, lower| set | 1 << lower);
             let mark = u8::from(self.marked(place));
@@ -227,23 +227,23 @@ impl Ledger {
 
     // ---- Every block ever admitted
 
-    fn block(&self, digest: &Digest) -> Option<&Known> {
+    fn block(&self, digest: &Digest) -> Option<&LedgerBlock> {
         self.by_digest.get(digest).map(|&block| &self.blocks[block])
     }
 
     /// Whether a block was retired and isn't held now.
     pub fn is_gone(&self, digest: &Digest) -> bool {
-        self.block(digest).is_some_and(|known| known.retired) && self.place_of(digest).is_none()
+        self.block(digest).is_some_and(|block| block.retired) && self.place_of(digest).is_none()
     }
 
     /// Whether a block was retired and is held again.
     pub fn has_returned(&self, digest: &Digest) -> bool {
-        self.block(digest).is_some_and(|known| known.retired) && self.place_of(digest).is_some()
+        self.block(digest).is_some_and(|block| block.retired) && self.place_of(digest).is_some()
     }
 
     /// Whether an admission of a block was taken back.
     pub fn was_taken_back(&self, digest: &Digest) -> bool {
-        self.block(digest).is_some_and(|known| known.taken_back > 0)
+        self.block(digest).is_some_and(|block| block.taken_back > 0)
     }
 
     pub fn retirings(&self) -> usize {
@@ -251,76 +251,77 @@ impl Ledger {
     }
 
     pub fn takings_back(&self) -> usize {
-        self.blocks.iter().map(|known| known.taken_back).sum()
+        self.blocks.iter().map(|block| block.taken_back).sum()
     }
 
-    /// All of them, also those that were taken back.
-    pub fn known(&self) -> &[Known] {
+    /// Every block that was ever admitted, also those that were taken back.
+    pub fn blocks(&self) -> &[LedgerBlock] {
         &self.blocks
     }
 
     /// The blocks that count for the statement about two sites.
-    pub fn counting(&self) -> impl Iterator<Item = &Known> {
-        self.blocks.iter().filter(|known| (self.counts)(known.admitted, known.taken_back))
+    pub fn counting(&self) -> impl Iterator<Item = &LedgerBlock> {
+        self.blocks.iter().filter(|block| (self.counts)(block.admitted, block.taken_back))
     }
 
-    fn learn(&mut self, bytes: &[u8], digest: Digest) -> usize {
-        let mut known = Known {
+    fn add_block(&mut self, bytes: &[u8], digest: Digest) -> usize {
+        let mut block = LedgerBlock {
             digest,
             site: block::site(bytes),
             sequence: block::sequence(bytes),
             requests: block::counted_requests(bytes),
             references: block::references(bytes).iter().map(|other| self.by_digest[other]).collect(),
             meaning: [[0; RECORD_NUMBERS]; SLOTS],
-            asked: Default::default(),
+            requested: Default::default(),
             admitted: 0,
             taken_back: 0,
             retired: false,
         };
-        let referred: Vec<&Known> = known.references.iter().map(|&other| &self.blocks[other]).collect();
-        let meaning = std::array::from_fn(|slot| self.record(&known, &referred, slot));
-        let asked = std::array::from_fn(|slot| self.asked(&referred, slot));
-        (known.meaning, known.asked) = (meaning, asked);
-        self.blocks.push(known);
+        let referred: Vec<&LedgerBlock> = block.references.iter().map(|&other| &self.blocks[other]).collect();
+        let meaning = std::array::from_fn(|slot| self.record(&block, &referred, slot));
+        let requested = std::array::from_fn(|slot| self.requested(&referred, slot));
+        (block.meaning, block.requested) = (meaning, requested);
+        self.blocks.push(block);
         self.by_digest.insert(digest, self.blocks.len() - 1);
         self.blocks.len() - 1
     }
 
     /// A slot's record, by the meanings of the blocks referred to.
-    fn record(&self, known: &Known, referred: &[&Known], slot: usize) -> Record {
+    fn record(&self, block: &LedgerBlock, referred: &[&LedgerBlock], slot: usize) -> Record {
         let process = Process::document();
-        let parent = referred.iter().find(|other| other.is_parent_of(known.site, known.sequence));
+        let parent = referred.iter().find(|other| other.is_parent_of(block.site, block.sequence));
         let mut record = parent.map_or([0; RECORD_NUMBERS], |parent| parent.meaning[slot]);
         record[MADE..].fill(0);
-        if known.site == self.owners[slot] && known.requests[slot] != 0 {
-            send(&mut record, known.requests[slot], &process);
+        if block.site == self.owners[slot] && block.requests[slot] != 0 {
+            send(&mut record, block.requests[slot], &process);
         }
-        let made = |other: &&Known| {
+        let made = |other: &&LedgerBlock| {
             let (sender, made) = (other.site, other.meaning[slot]);
             MESSAGES.map(|kind| Message { kind, sender, number: made[kind.made()] })
         };
         let mut messages: Vec<Message> = referred.iter().flat_map(made).filter(|message| message.number != 0).collect();
         order(&mut messages);
-        let whose = Slot { sites: self.sites, owner: self.owners[slot], builder: known.site };
+        let whose = Slot { sites: self.sites, owner: self.owners[slot], builder: block.site };
         hear(&process, &mut record, &whose, &messages);
         record
     }
 
-    fn asked(&self, referred: &[&Known], slot: usize) -> Vec<u16> {
-        let own = |other: &&&Known| other.site == self.owners[slot] && other.requests[slot] != 0;
+    fn requested(&self, referred: &[&LedgerBlock], slot: usize) -> Vec<u16> {
+        let own = |other: &&&LedgerBlock| other.site == self.owners[slot] && other.requests[slot] != 0;
         let direct = referred.iter().filter(own).map(|other| other.requests[slot]);
-        let mut asked: Vec<u16> = referred.iter().flat_map(|other| other.asked[slot].clone()).chain(direct).collect();
-        asked.sort_unstable();
-        asked.dedup();
-        asked
+        let mut requested: Vec<u16> =
+            referred.iter().flat_map(|other| other.requested[slot].clone()).chain(direct).collect();
+        requested.sort_unstable();
+        requested.dedup();
+        requested
     }
 }
 
 /// The mask of the sites with "two different blocks of one sequence number" among these.
-pub fn forked<'a>(blocks: impl Iterator<Item = &'a Known>) -> u16 {
+pub fn forked<'a>(blocks: impl Iterator<Item = &'a LedgerBlock>) -> u16 {
     let mut first: HashMap<(u8, u16), Digest> = HashMap::new();
-    blocks.fold(0, |mask, known| {
-        let other = *first.entry((known.site, known.sequence)).or_insert(known.digest) != known.digest;
-        mask | if other { bit(known.site) } else { 0 }
+    blocks.fold(0, |mask, block| {
+        let other = *first.entry((block.site, block.sequence)).or_insert(block.digest) != block.digest;
+        mask | if other { bit(block.site) } else { 0 }
     })
 }

@@ -38,19 +38,19 @@ pub struct Delivery {
 }
 
 /// The table and the records that the program keeps.
-struct Kept {
+struct TableAndRecords {
     table: Vec<u8>,
     records: Vec<u16>,
 }
 
-/// As far as the input has it; a lawful one has eight owners.
+/// The setup as far as the input has it; a lawful one has eight owners.
 pub struct Setup {
     pub sites: u8,
     pub owners: Vec<u8>,
 }
 
 #[derive(Clone, Copy)]
-pub enum Arrived<'a> {
+pub enum StreamArrival<'a> {
     Block {
         verdict: u8,
         block: &'a [u8],
@@ -65,23 +65,23 @@ pub enum Arrived<'a> {
 pub type Length = fn([u8; LENGTH_BYTES]) -> u16;
 
 /// The first arrival of an input and what follows it; none where the input ends.
-pub type First<'a> = Option<(Arrived<'a>, &'a [u8])>;
+pub type FirstArrival<'a> = Option<(StreamArrival<'a>, &'a [u8])>;
 
 /// The rules. Each is a value, so that the self-test can change one.
 pub struct Listing {
     /// The setup and what follows it.
     pub setup: fn(&[u8]) -> (Setup, &[u8]),
-    pub first: fn(&[u8]) -> First,
+    pub first: fn(&[u8]) -> FirstArrival,
     /// Whether the input is read on, by the refusal of what was read last.
     pub goes_on: fn(u8) -> bool,
     /// The number of the next arrival, by that of the last one and its refusal.
-    pub next: fn(usize, &Arrived, u8) -> usize,
+    pub next: fn(usize, &StreamArrival, u8) -> usize,
     /// The place that is interpreted after an admission to a place, if one is.
     pub due: fn(&Table, usize) -> Option<usize>,
     pub deliveries: fn(&Part) -> Vec<Delivery>,
-    /// The line of a delivery in the block at a place. The arrival's number is put in afterwards, here and in the next.
-    pub delivered: fn(&Table, usize, Delivery) -> Line,
-    pub refused: fn(&Table, &Arrived, Answer) -> Line,
+    /// The line of a delivery in the block at a place. The arrival's number is put in afterwards.
+    pub delivery_line: fn(&Table, usize, Delivery) -> Line,
+    pub refusal_line: fn(&Table, &StreamArrival, Answer) -> Line,
     pub text: fn(&Line) -> String,
 }
 
@@ -92,12 +92,12 @@ impl Listing {
             first,
             // "A setup that is short or unlawful gives ... and the end." No arrival is refused with 1.
             goes_on: |refusal| refusal != 1,
-            next: |arrival, _, _| arrival + 1,
+            next: |number, _, _| number + 1,
             // "Each admitted block is interpreted directly."
             due: |_, place| Some(place),
             deliveries,
-            delivered,
-            refused,
+            delivery_line,
+            refusal_line,
             text,
         }
     }
@@ -105,50 +105,50 @@ impl Listing {
     /// All lines after the names.
     pub fn lines(&self, calls: &dyn Calls, input: &[u8]) -> Vec<Line> {
         let (mut setup, mut rest) = (self.setup)(input);
-        let mut kept = Kept { table: vec![0; TABLE_BYTES], records: vec![0; BUFFER_NUMBERS] };
-        let mut refusal = calls.fresh(setup.sites, &mut setup.owners, &mut kept.table).refusal;
+        let mut buffers = TableAndRecords { table: vec![0; TABLE_BYTES], records: vec![0; BUFFER_NUMBERS] };
+        let mut refusal = calls.fresh(setup.sites, &mut setup.owners, &mut buffers.table).refusal;
         let mut lines = Vec::new();
         if refusal != 0 {
             lines.push(Line { refusal, ..Line::default() });
         }
         // "arrivals count from 0"
-        let mut arrival = 0;
+        let mut number = 0;
         while (self.goes_on)(refusal) {
-            let Some((arrived, after)) = (self.first)(rest) else { break };
+            let Some((arrival, after)) = (self.first)(rest) else { break };
             let of_arrival;
-            (refusal, of_arrival) = self.arrive(calls, &mut kept, &arrived);
-            lines.extend(of_arrival.into_iter().map(|line| Line { arrival: Some(arrival), ..line }));
-            arrival = (self.next)(arrival, &arrived, refusal);
+            (refusal, of_arrival) = self.arrive(calls, &mut buffers, &arrival);
+            lines.extend(of_arrival.into_iter().map(|line| Line { arrival: Some(number), ..line }));
+            number = (self.next)(number, &arrival, refusal);
             rest = after;
         }
         lines
     }
 
     /// The refusal of an arrival, and its lines.
-    fn arrive(&self, calls: &dyn Calls, kept: &mut Kept, arrived: &Arrived) -> (u8, Vec<Line>) {
-        let answer = match *arrived {
-            Arrived::Block { verdict, block } => calls.admit(&mut kept.table, &mut block.to_vec(), verdict),
+    fn arrive(&self, calls: &dyn Calls, buffers: &mut TableAndRecords, arrival: &StreamArrival) -> (u8, Vec<Line>) {
+        let answer = match *arrival {
+            StreamArrival::Block { verdict, block } => calls.admit(&mut buffers.table, &mut block.to_vec(), verdict),
             // "A length over 541 is refused with 3"; "a cut arrival gets 3"
-            Arrived::OverLong | Arrived::Cut => Answer { refusal: 3, value: 0 },
+            StreamArrival::OverLong | StreamArrival::Cut => Answer { refusal: 3, value: 0 },
         };
         let lines = match answer.refusal {
-            0 => self.interpreted(calls, kept, answer.value),
-            _ => vec![(self.refused)(&Table::from_bytes(&kept.table), arrived, answer)],
+            0 => self.delivery_lines(calls, buffers, answer.value),
+            _ => vec![(self.refusal_line)(&Table::from_bytes(&buffers.table), arrival, answer)],
         };
         (answer.refusal, lines)
     }
 
     /// The lines of a block that was admitted to a place.
-    fn interpreted(&self, calls: &dyn Calls, kept: &mut Kept, place: usize) -> Vec<Line> {
-        let table = Table::from_bytes(&kept.table);
+    fn delivery_lines(&self, calls: &dyn Calls, buffers: &mut TableAndRecords, place: usize) -> Vec<Line> {
+        let table = Table::from_bytes(&buffers.table);
         let Some(due) = (self.due)(&table, place) else { return Vec::new() };
-        calls.interpret(&mut kept.table, due, &mut kept.records);
-        let deliveries = (self.deliveries)(&part_at(&kept.records, due));
-        deliveries.into_iter().map(|delivery| (self.delivered)(&table, due, delivery)).collect()
+        calls.interpret(&mut buffers.table, due, &mut buffers.records);
+        let deliveries = (self.deliveries)(&part_at(&buffers.records, due));
+        deliveries.into_iter().map(|delivery| (self.delivery_line)(&table, due, delivery)).collect()
     }
 
     /// What the program leaves that has these lines to write.
-    pub fn ended(&self, lines: &[Line]) -> Exit {
+    pub fn exit(&self, lines: &[Line]) -> Exit {
         let lines: String = lines.iter().map(self.text).collect();
         Exit::well([NAMES, &lines].concat().into_bytes())
     }
@@ -162,34 +162,34 @@ pub fn setup(input: &[u8]) -> (Setup, &[u8]) {
 }
 
 /// "length (two bytes, high first)"
-pub fn first(input: &[u8]) -> First<'_> {
+pub fn first(input: &[u8]) -> FirstArrival<'_> {
     first_of_length(input, u16::from_be_bytes)
 }
 
 /// The first arrival, with its length read so. It has begun with its first byte.
-pub fn first_of_length(input: &[u8], length: Length) -> First<'_> {
+pub fn first_of_length(input: &[u8], length: Length) -> FirstArrival<'_> {
     if input.is_empty() {
         None
     } else {
-        Some(whole(input, length).unwrap_or((Arrived::Cut, &[])))
+        Some(whole(input, length).unwrap_or((StreamArrival::Cut, &[])))
     }
 }
 
 /// "length ..., verdict, block": none if the input doesn't have them all.
-fn whole(input: &[u8], length: Length) -> First<'_> {
+fn whole(input: &[u8], length: Length) -> FirstArrival<'_> {
     let (bytes, rest) = input.split_first_chunk()?;
     let (verdict, rest) = rest.split_first()?;
     let (block, rest) = rest.split_at_checked(length(*bytes).into())?;
     if block.len() > MAX_BLOCK_BYTES {
         // "its verdict and bytes skipped"
-        Some((Arrived::OverLong, rest))
+        Some((StreamArrival::OverLong, rest))
     } else {
-        Some((Arrived::Block { verdict: *verdict, block }, rest))
+        Some((StreamArrival::Block { verdict: *verdict, block }, rest))
     }
 }
 
 /// An arrival as bytes.
-pub fn arrival(verdict: u8, block: &[u8]) -> Vec<u8> {
+pub fn arrival_bytes(verdict: u8, block: &[u8]) -> Vec<u8> {
     let length = u16::try_from(block.len()).expect("a length of two bytes");
     [&length.to_be_bytes()[..], &[verdict], block].concat()
 }
@@ -206,7 +206,7 @@ pub fn deliveries_by(part: &Part, entry: usize) -> Vec<Delivery> {
 }
 
 /// Place, site and sequence number are those of the block that delivers.
-pub fn delivered(table: &Table, place: usize, Delivery { slot, number }: Delivery) -> Line {
+pub fn delivery_line(table: &Table, place: usize, Delivery { slot, number }: Delivery) -> Line {
     let row = &table.rows[place];
     Line {
         place: Some(place),
@@ -219,7 +219,7 @@ pub fn delivered(table: &Table, place: usize, Delivery { slot, number }: Deliver
 }
 
 /// "A refused arrival's line fills only arrival and refusal."
-pub fn refused(_: &Table, _: &Arrived, answer: Answer) -> Line {
+pub fn refusal_line(_: &Table, _: &StreamArrival, answer: Answer) -> Line {
     Line { refusal: answer.refusal, ..Line::default() }
 }
 

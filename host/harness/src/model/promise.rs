@@ -7,7 +7,7 @@ use crate::model::table::{places, Table};
 use crate::model::watch::{bit, forked, twins};
 
 /// The blocks that a site holds, by their places. The table is in form.
-pub struct Held {
+pub struct HeldBlocks {
     table: Table,
     // Sets of places, for each place.
     ancestors: [u64; PLACES],
@@ -40,9 +40,9 @@ fn set_of(places: impl Iterator<Item = usize>) -> u64 {
     places.fold(0, |set, place| set | 1 << place)
 }
 
-impl Held {
-    pub fn of(table: Table) -> Held {
-        let mut held = Held {
+impl HeldBlocks {
+    pub fn of(table: Table) -> HeldBlocks {
+        let mut held = HeldBlocks {
             ancestors: std::array::from_fn(|place| table.ancestors(place)),
             chains: [0; PLACES],
             own: std::array::from_fn(|site| set_of(table.own(site as u8))),

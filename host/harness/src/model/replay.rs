@@ -34,17 +34,17 @@ pub fn retiring() -> Vec<u8> {
     vec![RETIRING]
 }
 
-/// A taking back is one byte too.
+/// A taking back is one byte.
 pub fn taking_back() -> Vec<u8> {
     vec![TAKING_BACK]
 }
 
 /// The first call of a list and what follows it; none where the list ends.
-pub type First<'a> = Option<(Call<'a>, &'a [u8])>;
+pub type FirstCall<'a> = Option<(Call<'a>, &'a [u8])>;
 
 /// The rules of replaying. Each is a value, so that the self-test can change one.
 pub struct Replay {
-    pub first: fn(&[u8]) -> First,
+    pub first: fn(&[u8]) -> FirstCall,
     /// Puts the answer of the call of an index into the answers.
     pub note: fn(&mut [u64], usize, Answer),
     /// Whether the list goes on, by how many calls ran, the last one's answer and the length of the answers.
@@ -58,7 +58,7 @@ impl Replay {
 }
 
 /// A call that is cut or that begins with another byte ends the list: it and all after it don't run.
-pub fn first(list: &[u8]) -> First<'_> {
+pub fn first(list: &[u8]) -> FirstCall<'_> {
     let (which, rest) = list.split_first()?;
     match *which {
         ADMISSION => {
@@ -70,7 +70,7 @@ pub fn first(list: &[u8]) -> First<'_> {
         }
         INTERPRETATION => {
             let (place, rest) = wide(rest)?;
-            // A place is as wide as an address, as in C; see the check below.
+            // A place is as wide as an address, as in C: both have 64 bits.
             Some((Call::Interpretation { place: place as usize }, rest))
         }
         RETIRING => Some((Call::Retiring, rest)),

@@ -6,8 +6,8 @@ use crate::model::record::part_of;
 use crate::model::sizes::{BUFFER_NUMBERS, PLACES};
 use crate::model::table::{Row, Table};
 
-/// What retiring is asked, with the answer of form.
-pub struct Leaving {
+/// What retiring is given, with the answer of form.
+pub struct RetiringInput {
     pub table: Table,
     pub in_form: bool,
     /// How many numbers the record buffer has.
@@ -16,7 +16,7 @@ pub struct Leaving {
 
 /// The rules. Each is a value, so that the self-test can change one.
 pub struct Retiring {
-    pub checks: Vec<Check<Leaving>>,
+    pub checks: Vec<Check<RetiringInput>>,
     /// The set of the places that a block refers to, after all have moved.
     pub references: fn(u64) -> u64,
     /// Whether the table has retired something, by what it had before.
@@ -28,11 +28,11 @@ pub struct Retiring {
 }
 
 /// "after 2, 12 and 13"
-pub const CHECKS: [Check<Leaving>; 4] = [
-    Check { number: 2, finds: |leaving| (!leaving.in_form).then_some(0) },
-    Check { number: 12, finds: |leaving| (leaving.numbers != BUFFER_NUMBERS).then_some(0) },
-    Check { number: 13, finds: |leaving| (leaving.table.count == 0).then_some(0) },
-    Check { number: 29, finds: |leaving| (!may_be_retired(&leaving.table)).then_some(0) },
+pub const CHECKS: [Check<RetiringInput>; 4] = [
+    Check { number: 2, finds: |input| (!input.in_form).then_some(0) },
+    Check { number: 12, finds: |input| (input.numbers != BUFFER_NUMBERS).then_some(0) },
+    Check { number: 13, finds: |input| (input.table.count == 0).then_some(0) },
+    Check { number: 29, finds: |input| (!may_be_retired(&input.table)).then_some(0) },
 ];
 
 pub fn may_be_retired(table: &Table) -> bool {
@@ -76,11 +76,11 @@ pub fn move_part(records: &mut [u16], place: usize) {
 
 impl Retiring {
     pub fn document() -> Retiring {
-        Retiring { checks: CHECKS.to_vec(), references, retired: |_| 1, table: Retiring::moved, records }
+        Retiring { checks: CHECKS.to_vec(), references, retired: |_| 1, table: Retiring::without_first, records }
     }
 
     /// The table without its first place. One that passes all checks has a place.
-    pub fn moved(&self, table: &Table) -> Table {
+    pub fn without_first(&self, table: &Table) -> Table {
         let mut left = Table { count: table.count.saturating_sub(1), ..table.clone() };
         left.retired = (self.retired)(table.retired);
         for place in 0..PLACES {

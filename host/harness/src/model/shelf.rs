@@ -67,7 +67,7 @@ impl Shelf {
         self.waiting().iter().filter(move |entry| entry.campaign == campaign)
     }
 
-    /// The same, as blocks alone.
+    /// The blocks that wait for a campaign, in the order in which they came.
     pub fn blocks(&self, campaign: u8) -> Vec<Vec<u8>> {
         self.of(campaign).map(|entry| entry.block().to_vec()).collect()
     }

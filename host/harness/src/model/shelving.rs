@@ -8,8 +8,8 @@ use crate::model::shelf::{Entry, Shelf};
 use crate::model::shelf_form;
 use crate::model::sizes::{CAMPAIGNS, MOST_HELD, OUTCOMES_NUMBERS};
 
-/// What an arrival is asked, with the answers of form, of admission and of the shelf rule.
-pub struct Coming {
+/// What an arrival is given, with the answers of form, of admission and of the shelf rule.
+pub struct ArrivalInput {
     pub campaign: u8,
     pub shelf: Shelf,
     pub shelf_in_form: bool,
@@ -30,10 +30,10 @@ pub struct Outcome {
     pub place: usize,
 }
 
-/// How far the tries are.
-pub struct Passes {
-    pub made: usize,
-    /// How many blocks the last one let in, and how many it dropped.
+/// The pass that has just ended.
+pub struct Pass {
+    pub number: usize,
+    /// How many blocks it let in, and how many it dropped.
     pub let_in: usize,
     pub dropped: usize,
 }
@@ -41,8 +41,8 @@ pub struct Passes {
 /// The rules. Each is a value, so that the self-test can change one.
 pub struct Shelving {
     pub form: Vec<Condition<Shelf>>,
-    /// Those that aren't admission's own, and those in the place of its 9.
-    pub checks: Vec<Check<Coming>>,
+    /// The checks of an arrival: those before admission's own, then 20 and 19, which stand in the place of its 9.
+    pub checks: Vec<Check<ArrivalInput>>,
     /// The shelf rule: whether a campaign takes a further place.
     pub takes: fn(&Shelf, u8) -> bool,
     /// A block of a campaign comes to wait.
@@ -60,24 +60,24 @@ pub struct Shelving {
     /// Whether the pass ends with a try that got this answer, though blocks are left in it.
     pub ends_pass: fn(Answer) -> bool,
     /// Whether another pass follows.
-    pub another: fn(&Passes) -> bool,
+    pub another: fn(&Pass) -> bool,
     /// Lists what became of blocks, in the order tried.
     pub note: fn(&mut [u64], &[Outcome]),
 }
 
 /// 21 "checked first"; 17 and 2 before admission's own; then "where an arrival would get 9, instead of it 20 ... else
 /// 19".
-pub const CHECKS: [Check<Coming>; 5] = [
-    Check { number: 21, finds: |coming| (usize::from(coming.campaign) >= CAMPAIGNS).then_some(0) },
-    Check { number: 17, finds: |coming| (coming.room < OUTCOMES_NUMBERS).then_some(OUTCOMES_NUMBERS) },
-    Check { number: 2, finds: |coming| (!coming.shelf_in_form || coming.admission.refusal == 2).then_some(0) },
-    Check { number: 20, finds: |coming| instead_of_9(coming, coming.shelf.waits(coming.campaign, &coming.block)) },
-    Check { number: 19, finds: |coming| instead_of_9(coming, !coming.takes) },
+pub const CHECKS: [Check<ArrivalInput>; 5] = [
+    Check { number: 21, finds: |input| (usize::from(input.campaign) >= CAMPAIGNS).then_some(0) },
+    Check { number: 17, finds: |input| (input.room < OUTCOMES_NUMBERS).then_some(OUTCOMES_NUMBERS) },
+    Check { number: 2, finds: |input| (!input.shelf_in_form || input.admission.refusal == 2).then_some(0) },
+    Check { number: 20, finds: |input| instead_of_9(input, input.shelf.waits(input.campaign, &input.block)) },
+    Check { number: 19, finds: |input| instead_of_9(input, !input.takes) },
 ];
 
 /// What is found where the arrival would get 9 and this holds.
-pub fn instead_of_9(coming: &Coming, holds: bool) -> Option<usize> {
-    (coming.admission.refusal == 9 && holds).then_some(0)
+pub fn instead_of_9(input: &ArrivalInput, holds: bool) -> Option<usize> {
+    (input.admission.refusal == 9 && holds).then_some(0)
 }
 
 /// "It takes a further one exactly when it holds fewer than 10 and the free places then still cover what the others
@@ -99,7 +99,7 @@ impl Shelving {
             outcome,
             take: Shelf::take,
             ends_pass: |_| false,
-            another: |passes| passes.let_in > 0,
+            another: |pass| pass.let_in > 0,
             note,
         }
     }
@@ -107,23 +107,23 @@ impl Shelving {
     /// "the campaign's waiting blocks are tried in passes, in the order they came, until a pass admits none"
     pub fn tries(&self, shelf: &mut Shelf, campaign: u8, mut admit: impl FnMut(&[u8]) -> Answer) -> Vec<Outcome> {
         let mut ended = Vec::new();
-        let mut made = 0;
+        let mut number = 0;
         loop {
-            made += 1;
-            let mut passes = Passes { made, let_in: 0, dropped: 0 };
+            number += 1;
+            let mut pass = Pass { number, let_in: 0, dropped: 0 };
             for entry in (self.tried)(shelf, campaign) {
                 let answer = admit(entry.block());
-                passes.let_in += usize::from(answer.refusal == 0);
+                pass.let_in += usize::from(answer.refusal == 0);
                 if let Some(outcome) = (self.outcome)(answer) {
                     (self.take)(shelf, &entry);
-                    passes.dropped += usize::from(outcome.number != 0);
+                    pass.dropped += usize::from(outcome.number != 0);
                     ended.push(outcome);
                 }
                 if (self.ends_pass)(answer) {
                     break;
                 }
             }
-            if !(self.another)(&passes) {
+            if !(self.another)(&pass) {
                 return ended;
             }
         }

@@ -4,15 +4,15 @@
 use crate::model::checks::Check;
 use crate::model::table::{Row, Table};
 
-/// What a taking back is asked, with the answer of form.
-pub struct Taken {
+/// What a taking back is given, with the answer of form.
+pub struct TakingBackInput {
     pub table: Table,
     pub in_form: bool,
 }
 
 /// The rules. Each is a value, so that the self-test can change one.
 pub struct TakingBack {
-    pub checks: Vec<Check<Taken>>,
+    pub checks: Vec<Check<TakingBackInput>>,
     /// What is left of the row at the last place.
     pub row: fn(Row) -> Row,
     /// The table that is left of one.
@@ -25,10 +25,10 @@ pub struct TakingBack {
 }
 
 /// "in that order after 2"
-pub const CHECKS: [Check<Taken>; 3] = [
-    Check { number: 2, finds: |taken| (!taken.in_form).then_some(0) },
-    Check { number: 32, finds: |taken| (taken.table.count == 0).then_some(0) },
-    Check { number: 33, finds: |taken| last_interpreted(&taken.table).then_some(0) },
+pub const CHECKS: [Check<TakingBackInput>; 3] = [
+    Check { number: 2, finds: |input| (!input.in_form).then_some(0) },
+    Check { number: 32, finds: |input| (input.table.count == 0).then_some(0) },
+    Check { number: 33, finds: |input| last_interpreted(&input.table).then_some(0) },
 ];
 
 /// "the last place is interpreted"

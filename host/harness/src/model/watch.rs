@@ -5,8 +5,8 @@ use crate::model::checks::{first_refusal, Check};
 use crate::model::setup::faults;
 use crate::model::table::{Row, Table};
 
-/// What the watch is asked, with the answer of form.
-pub struct Question {
+/// What the watch is given, with the answer of form.
+pub struct WatchInput {
     pub table: Table,
     pub in_form: bool,
     /// Whose ancestors are asked for. Forks are asked for without a place.
@@ -18,8 +18,8 @@ pub type Twins = fn(&Row, &Row) -> bool;
 
 /// The rules. Each is a value, so that the self-test can change one.
 pub struct Watch {
-    pub fork_checks: Vec<Check<Question>>,
-    pub ancestor_checks: Vec<Check<Question>>,
+    pub fork_checks: Vec<Check<WatchInput>>,
+    pub ancestor_checks: Vec<Check<WatchInput>>,
     pub twins: Twins,
     /// The mask of the forked sites.
     pub forked: fn(&Table, Twins) -> u16,
@@ -32,13 +32,13 @@ pub struct Watch {
 }
 
 /// "The first part checks 2"
-pub const FORK_CHECKS: [Check<Question>; 1] = [NOT_IN_FORM];
+pub const FORK_CHECKS: [Check<WatchInput>; 1] = [NOT_IN_FORM];
 
 /// "the second 2 and then 13"
-pub const ANCESTOR_CHECKS: [Check<Question>; 2] =
-    [NOT_IN_FORM, Check { number: 13, finds: |asked| (asked.place >= asked.table.count).then_some(0) }];
+pub const ANCESTOR_CHECKS: [Check<WatchInput>; 2] =
+    [NOT_IN_FORM, Check { number: 13, finds: |input| (input.place >= input.table.count).then_some(0) }];
 
-const NOT_IN_FORM: Check<Question> = Check { number: 2, finds: |asked| (!asked.in_form).then_some(0) };
+const NOT_IN_FORM: Check<WatchInput> = Check { number: 2, finds: |input| (!input.in_form).then_some(0) };
 
 impl Watch {
     pub fn document() -> Watch {
@@ -55,21 +55,21 @@ impl Watch {
 
     /// "Gives the mask of sites with two held blocks of one sequence number, its count of ones, and whether that is at
     /// most f."
-    pub fn forks(&self, question: &Question) -> ForkedSites {
-        if let Some(answer) = first_refusal(&self.fork_checks, question) {
+    pub fn forks(&self, input: &WatchInput) -> ForkedSites {
+        if let Some(answer) = first_refusal(&self.fork_checks, input) {
             return ForkedSites { refusal: answer.refusal, ..ForkedSites::default() };
         }
-        let sites = (self.forked)(&question.table, self.twins);
+        let sites = (self.forked)(&input.table, self.twins);
         let count = (self.ones)(sites.into());
-        ForkedSites { refusal: 0, sites, count, at_most_f: (self.at_most_f)(count, question.table.sites) }
+        ForkedSites { refusal: 0, sites, count, at_most_f: (self.at_most_f)(count, input.table.sites) }
     }
 
     /// "Also, for a place, the mask and count of all its ancestors, itself left out."
-    pub fn ancestors(&self, question: &Question) -> AncestorPlaces {
-        if let Some(answer) = first_refusal(&self.ancestor_checks, question) {
+    pub fn ancestors(&self, input: &WatchInput) -> AncestorPlaces {
+        if let Some(answer) = first_refusal(&self.ancestor_checks, input) {
             return AncestorPlaces { refusal: answer.refusal, ..AncestorPlaces::default() };
         }
-        let places = (self.ancestors)(&question.table, question.place);
+        let places = (self.ancestors)(&input.table, input.place);
         AncestorPlaces { refusal: 0, places, count: (self.ones)(places) }
     }
 }

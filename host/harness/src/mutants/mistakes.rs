@@ -24,20 +24,22 @@ mod taking_back;
 mod tries;
 mod watch;
 
+use std::ops::BitXorAssign;
+
 use crate::comparing::laws::*;
-use crate::model::admission::Arrival;
+use crate::model::admission::AdmissionInput;
 use crate::model::answer::{AncestorPlaces, Answer, ArrivalAnswer, ForkedSites, Reading};
-use crate::model::building::Task;
+use crate::model::building::BuildingInput;
 use crate::model::calls::Calls;
 use crate::model::checks::Check;
 use crate::model::exit::Exit;
-use crate::model::interpretation::Asked;
+use crate::model::interpretation::InterpretationInput;
 use crate::model::process::Process;
-use crate::model::retiring::Leaving;
+use crate::model::retiring::RetiringInput;
 use crate::model::table::Table;
-use crate::model::taking_back::Taken;
-use crate::model::watch::Question;
-use crate::model::{Model, Wanted};
+use crate::model::taking_back::TakingBackInput;
+use crate::model::watch::WatchInput;
+use crate::model::{FreshInput, Model};
 
 pub struct Mutant {
     pub name: String,
@@ -68,15 +70,15 @@ type AfterRetiring = Box<dyn Fn(Answer, &mut [u8], &mut [u16]) -> Answer>;
 type AfterTakingBack = Box<dyn Fn(Answer, &mut [u8]) -> Answer>;
 type AfterForks = Box<dyn Fn(ForkedSites, &mut [u8]) -> ForkedSites>;
 type AfterAncestors = Box<dyn Fn(AncestorPlaces, &mut [u8], usize) -> AncestorPlaces>;
-type AfterBuilding = Box<dyn Fn(Answer, Building) -> Answer>;
+type AfterBuilding = Box<dyn Fn(Answer, BuildingBuffers) -> Answer>;
 type AfterReplay = Box<dyn Fn(usize, &mut [u8], &mut [u16], &mut [u8], &mut [u64]) -> usize>;
-type AfterArrival = Box<dyn Fn(ArrivalAnswer, Arriving) -> ArrivalAnswer>;
-type AfterJoin = Box<dyn Fn(Answer, Joined) -> Answer>;
+type AfterArrival = Box<dyn Fn(ArrivalAnswer, ArrivalBuffers) -> ArrivalAnswer>;
+type AfterJoin = Box<dyn Fn(Answer, JoinBuffers) -> Answer>;
 type AfterListing = Box<dyn Fn(Exit, &[u8]) -> Exit>;
 type AfterCall = Box<dyn Fn(Answer, &mut [u8], &mut [u8]) -> Answer>;
 
 /// What building was given: two buffers that it reads, and the output.
-struct Building<'a> {
+struct BuildingBuffers<'a> {
     table: &'a mut [u8],
     site: u8,
     requests: &'a mut [u8],
@@ -84,7 +86,7 @@ struct Building<'a> {
 }
 
 /// What an arrival with a shelf was given, as the call left it.
-struct Arriving<'a> {
+struct ArrivalBuffers<'a> {
     table: &'a mut [u8],
     shelf: &'a mut [u8],
     campaign: u8,
@@ -93,7 +95,7 @@ struct Arriving<'a> {
 }
 
 /// What a join was given, as the call left it.
-struct Joined<'a> {
+struct JoinBuffers<'a> {
     left: &'a mut [u8],
     right: &'a mut [u8],
     left_records: &'a mut [u16],
@@ -104,7 +106,7 @@ struct Joined<'a> {
 /// A mistake by its name.
 type Mistake = (&'static str, fn(&mut Mutant));
 
-/// Those that cases of all kinds find.
+/// The mutants that cases of all kinds find.
 pub fn all() -> Vec<Mutant> {
     let mut mutants = form::conditions_left_out();
     mutants.extend(admission::checks_exchanged());
@@ -116,12 +118,12 @@ pub fn all() -> Vec<Mutant> {
     mutants
 }
 
-/// Those that cases of listings find.
+/// The mutants that cases of listings find.
 pub fn of_listings() -> Vec<Mutant> {
     mistaken(listing::MISTAKES)
 }
 
-/// Those that cases of shelves find.
+/// The mutants that cases of shelves find.
 pub fn of_shelves() -> Vec<Mutant> {
     let mut mutants = shelf_form::conditions_left_out();
     mutants.extend(arrival::checks_exchanged());
@@ -129,21 +131,21 @@ pub fn of_shelves() -> Vec<Mutant> {
     mutants
 }
 
-/// Those that cases of joins find.
+/// The mutants that cases of joins find.
 pub fn of_joins() -> Vec<Mutant> {
     let mut mutants = joining::checks_exchanged();
     mutants.extend(mistaken(&mistakes_in_joins()));
     mutants
 }
 
-/// Those that cases of retirings find.
+/// The mutants that cases of retirings find.
 pub fn of_retirings() -> Vec<Mutant> {
     let mut mutants = retiring::checks_exchanged();
     mutants.extend(mistaken(retiring::MISTAKES));
     mutants
 }
 
-/// Those that cases of takings back find.
+/// The mutants that cases of takings back find.
 pub fn of_takings_back() -> Vec<Mutant> {
     let mut mutants = taking_back::checks_exchanged();
     mutants.extend(mistaken(taking_back::MISTAKES));
@@ -154,7 +156,8 @@ fn mistaken(mistakes: &[Mistake]) -> Vec<Mutant> {
     mistakes.iter().map(|(name, make)| Mutant::with(name.to_string(), make)).collect()
 }
 
-/// Mutants that break a law when they stand on both sides, where no call differs, each with the law.
+/// Mutants that break a law about two sites, the watch or building when they stand on both sides, where no call differs,
+/// each with the law.
 pub fn lawless() -> Vec<(Mutant, &'static str)> {
     with_laws(&[
         (&[meaning::ARRIVAL_ORDER], EQUAL_PARTS),
@@ -180,7 +183,7 @@ pub fn lawless() -> Vec<(Mutant, &'static str)> {
     ])
 }
 
-/// The same of laws about groups.
+/// Mutants that break a law about groups when they stand on both sides, each with the law.
 pub fn lawless_in_groups() -> Vec<(Mutant, &'static str)> {
     with_laws(&[
         (&[process::ECHO_QUORUM_2F_PLUS_2], DELIVERED),
@@ -216,7 +219,7 @@ pub fn lawless_in_groups() -> Vec<(Mutant, &'static str)> {
     ])
 }
 
-/// The same of laws about arrivals with a shelf.
+/// Mutants that break a law about arrivals with a shelf when they stand on both sides, each with the law.
 pub fn lawless_with_shelves() -> Vec<(Mutant, &'static str)> {
     with_laws(&[
         (&[shelf_rule::OTHERS_NOT_COVERED], STAYS_IN_FORM),
@@ -259,7 +262,7 @@ pub fn lawless_with_shelves() -> Vec<(Mutant, &'static str)> {
     ])
 }
 
-/// The same of laws about joins.
+/// Mutants that break a law about joins when they stand on both sides, each with the law.
 pub fn lawless_in_joins() -> Vec<(Mutant, &'static str)> {
     with_laws(&[
         (&[join_results::NOT_RENUMBERED], IN_FORM),
@@ -301,7 +304,7 @@ pub fn lawless_in_joins() -> Vec<(Mutant, &'static str)> {
     ])
 }
 
-/// The same of laws about retirings.
+/// Mutants that break a law about retirings when they stand on both sides, each with the law.
 pub fn lawless_in_retirings() -> Vec<(Mutant, &'static str)> {
     with_laws(&[
         (&[retiring::REFERENCES_STAY], STILL_IN_FORM),
@@ -351,7 +354,7 @@ pub fn lawless_in_retirings() -> Vec<(Mutant, &'static str)> {
     ])
 }
 
-/// The same of laws about takings back.
+/// Mutants that break a law about takings back when they stand on both sides, each with the law.
 pub fn lawless_in_takings_back() -> Vec<(Mutant, &'static str)> {
     with_laws(&[
         (&[taking_back::OF_FIRST], GIVES_BACK),
@@ -372,7 +375,7 @@ pub fn lawless_in_takings_back() -> Vec<(Mutant, &'static str)> {
     ])
 }
 
-/// The same of laws about long campaigns.
+/// Mutants that break a law about long campaigns when they stand on both sides, each with the law.
 pub fn lawless_for_long() -> Vec<(Mutant, &'static str)> {
     with_laws(&[
         (&[retiring::ONLY_ONCE], NEVER_REFUSED),
@@ -408,7 +411,7 @@ fn mistakes_with_shelves() -> Vec<Mistake> {
 }
 
 impl Mutant {
-    /// With all mistakes of these names.
+    /// A mutant with all mistakes of these names.
     fn of(names: &[&str]) -> Mutant {
         let make = |mutant: &mut Mutant| {
             let leaving = [retiring::MISTAKES, taking_back::MISTAKES, taking_back::LEDGER_MISTAKES].concat();
@@ -445,14 +448,14 @@ impl Mutant {
             after_join: Box::new(|answer, _| answer),
             after_reading: Box::new(|reading, _| reading),
             after_digest: Box::new(|answer, _, _| answer),
-            after_listing: Box::new(|ended, _| ended),
+            after_listing: Box::new(|exit, _| exit),
         };
         make(&mut mutant);
         mutant
     }
 
     /// Exchanges a check of `gt_fresh`.
-    fn fresh(&mut self, number: u8, finds: fn(&Wanted) -> Option<usize>) {
+    fn fresh(&mut self, number: u8, finds: fn(&FreshInput) -> Option<usize>) {
         exchange(&mut self.model.fresh, number, finds);
     }
 
@@ -463,32 +466,32 @@ impl Mutant {
     }
 
     /// Exchanges a check of admission.
-    fn admission(&mut self, number: u8, finds: fn(&Arrival) -> Option<usize>) {
+    fn admission(&mut self, number: u8, finds: fn(&AdmissionInput) -> Option<usize>) {
         exchange(&mut self.model.admission, number, finds);
     }
 
     /// Exchanges a check of interpretation.
-    fn interpretation(&mut self, number: u8, finds: fn(&Asked) -> Option<usize>) {
+    fn interpretation(&mut self, number: u8, finds: fn(&InterpretationInput) -> Option<usize>) {
         exchange(&mut self.model.interpretation.checks, number, finds);
     }
 
     /// Exchanges a check of retiring.
-    fn retiring(&mut self, number: u8, finds: fn(&Leaving) -> Option<usize>) {
+    fn retiring(&mut self, number: u8, finds: fn(&RetiringInput) -> Option<usize>) {
         exchange(&mut self.model.retiring.checks, number, finds);
     }
 
     /// Exchanges a check of taking back.
-    fn taking_back(&mut self, number: u8, finds: fn(&Taken) -> Option<usize>) {
+    fn taking_back(&mut self, number: u8, finds: fn(&TakingBackInput) -> Option<usize>) {
         exchange(&mut self.model.taking_back.checks, number, finds);
     }
 
     /// Exchanges a check of the ancestors.
-    fn ancestors(&mut self, number: u8, finds: fn(&Question) -> Option<usize>) {
+    fn ancestors(&mut self, number: u8, finds: fn(&WatchInput) -> Option<usize>) {
         exchange(&mut self.model.watch.ancestor_checks, number, finds);
     }
 
     /// Exchanges a check of building.
-    fn building(&mut self, number: u8, finds: fn(&Task) -> Option<usize>) {
+    fn building(&mut self, number: u8, finds: fn(&BuildingInput) -> Option<usize>) {
         exchange(&mut self.model.building.checks, number, finds);
     }
 
@@ -534,7 +537,7 @@ impl Mutant {
         self.after_ancestors = Box::new(after);
     }
 
-    fn after_building(&mut self, after: impl Fn(Answer, Building) -> Answer + 'static) {
+    fn after_building(&mut self, after: impl Fn(Answer, BuildingBuffers) -> Answer + 'static) {
         self.after_building = Box::new(after);
     }
 
@@ -546,11 +549,11 @@ impl Mutant {
         self.after_shelf_form = Box::new(after);
     }
 
-    fn after_arrival(&mut self, after: impl Fn(ArrivalAnswer, Arriving) -> ArrivalAnswer + 'static) {
+    fn after_arrival(&mut self, after: impl Fn(ArrivalAnswer, ArrivalBuffers) -> ArrivalAnswer + 'static) {
         self.after_arrival = Box::new(after);
     }
 
-    fn after_join(&mut self, after: impl Fn(Answer, Joined) -> Answer + 'static) {
+    fn after_join(&mut self, after: impl Fn(Answer, JoinBuffers) -> Answer + 'static) {
         self.after_join = Box::new(after);
     }
 
@@ -567,9 +570,26 @@ impl Mutant {
     }
 }
 
-fn exchange<Asked: ?Sized>(checks: &mut [Check<Asked>], number: u8, finds: fn(&Asked) -> Option<usize>) {
+fn exchange<Input: ?Sized>(checks: &mut [Check<Input>], number: u8, finds: fn(&Input) -> Option<usize>) {
     let check = checks.iter_mut().find(|check| check.number == number);
     check.expect("a check of that number").finds = finds;
+}
+
+/// For each two neighbouring checks of a call, a mutant in which they are swapped.
+fn neighbours_swapped<Input: ?Sized>(call: &str, checks: fn(&mut Model) -> &mut Vec<Check<Input>>) -> Vec<Mutant> {
+    let numbers: Vec<u8> = checks(&mut Model::document()).iter().map(|check| check.number).collect();
+    let swapped = |first: usize| {
+        let name = format!("{call}: checks {} and {} swapped", numbers[first], numbers[first + 1]);
+        Mutant::with(name, |m| checks(&mut m.model).swap(first, first + 1))
+    };
+    (0..numbers.len() - 1).map(swapped).collect()
+}
+
+/// Writes a buffer: a bit of its last item is flipped, if it has one.
+fn flip_last<Item: BitXorAssign + From<u8>>(buffer: &mut [Item]) {
+    if let Some(last) = buffer.last_mut() {
+        *last ^= Item::from(1);
+    }
 }
 
 /// The answer with another value beside this refusal.
@@ -624,7 +644,7 @@ impl Calls for Mutant {
 
     fn build(&self, table: &mut [u8], site: u8, requests: &mut [u8], output: &mut [u8]) -> Answer {
         let answer = self.model.build(table, site, requests, output);
-        (self.after_building)(answer, Building { table, site, requests, output })
+        (self.after_building)(answer, BuildingBuffers { table, site, requests, output })
     }
 
     fn replay(&self, table: &mut [u8], records: &mut [u16], calls: &mut [u8], answers: &mut [u64]) -> usize {
@@ -647,7 +667,7 @@ impl Calls for Mutant {
         outcomes: &mut [u64],
     ) -> ArrivalAnswer {
         let answer = self.model.arrive(table, shelf, campaign, block, verdict, outcomes);
-        (self.after_arrival)(answer, Arriving { table, shelf, campaign, block, outcomes })
+        (self.after_arrival)(answer, ArrivalBuffers { table, shelf, campaign, block, outcomes })
     }
 
     fn join(
@@ -659,7 +679,7 @@ impl Calls for Mutant {
         third: &mut [u16],
     ) -> Answer {
         let answer = self.model.join(left, right, left_records, right_records, third);
-        (self.after_join)(answer, Joined { left, right, left_records, right_records, third })
+        (self.after_join)(answer, JoinBuffers { left, right, left_records, right_records, third })
     }
 
     fn read_block(&self, block: &mut [u8]) -> Reading {
@@ -673,7 +693,7 @@ impl Calls for Mutant {
     }
 
     fn listing(&self, input: &[u8]) -> Exit {
-        let ended = self.model.listing(input);
-        (self.after_listing)(ended, input)
+        let exit = self.model.listing(input);
+        (self.after_listing)(exit, input)
     }
 }

@@ -5,7 +5,7 @@ use std::ops::Range;
 
 use super::{examples, mistakes};
 use crate::comparing::cases::{
-    first_difference, Cases, Found, Kind, GROUPS, JOINS, LASTING, LISTINGS, RETIRINGS, SHELVES, TAKINGS_BACK,
+    first_difference, Cases, FoundDifference, Kind, GROUPS, JOINS, LASTING, LISTINGS, RETIRINGS, SHELVES, TAKINGS_BACK,
 };
 use crate::comparing::counts::Counts;
 use crate::model::calls::Calls;
@@ -67,7 +67,7 @@ pub fn run(cases: &Cases) -> bool {
     tally.survived == 0
 }
 
-// These take longer than other cases, and their mutants are found sooner.
+// How many cases there are at most of kinds that take longer, and whose mutants are found sooner.
 const MOST_LISTINGS: u64 = 400;
 const MOST_GROUPS: u64 = 1000;
 const MOST_SHELVES: u64 = 1000;
@@ -103,7 +103,7 @@ impl Tally {
     }
 }
 
-fn find(tested: &dyn Calls, model: &Model, cases: &mut Cases) -> Option<Found> {
+fn find(tested: &dyn Calls, model: &Model, cases: &mut Cases) -> Option<FoundDifference> {
     first_difference(tested, model, cases, &mut Counts::default())
 }
 

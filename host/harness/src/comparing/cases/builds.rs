@@ -1,9 +1,9 @@
 //! Blocks that sites build, mostly on tables that no calls reach. Each is then admitted.
 
-use crate::comparing::buffers::{Lent, Next, Sides};
+use crate::comparing::buffers::{Buffers, NextBlock, Sides};
 use crate::comparing::compare::Compare;
 use crate::comparing::difference::Difference;
-use crate::comparing::laws::{self, Built};
+use crate::comparing::laws::{self, BuiltBlock};
 use crate::drawing::draft::{bad_request, site_from_n_on, some_requests};
 use crate::drawing::random::Random;
 use crate::drawing::table_damage::damaged;
@@ -28,7 +28,7 @@ pub fn run(random: &Random, compare: &mut Compare) -> Result<(), Difference> {
             table = at_end(random, table, site);
         }
         let bytes = if random.one_in(6) { damaged(random, &table) } else { table.to_bytes() };
-        let after = next_block(random, compare, &Next { table: &bytes, site, requests: &some_list(random) })?;
+        let after = next_block(random, compare, &NextBlock { table: &bytes, site, requests: &some_list(random) })?;
         // Often the next block is built on top of this one.
         if let Some(after) = after.filter(|_| random.one_in(2)) {
             table = Table::from_bytes(&after);
@@ -37,7 +37,7 @@ pub fn run(random: &Random, compare: &mut Compare) -> Result<(), Difference> {
     Ok(())
 }
 
-/// And a site that builds.
+/// A table, and a site that builds on it.
 fn some_table(random: &Random) -> (Table, u8) {
     if random.one_in(4) {
         let table = tables::in_form(random);
@@ -86,47 +86,51 @@ fn other_length(random: &Random, list: &mut Vec<u8>) {
 
 /// Asks for a site's next block with outputs of several lengths. If it is built, the table with it in place is given
 /// back.
-pub fn next_block(random: &Random, compare: &mut Compare, next: &Next) -> Result<Option<Vec<u8>>, Difference> {
+pub fn next_block(random: &Random, compare: &mut Compare, next: &NextBlock) -> Result<Option<Vec<u8>>, Difference> {
     // No output at all is refused with the length needed, unless another cause comes before.
     let (asked, _) = compare.build(next, &[])?;
     let needed = if asked.refusal == 17 { asked.value } else { random.between(HEADER_BYTES, MAX_BLOCK_BYTES) };
     if random.one_in(2) {
         let short = random.pick(&[needed - 1, needed - 1, random.below(needed)]);
         let (answer, _) = compare.build(next, &random.bytes(short))?;
-        compare.counts.built.short(short, answer);
+        compare.counts.built_blocks.short_output(short, answer);
     }
     let longer = [needed + 1, needed + random.between(1, 100), needed.max(MAX_BLOCK_BYTES)];
     let room = random.pick(&[needed, needed, random.pick(&longer)]);
     let output = random.bytes(room);
-    let Some(placed) = built(compare, next, &output)? else { return Ok(None) };
+    let Some(admitted) = build_and_admit(compare, next, &output)? else { return Ok(None) };
     if random.one_in(8) {
-        if let Some(table) = holding(random, next.table, &placed.block) {
-            built(compare, &Next { table: &table, ..*next }, &output)?;
+        if let Some(table) = holding(random, next.table, &admitted.block) {
+            build_and_admit(compare, &NextBlock { table: &table, ..*next }, &output)?;
         }
     }
-    Ok(Some(placed.table))
+    Ok(Some(admitted.table))
 }
 
 /// A block, and the table that it was admitted to.
-struct Placed {
+struct BlockAndTable {
     block: Vec<u8>,
     table: Vec<u8>,
 }
 
 /// Builds a block into an output. If that isn't refused, the block is read and admitted to a copy of the table.
-fn built(compare: &mut Compare, next: &Next, output: &[u8]) -> Result<Option<Placed>, Difference> {
+fn build_and_admit(
+    compare: &mut Compare,
+    next: &NextBlock,
+    output: &[u8],
+) -> Result<Option<BlockAndTable>, Difference> {
     let (answer, after) = compare.build(next, output)?;
-    compare.counts.built.asked(next, answer, output.len());
+    compare.counts.built_blocks.answer(next, answer, output.len());
     if answer.refusal != 0 {
         return Ok(None);
     }
     let block = &after[..answer.value];
     compare.read_block(block)?;
-    let mut sides = Sides::new(Lent::new(next.table.to_vec(), Vec::new()));
+    let mut sides = Sides::new(Buffers::new(next.table.to_vec(), Vec::new()));
     let admission = compare.admit(&mut sides, block, 1)?;
-    compare.counts.built.admitted(admission);
-    laws::check_built(&Built { next, block, before: output, after: &after, admission })?;
-    Ok(Some(Placed { block: block.to_vec(), table: sides.expected.table }))
+    compare.counts.built_blocks.admission(admission);
+    laws::check_built_block(&BuiltBlock { next, block, before: output, after: &after, admission })?;
+    Ok(Some(BlockAndTable { block: block.to_vec(), table: sides.expected.table }))
 }
 
 /// The table with the block's digest held at some place that the block doesn't refer to: so the same block is built.

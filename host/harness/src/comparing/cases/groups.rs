@@ -2,16 +2,16 @@
 //! what the sites hold must keep the laws, at the end and now and then before.
 
 use crate::comparing::compare::Compare;
-use crate::comparing::counts::Met;
+use crate::comparing::counts::PremisesMet;
 use crate::comparing::difference::Difference;
-use crate::comparing::laws::{self, Promised};
+use crate::comparing::laws::{self, SitePromises};
 use crate::comparing::sites::group::Group;
 use crate::drawing::random::Random;
-use crate::model::promise::Held;
+use crate::model::promise::HeldBlocks;
 
 pub fn run(random: &Random, compare: &mut Compare) -> Result<(), Difference> {
     let mut group = Group::new(random, compare)?;
-    let mut met = Met::default();
+    let mut met = PremisesMet::default();
     for round in 0..group.rounds() {
         group.round(compare, round)?;
         look_at(&group, random.below(group.sites.into()) as u8, &mut met)?;
@@ -20,16 +20,16 @@ pub fn run(random: &Random, compare: &mut Compare) -> Result<(), Difference> {
     for site in 0..group.sites {
         look_at(&group, site, &mut met)?;
     }
-    compare.counts.groups.ended(group.sites, &met);
+    compare.counts.groups.group(group.sites, &met);
     Ok(())
 }
 
 /// What a site holds.
-fn look_at(group: &Group, site: u8, met: &mut Met) -> Result<(), Difference> {
-    let (table, records) = group.left(site);
-    let held = Held::of(table);
+fn look_at(group: &Group, site: u8, met: &mut PremisesMet) -> Result<(), Difference> {
+    let (table, records) = group.table_and_records(site);
+    let held = HeldBlocks::of(table);
     let promises = std::array::from_fn(|slot| held.promise(slot));
-    let promised = Promised { held: &held, promises: &promises, records, by_rule: group.by_rule() };
-    met.note(&promised);
-    laws::check_promised(&promised)
+    let site_promises = SitePromises { held: &held, promises: &promises, records, by_rule: group.by_rule() };
+    met.note(&site_promises);
+    laws::check_promises(&site_promises)
 }

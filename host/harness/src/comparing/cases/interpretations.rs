@@ -1,6 +1,6 @@
 //! Single interpretations, on tables and records that mostly no calls reach.
 
-use crate::comparing::buffers::{Lent, Sides};
+use crate::comparing::buffers::{Buffers, Sides};
 use crate::comparing::compare::Compare;
 use crate::comparing::difference::Difference;
 use crate::drawing::random::Random;
@@ -20,7 +20,7 @@ pub fn run(random: &Random, compare: &mut Compare) -> Result<(), Difference> {
     } else {
         record_contents::records(random, length)
     };
-    let mut sides = Sides::new(Lent::new(table, records));
+    let mut sides = Sides::new(Buffers::new(table, records));
     for _ in 0..CALLS_A_CASE {
         let held = Table::from_bytes(&sides.expected.table);
         compare.interpret(&mut sides, some_target(random, &held))?;

@@ -1,6 +1,6 @@
 //! Replays of short lists, whole and damaged, on any tables and records.
 
-use crate::comparing::buffers::{Lent, Sides};
+use crate::comparing::buffers::{Buffers, Sides};
 use crate::comparing::compare::Compare;
 use crate::comparing::difference::Difference;
 use crate::drawing::arrivals::{any, good};
@@ -22,16 +22,16 @@ pub fn run(random: &Random, compare: &mut Compare) -> Result<(), Difference> {
     let table = some_table(random);
     let length = record_contents::some_length(random);
     let bytes = if random.one_in(6) { damaged(random, &table) } else { table.to_bytes() };
-    let lent = Lent::new(bytes, record_contents::records(random, length));
+    let buffers = Buffers::new(bytes, record_contents::records(random, length));
     let calls = some_calls(random, &table);
     let whole = calls.concat();
-    replay(random, compare, &lent, &whole)?;
+    replay(random, compare, &buffers, &whole)?;
     for _ in 0..DAMAGES_A_LIST {
-        replay(random, compare, &lent, &damaged_list(random, &calls))?;
+        replay(random, compare, &buffers, &damaged_list(random, &calls))?;
     }
     if whole.len() <= SHORT_LIST_BYTES && random.one_in(4) {
         for cut in 0..whole.len() {
-            replay(random, compare, &lent, &whole[..cut])?;
+            replay(random, compare, &buffers, &whole[..cut])?;
         }
     }
     Ok(())
@@ -46,11 +46,11 @@ fn some_table(random: &Random) -> Table {
     }
 }
 
-/// Each starts from the same table and records.
-fn replay(random: &Random, compare: &mut Compare, lent: &Lent, calls: &[u8]) -> Result<(), Difference> {
+/// Replays a list from the table and records given, which stay as they are.
+fn replay(random: &Random, compare: &mut Compare, buffers: &Buffers, calls: &[u8]) -> Result<(), Difference> {
     let length = random.between(0, 2 * MOST_CALLS + 2);
     let answers: Vec<u64> = (0..length).map(|_| random.set()).collect();
-    compare.replay(&mut Sides::new(lent.clone()), calls, &answers)?;
+    compare.replay(&mut Sides::new(buffers.clone()), calls, &answers)?;
     Ok(())
 }
 
@@ -66,9 +66,9 @@ fn some_calls(random: &Random, table: &Table) -> Vec<Vec<u8>> {
             0..=3 => calls.push(retiring()),
             4..=6 => calls.push(taking_back()),
             7..=11 => {
-                let sent = if random.one_in(3) { any(random, table, &earlier) } else { good(random, table) };
-                calls.push(admission(sent.verdict, &sent.block));
-                earlier.push(sent.block);
+                let arrival = if random.one_in(3) { any(random, table, &earlier) } else { good(random, table) };
+                calls.push(admission(arrival.verdict, &arrival.block));
+                earlier.push(arrival.block);
                 // As if it were admitted: so that its place is asked for.
                 held.count = (held.count + 1).min(held.rows.len());
             }

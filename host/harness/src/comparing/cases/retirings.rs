@@ -2,10 +2,10 @@
 //! times, each beside a ledger of every block ever admitted.
 
 use super::builds::{next_block, some_list};
-use crate::comparing::buffers::{Lent, Next, Sides};
+use crate::comparing::buffers::{Buffers, NextBlock, Sides};
 use crate::comparing::compare::Compare;
 use crate::comparing::difference::Difference;
-use crate::comparing::laws::{self, Ever, Retired};
+use crate::comparing::laws::{self, RetiringFacts, TwoLedgers};
 use crate::comparing::sites::retirer::Retirer;
 use crate::drawing::campaign::Campaign;
 use crate::drawing::random::Random;
@@ -32,16 +32,19 @@ fn by_hand(random: &Random, compare: &mut Compare) -> Result<(), Difference> {
     let table = tables_to_retire::drawn(random);
     let bytes = if random.one_in(6) { damaged(random, &table) } else { table.to_bytes() };
     let length = some_length(random);
-    let mut sides = Sides::new(Lent::new(bytes, any_numbers(random, length)));
+    let mut sides = Sides::new(Buffers::new(bytes, any_numbers(random, length)));
     for _ in 0..RETIRINGS_A_TABLE {
-        let before = Lent::new(sides.expected.table.clone(), sides.expected.records.clone());
+        let before = sides.expected.table_and_records();
         let answer = compare.retire(&mut sides)?;
-        compare.counts.retirings.asked(&Table::from_bytes(&before.table), length, answer);
+        compare.counts.retirings.answer(&Table::from_bytes(&before.table), length, answer);
         if answer.refusal != 0 {
             break;
         }
         let in_form = compare.in_form(&sides.expected.table)?;
-        laws::check_retired(&Retired { before: &before, after: &sides.tested, answer, in_form }, random.below(8))?;
+        laws::check_retiring(
+            &RetiringFacts { before: &before, after: &sides.tested, answer, in_form },
+            random.below(8),
+        )?;
     }
     Ok(())
 }
@@ -49,8 +52,8 @@ fn by_hand(random: &Random, compare: &mut Compare) -> Result<(), Difference> {
 // ---- Campaigns
 
 /// Two controllers can be joined only where neither has retired.
-fn join(random: &Random, compare: &mut Compare, [left, right]: [&Lent; 2]) -> Result<(), Difference> {
-    let mut sides = Sides::new(Lent::new(left.table.clone(), left.records.clone()));
+fn join(random: &Random, compare: &mut Compare, [left, right]: [&Buffers; 2]) -> Result<(), Difference> {
+    let mut sides = Sides::new(left.table_and_records());
     compare.join(&mut sides, right, &any_numbers(random, BUFFER_NUMBERS)).map(|_| ())
 }
 
@@ -63,18 +66,18 @@ fn campaigns(random: &Random, compare: &mut Compare) -> Result<(), Difference> {
     let first_law = random.pick(&[None, Some(0), Some(1), Some(2)]);
     let one = Retirer::run(random, compare, &campaign, first_law)?;
     let other = Retirer::run(random, compare, &campaign, first_law)?;
-    let mut watched = |retirer: &Retirer| compare.forks(&retirer.kept.left().table);
-    let watched = [watched(&one)?, watched(&other)?];
-    let ever = Ever { sites: [&one.kept, &other.kept], site_count: campaign.sites, watched };
-    compare.counts.retirings.ended(&ever);
-    compare.counts.takings_back.ended(&ever);
-    laws::check_ever(&ever)?;
-    join(random, compare, [one.kept.left(), other.kept.left()])?;
+    let mut watch = |retirer: &Retirer| compare.forks(&retirer.site.buffers().table);
+    let watch_answers = [watch(&one)?, watch(&other)?];
+    let two_ledgers = TwoLedgers { sites: [&one.site, &other.site], site_count: campaign.sites, watch_answers };
+    compare.counts.retirings.campaign(&two_ledgers);
+    compare.counts.takings_back.campaign(&two_ledgers);
+    laws::check_two_ledgers(&two_ledgers)?;
+    join(random, compare, [one.site.buffers(), other.site.buffers()])?;
     for retirer in [one, other] {
         retirer.replay(random, compare)?;
         let site = random.below(campaign.sites.into()) as u8;
-        let table = &retirer.kept.left().table;
-        next_block(random, compare, &Next { table, site, requests: &some_list(random) })?;
+        let table = &retirer.site.buffers().table;
+        next_block(random, compare, &NextBlock { table, site, requests: &some_list(random) })?;
     }
     Ok(())
 }

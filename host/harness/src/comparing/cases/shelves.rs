@@ -1,12 +1,12 @@
 //! Arrivals with a shelf: of a controller's four campaigns, on shelves that mostly no calls reach, and on damaged ones.
 
-use crate::comparing::buffers::{Lent, Sides};
-use crate::comparing::compare::arrival::bring;
+use crate::comparing::buffers::{Buffers, Sides};
+use crate::comparing::compare::arrival::arrival_facts;
 use crate::comparing::compare::Compare;
 use crate::comparing::difference::Difference;
 use crate::comparing::laws;
 use crate::comparing::sites::controller::Controller;
-use crate::drawing::arrivals::{any, good, some_room, Sent};
+use crate::drawing::arrivals::{any, good, some_room, Arrival};
 use crate::drawing::feed::{lacking, with};
 use crate::drawing::random::Random;
 use crate::drawing::shelf_damage::damaged;
@@ -27,15 +27,15 @@ pub fn run(random: &Random, compare: &mut Compare) -> Result<(), Difference> {
 }
 
 /// A campaign's table, an arrival for it, and a shelf.
-struct Scene {
+struct ShelfCase {
     campaign: u8,
     table: Table,
-    sent: Sent,
+    arrival: Arrival,
     shelf: Shelf,
 }
 
-impl Scene {
-    fn drawn(random: &Random) -> Scene {
+impl ShelfCase {
+    fn drawn(random: &Random) -> ShelfCase {
         let holds = some_holds(random);
         // Often the one that has the most waiting.
         let busiest = (0..CAMPAIGNS).max_by_key(|&campaign| holds[campaign]).expect("four campaigns");
@@ -43,22 +43,22 @@ impl Scene {
         let empty = tables::empty(random);
         let mut table = tables::sometimes_aged(random, tables::grown(random, empty, some_count(random)));
         // What waits may refer to the arrival, if it is one that is let in.
-        let (sent, ahead) = if random.one_in(6) {
+        let (arrival, ahead) = if random.one_in(6) {
             (any(random, &table, &[]), table.clone())
         } else {
-            let sent = good(random, &table);
-            let ahead = with(&table, &sent.block);
-            (sent, ahead)
+            let arrival = good(random, &table);
+            let ahead = with(&table, &arrival.block);
+            (arrival, ahead)
         };
         let shelf = holding(random, &holds, &table, &ahead);
         if random.one_in(4) {
             hold_one(random, &mut table, &shelf, campaign);
         }
-        Scene { campaign, table, sent, shelf }
+        ShelfCase { campaign, table, arrival, shelf }
     }
 
     fn sides(&self, shelf: Vec<u8>) -> Sides {
-        Sides::new(Lent { table: self.table.to_bytes(), shelf, ..Lent::default() })
+        Sides::new(Buffers { table: self.table.to_bytes(), shelf, ..Buffers::default() })
     }
 }
 
@@ -86,12 +86,12 @@ const ARRIVALS_A_SHELF: usize = 3;
 
 /// The arrival that what waits was drawn for, and others before it.
 fn shelves_in_form(random: &Random, compare: &mut Compare) -> Result<(), Difference> {
-    let scene = Scene::drawn(random);
-    let mut sides = scene.sides(scene.shelf.to_bytes());
+    let case = ShelfCase::drawn(random);
+    let mut sides = case.sides(case.shelf.to_bytes());
     for _ in 0..random.below(ARRIVALS_A_SHELF) {
-        arrive(random, compare, &mut sides, scene.campaign, &other_arrival(random, &scene), some_room(random))?;
+        arrive(random, compare, &mut sides, case.campaign, &other_arrival(random, &case), some_room(random))?;
     }
-    arrive(random, compare, &mut sides, scene.campaign, &scene.sent, some_room(random))
+    arrive(random, compare, &mut sides, case.campaign, &case.arrival, some_room(random))
 }
 
 /// A block arrives, and the laws are held against what comes of it.
@@ -100,21 +100,21 @@ fn arrive(
     compare: &mut Compare,
     sides: &mut Sides,
     campaign: u8,
-    sent: &Sent,
+    arrival: &Arrival,
     room: usize,
 ) -> Result<(), Difference> {
-    let brought = bring(random, compare, sides, campaign, sent, room)?;
-    laws::check_brought(&brought)
+    let facts = arrival_facts(random, compare, sides, campaign, arrival, room)?;
+    laws::check_arrival(&facts)
 }
 
 /// Mostly one that comes to wait, if there is a place.
-fn other_arrival(random: &Random, scene: &Scene) -> Sent {
-    let own: Vec<Entry> = scene.shelf.of(scene.campaign).copied().collect();
-    let waiting = random.pick(&[&own, &own, scene.shelf.waiting()]);
+fn other_arrival(random: &Random, case: &ShelfCase) -> Arrival {
+    let own: Vec<Entry> = case.shelf.of(case.campaign).copied().collect();
+    let waiting = random.pick(&[&own, &own, case.shelf.waiting()]);
     match random.below(6) {
-        0 => any(random, &scene.table, &[]),
-        1..=3 if !waiting.is_empty() => Sent { block: random.pick(waiting).block().to_vec(), verdict: 1 },
-        _ => Sent { block: lacking(random, &scene.table), verdict: 1 },
+        0 => any(random, &case.table, &[]),
+        1..=3 if !waiting.is_empty() => Arrival { block: random.pick(waiting).block().to_vec(), verdict: 1 },
+        _ => Arrival { block: lacking(random, &case.table), verdict: 1 },
     }
 }
 
@@ -124,28 +124,28 @@ const EVERY_BIT_ONE_IN: usize = 400;
 
 /// Each damage is done to the shelf as it was, so that mostly one thing is wrong.
 fn damaged_shelves(random: &Random, compare: &mut Compare) -> Result<(), Difference> {
-    let scene = Scene::drawn(random);
+    let case = ShelfCase::drawn(random);
     if random.one_in(EVERY_BIT_ONE_IN) {
-        return every_bit(compare, scene.shelf.to_bytes());
+        return every_bit(compare, case.shelf.to_bytes());
     }
     for _ in 0..DAMAGES_A_SHELF {
-        let mut bytes = damaged(random, &scene.shelf, &scene.table);
+        let mut bytes = damaged(random, &case.shelf, &case.table);
         // Now and then two things.
         if random.one_in(12) {
             random.flip_bit(&mut bytes);
         }
         compare.shelf_in_form(&bytes)?;
-        compare.counts.shelves.damaged(&bytes);
-        let mut sides = scene.sides(bytes);
+        compare.counts.shelves.damage(&bytes);
+        let mut sides = case.sides(bytes);
         if random.one_in(8) {
-            let table = table_damage::damaged(random, &scene.table);
-            sides.each(|lent| lent.table.clone_from(&table));
+            let table = table_damage::damaged(random, &case.table);
+            sides.each(|buffers| buffers.table.clone_from(&table));
         }
-        let campaign = if random.one_in(8) { random.byte() } else { scene.campaign };
-        let sent = if random.one_in(2) { &scene.sent } else { &other_arrival(random, &scene) };
+        let campaign = if random.one_in(8) { random.byte() } else { case.campaign };
+        let arrival = if random.one_in(2) { &case.arrival } else { &other_arrival(random, &case) };
         // So few often, that this meets the shelf's damage and the table's.
         let room = if random.one_in(4) { random.below(OUTCOMES_NUMBERS) } else { some_room(random) };
-        arrive(random, compare, &mut sides, campaign, sent, room)?;
+        arrive(random, compare, &mut sides, campaign, arrival, room)?;
     }
     Ok(())
 }

@@ -2,7 +2,7 @@
 
 use crate::comparing::compare::Compare;
 use crate::comparing::difference::Difference;
-use crate::comparing::facts::watch::Seen;
+use crate::comparing::facts::watch::WatchAnswers;
 use crate::comparing::laws;
 use crate::drawing::random::Random;
 use crate::drawing::table_damage::damaged;
@@ -20,7 +20,7 @@ pub fn run(random: &Random, compare: &mut Compare) -> Result<(), Difference> {
     for _ in 0..TABLES_A_CASE {
         let table = some_table(random);
         if random.one_in(WHOLE_ONE_IN) {
-            laws::check_seen(&Seen::of(compare, table)?)?;
+            laws::check_watch(&WatchAnswers::of(compare, table)?)?;
         } else {
             look(random, compare, &table)?;
         }
@@ -40,12 +40,12 @@ fn some_table(random: &Random) -> Table {
 fn look(random: &Random, compare: &mut Compare, table: &Table) -> Result<(), Difference> {
     let bytes = if random.one_in(4) { damaged(random, table) } else { table.to_bytes() };
     let forked = compare.forks(&bytes)?;
-    compare.counts.watched.forks(&bytes, forked);
+    compare.counts.watched_tables.forks(&bytes, forked);
     for _ in 0..PLACES_A_TABLE {
         // The last place has the most below it.
         let place = random.pick(&[table.count.saturating_sub(1), any_target(random, table.count)]);
         let ancestors = compare.ancestors(&bytes, place)?;
-        compare.counts.watched.ancestors(&bytes, place, ancestors);
+        compare.counts.watched_tables.ancestors(&bytes, place, ancestors);
     }
     Ok(())
 }

@@ -3,11 +3,11 @@
 
 use std::collections::{HashMap, HashSet};
 
-use crate::comparing::buffers::{Lent, Sides};
+use crate::comparing::buffers::{Buffers, Sides};
 use crate::comparing::compare::Compare;
 use crate::comparing::difference::Difference;
-use crate::comparing::facts::site::Kept;
-use crate::comparing::laws::{self, Recorded};
+use crate::comparing::facts::site::SiteWithLedger;
+use crate::comparing::laws::{self, SiteAfterCall};
 use crate::drawing::random::Random;
 use crate::drawing::record_contents::any_numbers;
 use crate::model::answer::Answer;
@@ -16,19 +16,19 @@ use crate::model::record::{part_at, Act};
 use crate::model::sizes::{SLOTS, TABLE_BYTES};
 use crate::model::table::Table;
 
-impl Kept {
-    /// With a fresh table and any records.
+impl SiteWithLedger {
+    /// A site with a fresh table and any records.
     pub fn new(
         random: &Random,
         compare: &mut Compare,
         (sites, owners): (u8, [u8; SLOTS]),
         numbers: usize,
         first_law: Option<usize>,
-    ) -> Result<Kept, Difference> {
+    ) -> Result<SiteWithLedger, Difference> {
         let mut table = random.bytes(TABLE_BYTES);
         compare.fresh(sites, &owners, &mut table)?;
-        Ok(Kept {
-            sides: Sides::new(Lent::new(table, any_numbers(random, numbers))),
+        Ok(SiteWithLedger {
+            sides: Sides::new(Buffers::new(table, any_numbers(random, numbers))),
             ledger: Ledger::new(sites, owners, numbers, compare.model.taking_back.counts),
             first_law,
             parts: HashMap::new(),
@@ -39,48 +39,51 @@ impl Kept {
 
     pub fn admit(&mut self, compare: &mut Compare, bytes: &[u8], verdict: u8) -> Result<Answer, Difference> {
         let answer = compare.admit(&mut self.sides, bytes, verdict)?;
-        let by_ledger = self.ledger.admit(bytes, verdict);
-        self.check(answer, by_ledger)
+        let ledger_answer = self.ledger.admit(bytes, verdict);
+        self.check(answer, ledger_answer)
     }
 
     pub fn interpret(&mut self, compare: &mut Compare, place: usize) -> Result<Answer, Difference> {
         let answer = compare.interpret(&mut self.sides, place)?;
-        let by_ledger = self.ledger.interpret(place);
+        let ledger_answer = self.ledger.interpret(place);
         if answer.refusal == 0 && place < self.ledger.count() {
             self.note(compare, place);
         }
-        self.check(answer, by_ledger)
+        self.check(answer, ledger_answer)
     }
 
     pub fn retire(&mut self, compare: &mut Compare) -> Result<Answer, Difference> {
-        let first = Table::from_bytes(&self.left().table).rows[0].digest;
+        let first = Table::from_bytes(&self.buffers().table).rows[0].digest;
         let answer = compare.retire(&mut self.sides)?;
-        let by_ledger = self.ledger.retire();
+        let ledger_answer = self.ledger.retire();
         if answer.refusal == 0 {
             self.retired.insert(first);
         }
-        self.check(answer, by_ledger)
+        self.check(answer, ledger_answer)
     }
 
     pub fn take_back(&mut self, compare: &mut Compare) -> Result<Answer, Difference> {
         let answer = compare.take_back(&mut self.sides)?;
-        let by_ledger = self.ledger.take_back();
-        self.check(answer, by_ledger)
+        let ledger_answer = self.ledger.take_back();
+        self.check(answer, ledger_answer)
     }
 
-    /// What was written for a place.
+    /// Notes the part that was written for a place.
     fn note(&mut self, compare: &mut Compare, place: usize) {
-        let part = part_at(&self.left().records, place);
-        compare.counts.campaigns.made(&part);
+        let part = part_at(&self.buffers().records, place);
+        compare.counts.campaigns.acts(&part);
         for (numbers, record) in self.delivered.iter_mut().zip(&part) {
             numbers.extend(Some(record[Act::Deliver.so_far()]).filter(|&number| number != 0));
         }
         self.parts.insert(self.ledger.at(place).digest, part);
     }
 
-    fn check(&self, answer: Answer, by_ledger: Answer) -> Result<Answer, Difference> {
+    fn check(&self, answer: Answer, ledger_answer: Answer) -> Result<Answer, Difference> {
         if let Some(first) = self.first_law {
-            laws::check_recorded(&Recorded { ledger: &self.ledger, lent: self.left(), answer, by_ledger }, first)?;
+            laws::check_site_after_call(
+                &SiteAfterCall { ledger: &self.ledger, buffers: self.buffers(), answer, ledger_answer },
+                first,
+            )?;
         }
         Ok(answer)
     }

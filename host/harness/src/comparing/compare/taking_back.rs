@@ -1,15 +1,15 @@
 //! A taking back straight after an admission.
 
-use crate::comparing::buffers::{Lent, Sides};
+use crate::comparing::buffers::{Buffers, Sides};
 use crate::comparing::compare::Compare;
 use crate::comparing::difference::Difference;
-use crate::comparing::laws::GivenBack;
+use crate::comparing::laws::AdmissionTakenBack;
 
-impl GivenBack {
+impl AdmissionTakenBack {
     /// Takes back on a copy of the table that the admission left.
-    pub fn of(compare: &mut Compare, before: Vec<u8>, admitted: &[u8]) -> Result<GivenBack, Difference> {
-        let mut sides = Sides::new(Lent { table: admitted.to_vec(), ..Lent::default() });
+    pub fn of(compare: &mut Compare, before: Vec<u8>, admitted: &[u8]) -> Result<AdmissionTakenBack, Difference> {
+        let mut sides = Sides::new(Buffers { table: admitted.to_vec(), ..Buffers::default() });
         let answer = compare.take_back(&mut sides)?;
-        Ok(GivenBack { before, answer, after: sides.tested.table })
+        Ok(AdmissionTakenBack { before, answer, after: sides.tested.table })
     }
 }

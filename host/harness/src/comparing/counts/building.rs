@@ -2,8 +2,8 @@
 
 use std::fmt::{self, Display, Formatter};
 
-use crate::comparing::buffers::Next;
-use crate::drawing::tables_with_forks::left;
+use crate::comparing::buffers::NextBlock;
+use crate::drawing::tables_with_forks::places_left;
 use crate::model::answer::Answer;
 use crate::model::sizes::{MAX_BLOCK_BYTES, MAX_REFERENCES, PLACES};
 use crate::model::table::Table;
@@ -32,19 +32,19 @@ pub struct BuiltBlocks {
 
 impl BuiltBlocks {
     /// What was answered to an output of so many bytes.
-    pub fn asked(&mut self, next: &Next, answer: Answer, room: usize) {
+    pub fn answer(&mut self, next: &NextBlock, answer: Answer, room: usize) {
         let table = Table::from_bytes(next.table);
         match answer.refusal {
-            0 => self.built(&table, next.site, answer.value, room),
+            0 => self.block(&table, next.site, answer.value, room),
             16 => self.lower_fork += u64::from(forked_below(&table, next.site)),
             _ => {}
         }
     }
 
-    fn built(&mut self, table: &Table, site: u8, length: usize, room: usize) {
+    fn block(&mut self, table: &Table, site: u8, length: usize, room: usize) {
         let own = table.own(site).next().is_some();
         let fit = MAX_REFERENCES - usize::from(own);
-        let left = left(table, site).len();
+        let left = places_left(table, site).len();
         self.all += 1;
         self.without_own += u64::from(!own);
         self.none_left += u64::from(left == 0);
@@ -58,11 +58,11 @@ impl BuiltBlocks {
         self.longer_output += u64::from(length < room);
     }
 
-    pub fn short(&mut self, room: usize, answer: Answer) {
+    pub fn short_output(&mut self, room: usize, answer: Answer) {
         self.short_by_one += u64::from(answer.refusal == 17 && answer.value == room + 1);
     }
 
-    pub fn admitted(&mut self, answer: Answer) {
+    pub fn admission(&mut self, answer: Answer) {
         for (times, refusal) in self.admitted.iter_mut().zip([0, 8, 11]) {
             *times += u64::from(answer.refusal == refusal);
         }

@@ -2,17 +2,18 @@
 
 use std::fmt::{self, Display, Formatter};
 
-use crate::comparing::facts::two_sites::{different, Ends};
+use super::of_site_count;
+use crate::comparing::facts::two_sites::{different, TwoSites};
 use crate::model::record::{Act, Part, ACTS};
 use crate::model::sizes::{SITE_COUNTS, SLOTS};
 
 #[derive(Default)]
 pub struct Campaigns {
     all: u64,
-    /// With forked sites, at most f of them; and with more.
+    /// Campaigns with forked sites, at most f of them; and with more.
     few_forked: u64,
     many_forked: u64,
-    /// With a slot delivered at some site, and at both.
+    /// Campaigns with a slot delivered at some site, and at both.
     delivering: u64,
     delivering_at_both: u64,
     /// What the laws are about: with two numbers sent in a slot by at most f forked sites, and one delivered; and, with
@@ -27,45 +28,44 @@ pub struct Campaigns {
 
 impl Campaigns {
     /// What a block has made.
-    pub fn made(&mut self, part: &Part) {
+    pub fn acts(&mut self, part: &Part) {
         for (count, act) in self.acts.iter_mut().zip(ACTS) {
             *count += part.iter().filter(|record| record[act.made()] != 0).count() as u64;
         }
     }
 
     /// What a campaign came to.
-    pub fn ended(&mut self, ends: &Ends) {
-        let few = ends.few_forked();
-        let slots: [InSlot; SLOTS] = std::array::from_fn(|slot| InSlot::of(ends, slot));
-        let some = |holds: fn(&InSlot) -> bool| u64::from(slots.iter().any(holds));
+    pub fn campaign(&mut self, two_sites: &TwoSites) {
+        let few = two_sites.few_forked();
+        let slots: [SlotNumbers; SLOTS] = std::array::from_fn(|slot| SlotNumbers::of(two_sites, slot));
+        let some = |holds: fn(&SlotNumbers) -> bool| u64::from(slots.iter().any(holds));
         let delivers = some(|slot| !slot.delivered.is_empty());
         self.all += 1;
-        self.few_forked += u64::from(few && ends.forked() != 0);
+        self.few_forked += u64::from(few && two_sites.forked() != 0);
         self.many_forked += u64::from(!few);
         self.delivering += delivers;
         self.delivering_at_both += some(|slot| slot.delivered_at_both);
         self.put_to_the_test += u64::from(few) * some(|slot| different(&slot.sent) && !slot.delivered.is_empty());
         self.two_delivered += u64::from(!few) * some(|slot| different(&slot.delivered));
-        self.interpreted_at_both += ends.interpreted_at_both().count() as u64;
-        let index = SITE_COUNTS.iter().position(|&sites| sites == ends.site_count());
-        let [all, delivering] = &mut self.by_sites[index.expect("a lawful setup")];
+        self.interpreted_at_both += two_sites.interpreted_at_both().count() as u64;
+        let [all, delivering] = of_site_count(&mut self.by_sites, two_sites.site_count());
         *all += 1;
         *delivering += delivers;
     }
 }
 
 /// The numbers of one slot, of both sites.
-struct InSlot {
+struct SlotNumbers {
     sent: Vec<u16>,
     delivered: Vec<u16>,
     delivered_at_both: bool,
 }
 
-impl InSlot {
-    fn of(ends: &Ends, slot: usize) -> InSlot {
-        let delivered_at_both = ends.sites.iter().all(|site| !site.numbers(slot, Act::Deliver).is_empty());
-        let [sent, delivered] = [Act::Send, Act::Deliver].map(|act| ends.numbers(slot, act));
-        InSlot { sent, delivered, delivered_at_both }
+impl SlotNumbers {
+    fn of(two_sites: &TwoSites, slot: usize) -> SlotNumbers {
+        let delivered_at_both = two_sites.sites.iter().all(|site| !site.numbers(slot, Act::Deliver).is_empty());
+        let [sent, delivered] = [Act::Send, Act::Deliver].map(|act| two_sites.numbers(slot, act));
+        SlotNumbers { sent, delivered, delivered_at_both }
     }
 }
 

@@ -2,7 +2,8 @@
 
 use std::fmt::{self, Display, Formatter};
 
-use crate::comparing::laws::Promised;
+use super::of_site_count;
+use crate::comparing::laws::SitePromises;
 use crate::model::promise::Promise;
 use crate::model::record::Act;
 use crate::model::sizes::{SITE_COUNTS, SLOTS};
@@ -20,35 +21,35 @@ pub struct Groups {
     delivering: u64,
 }
 
-/// What one group has met, at some of its sites and at some time.
+/// How one group has met the premises of arrival, at some of its sites and at some time.
 #[derive(Default)]
-pub struct Met {
+pub struct PremisesMet {
     any: bool,
-    /// Where they were met, a forked site was among the blocks held.
+    /// The premises were met where a forked site was among the blocks held.
     with_forks: bool,
-    /// No more sites were full than have to be.
+    /// The premises were met where no more sites were full than have to be.
     with_fewest: bool,
     /// The last blocks, counted at each site, at each time and in each slot; and those that deliver themselves.
     lasts: u64,
     delivering: u64,
 }
 
-impl Met {
+impl PremisesMet {
     /// What a site holds.
-    pub fn note(&mut self, promised: &Promised) {
+    pub fn note(&mut self, site: &SitePromises) {
         for slot in 0..SLOTS {
-            if let Some(promise) = &promised.promises[slot] {
-                self.promise(promised, slot, promise);
+            if let Some(promise) = &site.promises[slot] {
+                self.promise(site, slot, promise);
             }
         }
     }
 
-    fn promise(&mut self, promised: &Promised, slot: usize, promise: &Promise) {
-        let held = promised.held;
+    fn promise(&mut self, site: &SitePromises, slot: usize, promise: &Promise) {
+        let held = site.held;
         self.any = true;
         self.with_forks |= held.forked() != 0;
         self.with_fewest |= held.full().count_ones() == held.enough();
-        let delivers = |place: &usize| promised.number(*place, slot, Act::Deliver.made()) != 0;
+        let delivers = |place: &usize| site.number(*place, slot, Act::Deliver.made()) != 0;
         self.lasts += places(promise.lasts).count() as u64;
         self.delivering += places(promise.lasts).filter(delivers).count() as u64;
     }
@@ -56,15 +57,14 @@ impl Met {
 
 impl Groups {
     /// What a group of so many sites has met.
-    pub fn ended(&mut self, sites: u8, met: &Met) {
+    pub fn group(&mut self, sites: u8, met: &PremisesMet) {
         self.all += 1;
         self.met += u64::from(met.any);
         self.met_with_forks += u64::from(met.with_forks);
         self.met_with_fewest += u64::from(met.with_fewest);
         self.lasts += met.lasts;
         self.delivering += met.delivering;
-        let index = SITE_COUNTS.iter().position(|&count| count == sites);
-        let [all, any, with_forks] = &mut self.by_sites[index.expect("a lawful setup")];
+        let [all, any, with_forks] = of_site_count(&mut self.by_sites, sites);
         *all += 1;
         *any += u64::from(met.any);
         *with_forks += u64::from(met.with_forks);

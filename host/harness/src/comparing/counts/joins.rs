@@ -3,9 +3,11 @@
 use std::fmt::{self, Display, Formatter};
 
 use super::Times;
-use crate::comparing::facts::join::Joined;
-use crate::comparing::facts::two_sites::Ends;
-use crate::model::joining::{at_left, at_right, blocks, clashes, in_both, others, referred, rows, Block, Both, Two};
+use crate::comparing::facts::join::JoinFacts;
+use crate::comparing::facts::two_sites::TwoSites;
+use crate::model::joining::{
+    at_left, at_right, blocks, clashes, in_both, others, referred, rows, Block, JoinInput, SharedBlock,
+};
 use crate::model::record::{part_at, Act};
 use crate::model::sizes::{BUFFER_NUMBERS, PLACES, SLOTS, TABLE_BYTES};
 use crate::model::table::{Row, Table};
@@ -68,37 +70,37 @@ const LENGTHS: [&str; 10] = [
 const GONE_ON: [&str; 2] = ["joined sites that went on", "joined sites that went on and delivered"];
 
 impl Joins {
-    pub fn joined(&mut self, joined: &Joined) {
-        let numbers = [&joined.left.records, &joined.right.records, &joined.third].map(Vec::len);
-        let [left, right] = [&joined.left.table, &joined.right.table].map(|bytes| Table::from_bytes(bytes));
-        let two = Two { left, right, left_in_form: true, right_in_form: true, numbers };
-        match joined.answer.refusal {
+    pub fn join(&mut self, facts: &JoinFacts) {
+        let numbers = [&facts.left.records, &facts.right.records, &facts.third].map(Vec::len);
+        let [left, right] = [&facts.left.table, &facts.right.table].map(|bytes| Table::from_bytes(bytes));
+        let input = JoinInput { left, right, left_in_form: true, right_in_form: true, numbers };
+        match facts.answer.refusal {
             0 => {
-                self.sides.note(sides(&two));
-                self.blocks.note(held(&two, joined));
-                self.result(blocks(&two).len(), &two);
+                self.sides.note(sides(&input));
+                self.blocks.note(marks_and_parts(&input, facts));
+                self.result(blocks(&input).len(), &input);
             }
-            2 | 12 => self.lengths.note(lengths(&two)),
-            23 => self.setups.note(setups(&two)),
-            24 => self.clashes.note(clashing(&two)),
-            _ => self.result(blocks(&two).len(), &two),
+            2 | 12 => self.lengths.note(lengths(&input)),
+            23 => self.setups.note(setups(&input)),
+            24 => self.clashes.note(clashing(&input)),
+            _ => self.result(blocks(&input).len(), &input),
         }
     }
 
-    fn result(&mut self, count: usize, two: &Two) {
-        let not_full = two.left.count < PLACES && two.right.count < PLACES;
+    fn result(&mut self, count: usize, input: &JoinInput) {
+        let not_full = input.left.count < PLACES && input.right.count < PLACES;
         self.results.note([count == PLACES - 1, count == PLACES, count == PLACES + 1, count > PLACES + 1 && not_full]);
     }
 
     /// A joined site, and one that got all blocks.
-    pub fn went_on(&mut self, ends: &Ends) {
-        let delivered = (0..SLOTS).any(|slot| !ends.sites[0].numbers(slot, Act::Deliver).is_empty());
+    pub fn site_after_join(&mut self, two_sites: &TwoSites) {
+        let delivered = (0..SLOTS).any(|slot| !two_sites.sites[0].numbers(slot, Act::Deliver).is_empty());
         self.gone_on.note([true, delivered]);
     }
 }
 
-fn sides(two: &Two) -> [bool; 9] {
-    let [left, right, both] = [two.left.count, two.right.count, in_both(two).count()];
+fn sides(input: &JoinInput) -> [bool; 9] {
+    let [left, right, both] = [input.left.count, input.right.count, in_both(input).count()];
     [
         both > 0 && both < left && both < right,
         both > 0 && both < left && both == right,
@@ -112,18 +114,18 @@ fn sides(two: &Two) -> [bool; 9] {
     ]
 }
 
-fn held(two: &Two, joined: &Joined) -> [bool; 6] {
-    let marks = |block: &Block| (at_left(two, *block).is_some(), at_right(two, *block).is_some());
-    let blocks = blocks(two);
+fn marks_and_parts(input: &JoinInput, facts: &JoinFacts) -> [bool; 6] {
+    let marks = |block: &Block| (at_left(input, *block).is_some(), at_right(input, *block).is_some());
+    let blocks = blocks(input);
     let some = |wanted: (bool, bool)| blocks.iter().any(|block| marks(block) == wanted);
-    let after = Table::from_bytes(&joined.after.table);
+    let after = Table::from_bytes(&facts.after.table);
     let moves = |(block, row): (&Block, &Row)| match block {
-        Block { left: None, right: Some(place) } => two.right.rows[*place].references != row.references,
+        Block { left: None, right: Some(place) } => input.right.rows[*place].references != row.references,
         _ => false,
     };
     let other_parts = |block: &Block| match block {
         Block { left: Some(left), right: Some(right) } if marks(block) == (true, true) => {
-            part_at(&joined.left.records, *left) != part_at(&joined.right.records, *right)
+            part_at(&facts.left.records, *left) != part_at(&facts.right.records, *right)
         }
         _ => false,
     };
@@ -137,20 +139,20 @@ fn held(two: &Two, joined: &Joined) -> [bool; 6] {
     ]
 }
 
-fn setups(two: &Two) -> [bool; 2] {
-    let owners = (0..SLOTS).filter(|&slot| two.left.owners[slot] != two.right.owners[slot]).count();
-    let sites = two.left.sites != two.right.sites;
+fn setups(input: &JoinInput) -> [bool; 2] {
+    let owners = (0..SLOTS).filter(|&slot| input.left.owners[slot] != input.right.owners[slot]).count();
+    let sites = input.left.sites != input.right.sites;
     [sites && owners == 0, !sites && owners == 1]
 }
 
-fn clashing(two: &Two) -> [bool; 8] {
-    let all: Vec<Both> = in_both(two).filter(|&both| others(two, both)).collect();
-    let too_great = blocks(two).len() > PLACES;
+fn clashing(input: &JoinInput) -> [bool; 8] {
+    let all: Vec<SharedBlock> = in_both(input).filter(|&both| others(input, both)).collect();
+    let too_great = blocks(input).len() > PLACES;
     let [both] = all[..] else { return [false, false, false, false, false, false, true, too_great] };
-    let [left, right] = rows(two, both);
+    let [left, right] = rows(input, both);
     let [site, sequence] = [left.site != right.site, left.sequence != right.sequence];
     let requests = (0..SLOTS).filter(|&slot| left.requests[slot] != right.requests[slot]).count();
-    let [more, fewer] = [referred(&two.left, left), referred(&two.right, right)];
+    let [more, fewer] = [referred(&input.left, left), referred(&input.right, right)];
     let references = more != fewer;
     let references_alone = references && !site && !sequence && requests == 0;
     [
@@ -160,16 +162,16 @@ fn clashing(two: &Two) -> [bool; 8] {
         references_alone && fewer.iter().all(|digest| more.contains(digest)),
         references_alone && more.iter().all(|digest| fewer.contains(digest)),
         references_alone && more.len() == fewer.len(),
-        clashes(two, others).count() > 1,
+        clashes(input, others).count() > 1,
         too_great,
     ]
 }
 
 /// Of the five lengths, the only one that is wrong.
-fn lengths(two: &Two) -> [bool; 10] {
-    let [left, right, third] = two.numbers;
+fn lengths(input: &JoinInput) -> [bool; 10] {
+    let [left, right, third] = input.numbers;
     let rights = [TABLE_BYTES, TABLE_BYTES, BUFFER_NUMBERS, BUFFER_NUMBERS, BUFFER_NUMBERS];
-    let found = [two.left.length, two.right.length, left, right, third];
+    let found = [input.left.length, input.right.length, left, right, third];
     let wrong = (0..rights.len()).filter(|&at| found[at] != rights[at]).count();
     let off = |at: usize| {
         let (at, longer) = (at / 2, at % 2 == 1);

@@ -2,8 +2,8 @@
 
 use std::fmt::{self, Display, Formatter};
 
-use super::Answered;
-use crate::model::listing::{first, Arrived, Line, LENGTH_BYTES, SETUP_BYTES};
+use super::{of_site_count, AnswerCounts};
+use crate::model::listing::{first, Line, StreamArrival, LENGTH_BYTES, SETUP_BYTES};
 use crate::model::sizes::{HEADER_BYTES, MAX_BLOCK_BYTES, PLACES, SITE_COUNTS};
 
 #[derive(Default)]
@@ -18,22 +18,22 @@ pub struct Listings {
     by_sites: [[u64; 2]; SITE_COUNTS.len()],
     several_slots: u64,
     several_sites: u64,
-    /// With deliveries in two blocks of one site and sequence number.
+    /// Listings with deliveries in two blocks of one site and sequence number.
     both_branches: u64,
     full_table: u64,
     many_arrivals: u64,
-    /// Of more bytes than a pipe holds.
+    /// Inputs of more bytes than a pipe holds.
     long: u64,
-    cut: Cut,
+    cut: CutInputs,
     arrivals: Arrivals,
     deliveries: u64,
-    /// Those that come after another of the same block.
+    /// Deliveries that come after another of the same block.
     deliveries_again: u64,
 }
 
 /// Inputs that end in an arrival.
 #[derive(Default)]
-struct Cut {
+struct CutInputs {
     in_length: u64,
     before_verdict: u64,
     in_block: u64,
@@ -42,12 +42,12 @@ struct Cut {
 
 #[derive(Default)]
 struct Arrivals {
-    answered: Answered,
+    answers: AnswerCounts,
     over_long: u64,
     short: u64,
-    /// Of 541 bytes and not refused with 3.
+    /// Arrivals of 541 bytes, not refused with 3.
     longest: u64,
-    /// Refused with 8 while the table is full.
+    /// Arrivals refused with 8 while the table is full.
     held_in_full_table: u64,
 }
 
@@ -64,7 +64,7 @@ impl Listings {
     }
 
     /// An input and the lines that it gives.
-    pub fn listed(&mut self, input: &[u8], lines: &[Line]) {
+    pub fn listing(&mut self, input: &[u8], lines: &[Line]) {
         self.all += 1;
         self.long += u64::from(input.len() > PIPE_BYTES);
         let (setup, arrivals) = input.split_at(input.len().min(SETUP_BYTES));
@@ -80,8 +80,7 @@ impl Listings {
 
     fn lawful(&mut self, sites: u8, arrivals: &[u8], lines: &[Line]) {
         let deliveries: Vec<&Line> = lines.iter().filter(|line| line.refusal == 0).collect();
-        let index = SITE_COUNTS.iter().position(|&count| count == sites);
-        let [all, delivering] = &mut self.by_sites[index.expect("a lawful setup")];
+        let [all, delivering] = of_site_count(&mut self.by_sites, sites);
         *all += 1;
         *delivering += u64::from(!deliveries.is_empty());
         self.without_arrival += u64::from(arrivals.is_empty());
@@ -93,17 +92,17 @@ impl Listings {
             some(|one, other| (one.site, one.sequence) == (other.site, other.sequence) && one.place != other.place);
         let again = deliveries.windows(2).filter(|pair| pair[0].arrival == pair[1].arrival);
         self.deliveries_again += again.count() as u64;
-        self.arrived(arrivals, lines);
+        self.note_arrivals(arrivals, lines);
     }
 
-    fn arrived(&mut self, arrivals: &[u8], lines: &[Line]) {
+    fn note_arrivals(&mut self, arrivals: &[u8], lines: &[Line]) {
         let mut rest = arrivals;
         let (mut number, mut held) = (0, 0);
-        while let Some((arrived, after)) = first(rest) {
+        while let Some((arrival, after)) = first(rest) {
             let line = lines.iter().find(|line| line.arrival == Some(number));
             let refusal = line.map_or(0, |line| line.refusal);
-            self.arrivals.note(&arrived, refusal, held == PLACES);
-            if let Arrived::Cut = arrived {
+            self.arrivals.note(&arrival, refusal, held == PLACES);
+            if let StreamArrival::Cut = arrival {
                 self.cut.note(rest);
             }
             held += usize::from(refusal == 0);
@@ -121,21 +120,21 @@ fn some_pair(lines: &[&Line], holds: fn(&Line, &Line) -> bool) -> bool {
 }
 
 impl Arrivals {
-    fn note(&mut self, arrived: &Arrived, refusal: u8, full: bool) {
-        self.answered.note(refusal);
+    fn note(&mut self, arrival: &StreamArrival, refusal: u8, full: bool) {
+        self.answers.note(refusal);
         self.held_in_full_table += u64::from(full && refusal == 8);
-        match arrived {
-            Arrived::Block { block, .. } => {
+        match arrival {
+            StreamArrival::Block { block, .. } => {
                 self.short += u64::from(block.len() < HEADER_BYTES);
                 self.longest += u64::from(block.len() == MAX_BLOCK_BYTES && refusal != 3);
             }
-            Arrived::OverLong => self.over_long += 1,
-            Arrived::Cut => {}
+            StreamArrival::OverLong => self.over_long += 1,
+            StreamArrival::Cut => {}
         }
     }
 }
 
-impl Cut {
+impl CutInputs {
     /// What there is of the arrival.
     fn note(&mut self, bytes: &[u8]) {
         let length = bytes.first_chunk::<LENGTH_BYTES>().map(|length| u16::from_be_bytes(*length));
@@ -171,9 +170,9 @@ impl Display for Listings {
         line("listings cut before a verdict", self.cut.before_verdict)?;
         line("listings cut in a block", self.cut.in_block)?;
         line("listings cut in an over-long arrival", self.cut.in_over_long)?;
-        line("arrivals listed", self.arrivals.answered.all())?;
+        line("arrivals listed", self.arrivals.answers.all())?;
         for &number in ANSWERS {
-            line(&format!("arrivals answered {number}"), self.arrivals.answered.0[usize::from(number)])?;
+            line(&format!("arrivals answered {number}"), self.arrivals.answers.0[usize::from(number)])?;
         }
         line("arrivals answered 8 with a full table", self.arrivals.held_in_full_table)?;
         line("arrivals over-long", self.arrivals.over_long)?;

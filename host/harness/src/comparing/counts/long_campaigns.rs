@@ -2,10 +2,10 @@
 
 use std::fmt::{self, Display, Formatter};
 
-use crate::comparing::facts::long_campaign::LongCampaign;
+use crate::comparing::facts::long_campaign::LongCampaignFacts;
 
 #[derive(Default)]
-pub struct Lasted {
+pub struct LongCampaigns {
     campaigns: u64,
     sites: u64,
     blocks: u64,
@@ -16,14 +16,14 @@ pub struct Lasted {
     to_the_end: u64,
 }
 
-impl Lasted {
-    pub fn ended(&mut self, long: &LongCampaign) {
-        let sites = || long.sites.iter();
+impl LongCampaigns {
+    pub fn campaign(&mut self, facts: &LongCampaignFacts) {
+        let sites = || facts.sites.iter();
         self.campaigns += 1;
         self.sites += sites().len() as u64;
-        self.blocks += long.sites[0].ledger.counting().count() as u64;
+        self.blocks += facts.sites[0].ledger.counting().count() as u64;
         self.retirings += sites().map(|site| site.ledger.retirings() as u64).sum::<u64>();
-        self.when_full += long.when_full;
+        self.when_full += facts.when_full;
         self.takings_back += sites().map(|site| site.ledger.takings_back() as u64).sum::<u64>();
         self.deliveries += sites().flat_map(|site| &site.delivered).map(|numbers| numbers.len() as u64).sum::<u64>();
     }
@@ -34,7 +34,7 @@ impl Lasted {
     }
 }
 
-impl Display for Lasted {
+impl Display for LongCampaigns {
     fn fmt(&self, to: &mut Formatter) -> fmt::Result {
         let mut line = |name: &str, times: u64| super::line(to, name, times);
         line("long campaigns", self.campaigns)?;

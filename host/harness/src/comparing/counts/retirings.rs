@@ -3,7 +3,7 @@
 use std::fmt::{self, Display, Formatter};
 
 use super::Times;
-use crate::comparing::laws::Ever;
+use crate::comparing::laws::TwoLedgers;
 use crate::model::answer::Answer;
 use crate::model::retiring::{all_referring_interpreted, followed, interpreted};
 use crate::model::sizes::{BUFFER_NUMBERS, PLACES, SLOTS};
@@ -55,30 +55,30 @@ const CAMPAIGNS: [&str; 6] = [
 ];
 
 /// What a campaign's site knows of a block that comes.
-pub struct Coming {
-    /// It has left.
+pub struct BlockHistory {
+    /// The block was retired and isn't held.
     pub has_left: bool,
-    /// An admission of it was taken back.
+    /// An admission of the block was taken back.
     pub was_taken_back: bool,
-    /// It refers to one that has left and isn't held.
+    /// It refers to a block that was retired and isn't held.
     pub refers_to_lost: bool,
-    /// It refers to one that has left and came again.
+    /// It refers to a block that was retired and came again.
     pub refers_to_returned: bool,
 }
 
 impl Retirings {
     /// What a retiring was answered, by the table before it and how many numbers its records have.
-    pub fn asked(&mut self, table: &Table, numbers: usize, answer: Answer) {
+    pub fn answer(&mut self, table: &Table, numbers: usize, answer: Answer) {
         match answer.refusal {
-            0 => self.passed(table),
+            0 => self.success(table),
             12 => self.lengths.note([numbers + 1 == BUFFER_NUMBERS, numbers == BUFFER_NUMBERS + 1]),
             13 => self.emptied.note([table.retired == 1]),
-            29 => self.stayed(table),
+            29 => self.refusal_29(table),
             _ => {}
         }
     }
 
-    fn stayed(&mut self, table: &Table) {
+    fn refusal_29(&mut self, table: &Table) {
         let conditions = [interpreted(table), all_referring_interpreted(table), followed(table)];
         let first = table.rows[0];
         let others = || table.held().iter().skip(1);
@@ -94,7 +94,7 @@ impl Retirings {
         ]);
     }
 
-    fn passed(&mut self, table: &Table) {
+    fn success(&mut self, table: &Table) {
         let first = table.rows[0];
         let referring = || table.held().iter().filter(|row| row.references & 1 == 1);
         let child = |row: &Row| row.site == first.site && Some(row.sequence) == first.sequence.checked_add(1);
@@ -108,8 +108,8 @@ impl Retirings {
         ]);
     }
 
-    pub fn admitted(&mut self, answer: Answer, coming: &Coming) {
-        let Coming { has_left, refers_to_lost, refers_to_returned, .. } = *coming;
+    pub fn admission(&mut self, answer: Answer, history: &BlockHistory) {
+        let BlockHistory { has_left, refers_to_lost, refers_to_returned, .. } = *history;
         let [admitted, not_held] = [0, 9].map(|refusal| answer.refusal == refusal);
         self.admitted.note([
             has_left && admitted,
@@ -120,23 +120,23 @@ impl Retirings {
     }
 
     /// A place whose block may have been interpreted before it left.
-    pub fn interpreted(&mut self, answer: Answer, before: bool) {
+    pub fn interpretation(&mut self, answer: Answer, before: bool) {
         self.interpreted.note([before && answer.refusal == 0]);
     }
 
     /// What a campaign came to.
-    pub fn ended(&mut self, ever: &Ever) {
-        let [one, other] = ever.sites.map(|site| site.ledger.retirings());
+    pub fn campaign(&mut self, two_ledgers: &TwoLedgers) {
+        let [one, other] = two_ledgers.sites.map(|site| site.ledger.retirings());
         let both = one > 0 && other > 0;
-        let delivers = (0..SLOTS).any(|slot| ever.sites.iter().all(|site| !site.delivered[slot].is_empty()));
-        let named = ever.watched[0].sites | ever.watched[1].sites;
+        let delivers = (0..SLOTS).any(|slot| two_ledgers.sites.iter().all(|site| !site.delivered[slot].is_empty()));
+        let named = two_ledgers.watch_answers[0].sites | two_ledgers.watch_answers[1].sites;
         self.campaigns.note([
             both,
             both && delivers,
             both && one != other,
-            both && ever.forked() != 0 && ever.few_forked(),
-            ever.forked() & !named != 0,
-            ever.sites.iter().any(|site| site.ledger.counting().count() > PLACES),
+            both && two_ledgers.forked() != 0 && two_ledgers.few_forked(),
+            two_ledgers.forked() & !named != 0,
+            two_ledgers.sites.iter().any(|site| site.ledger.counting().count() > PLACES),
         ]);
     }
 }

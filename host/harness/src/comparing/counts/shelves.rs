@@ -2,8 +2,9 @@
 
 use std::fmt::{self, Display, Formatter};
 
-use crate::comparing::facts::arrival::Brought;
-use crate::comparing::facts::story::{Call, Story};
+use super::FormCounts;
+use crate::comparing::facts::arrival::ArrivalFacts;
+use crate::comparing::facts::campaign_run::{Call, CampaignRun};
 use crate::model::shelf::Shelf;
 use crate::model::shelf_form::DOCUMENT;
 use crate::model::sizes::{CAMPAIGNS, MAX_BLOCK_BYTES, MOST_HELD, PLACES, SHELF_PLACES};
@@ -14,8 +15,7 @@ const DROPPED: [u64; 4] = [4, 8, 10, 11];
 
 #[derive(Default)]
 pub struct Shelves {
-    in_form: u64,
-    not_in_form: u64,
+    pub shelves: FormCounts,
     /// Shelves of which each bit was changed in turn.
     pub every_bit: u64,
     /// Damaged shelves of which one condition of form alone doesn't hold, for each condition.
@@ -33,7 +33,7 @@ pub struct Shelves {
     full: u64,
     at_most: u64,
     for_two: u64,
-    nines: Nines,
+    without_reference: ArrivalsWithoutReference,
     /// Campaigns whose calls were made once more alone.
     alone: u64,
     alone_refused_19: u64,
@@ -44,28 +44,20 @@ pub struct Shelves {
 
 /// Arrivals that lack a reference.
 #[derive(Default)]
-struct Nines {
+struct ArrivalsWithoutReference {
     below_two: u64,
     last_place: u64,
     full_table: u64,
-    /// 19: to one that holds 10, and to one that doesn't.
+    /// 19 for a campaign that holds 10 places, and for one that holds fewer.
     at_most: u64,
     for_others: u64,
-    /// 20 where else it would be 19.
+    /// 20 where no place is left, so that it would be 19 for another block.
     no_place: u64,
     full_shelf: u64,
 }
 
 impl Shelves {
-    pub fn form(&mut self, in_form: bool) {
-        if in_form {
-            self.in_form += 1;
-        } else {
-            self.not_in_form += 1;
-        }
-    }
-
-    pub fn damaged(&mut self, shelf: &[u8]) {
+    pub fn damage(&mut self, shelf: &[u8]) {
         let shelf = Shelf::from_bytes(shelf);
         let broken = |condition: &usize| !(DOCUMENT[*condition].holds)(&shelf);
         let broken: Vec<usize> = (0..DOCUMENT.len()).filter(broken).collect();
@@ -74,40 +66,40 @@ impl Shelves {
         }
     }
 
-    pub fn brought(&mut self, brought: &Brought) {
-        let after = &brought.after.shelf;
-        let dropped = brought.dropped().count();
-        if brought.answer.refusal == 0 {
+    pub fn arrival(&mut self, facts: &ArrivalFacts) {
+        let after = &facts.after.shelf;
+        let dropped = facts.dropped().count();
+        if facts.answer.refusal == 0 {
             // More than a campaign can have waiting only wrong rules let in.
-            self.let_in[brought.let_in().min(MOST_HELD)] += 1;
+            self.let_in[facts.let_in().min(MOST_HELD)] += 1;
         }
         for (times, number) in self.dropped.iter_mut().zip(DROPPED) {
-            *times += brought.dropped().filter(|&other| other == number).count() as u64;
+            *times += facts.dropped().filter(|&other| other == number).count() as u64;
         }
-        self.let_in_and_dropped += u64::from(brought.let_in() > 0 && dropped > 0);
+        self.let_in_and_dropped += u64::from(facts.let_in() > 0 && dropped > 0);
         let longest =
-            brought.tries().filter(|(sent, answer)| answer.refusal == 0 && sent.block.len() == MAX_BLOCK_BYTES);
+            facts.tries().filter(|(arrival, answer)| answer.refusal == 0 && arrival.block.len() == MAX_BLOCK_BYTES);
         self.longest_let_in += longest.count() as u64;
-        self.two_passes += u64::from(brought.passes() >= 2);
-        self.five_passes += u64::from(brought.passes() >= 5);
-        self.ten_passes += u64::from(brought.passes() >= MOST_HELD);
-        if brought.in_form {
+        self.two_passes += u64::from(facts.passes() >= 2);
+        self.five_passes += u64::from(facts.passes() >= 5);
+        self.ten_passes += u64::from(facts.passes() >= MOST_HELD);
+        if facts.in_form {
             let mut held = (0..CAMPAIGNS as u8).map(|campaign| after.holds(campaign));
             self.full += u64::from(after.count == SHELF_PLACES);
             self.at_most += u64::from(held.any(|held| held == MOST_HELD));
             self.for_two += u64::from(for_two(after));
         }
-        self.nines.note(brought);
+        self.without_reference.note(facts);
     }
 
     /// What a campaign whose calls are made once more alone has met.
-    pub fn told(&mut self, story: &Story) {
-        let arrivals = story.calls.iter().zip(&story.replies).filter(|(call, _)| matches!(call, Call::Arrival(..)));
+    pub fn replayed_alone(&mut self, run: &CampaignRun) {
+        let arrivals = run.calls.iter().zip(&run.replies).filter(|(call, _)| matches!(call, Call::Arrival(..)));
         let met = |number: u8| u64::from(arrivals.clone().any(|(_, reply)| reply.answer.refusal == number));
         self.alone += 1;
         self.alone_refused_19 += met(19);
-        self.alone_let_in += u64::from(story.replies.iter().any(|reply| !reply.listed.is_empty()));
-        let passed = || story.calls.iter().zip(&story.replies).filter(|(_, reply)| reply.answer.refusal == 0);
+        self.alone_let_in += u64::from(run.replies.iter().any(|reply| !reply.listed.is_empty()));
+        let passed = || run.calls.iter().zip(&run.replies).filter(|(_, reply)| reply.answer.refusal == 0);
         self.alone_retired += u64::from(passed().any(|(call, _)| matches!(call, Call::Retiring)));
         self.alone_took_back += u64::from(passed().any(|(call, _)| matches!(call, Call::TakingBack)));
     }
@@ -119,14 +111,14 @@ fn for_two(shelf: &Shelf) -> bool {
     (0..waiting.len()).any(|later| waiting[..later].iter().any(|earlier| earlier.block() == waiting[later].block()))
 }
 
-impl Nines {
-    fn note(&mut self, brought: &Brought) {
-        let before = &brought.before.shelf;
-        let holds = before.holds(brought.campaign);
-        let spare = before.free().checked_sub(before.others_lack(brought.campaign));
-        match brought.answer.refusal {
+impl ArrivalsWithoutReference {
+    fn note(&mut self, facts: &ArrivalFacts) {
+        let before = &facts.before.shelf;
+        let holds = before.holds(facts.campaign);
+        let spare = before.free().checked_sub(before.others_lack(facts.campaign));
+        match facts.answer.refusal {
             9 => {
-                let full = Table::from_bytes(&brought.before.table).count == PLACES;
+                let full = Table::from_bytes(&facts.before.table).count == PLACES;
                 self.below_two += u64::from(holds < 2);
                 self.last_place += u64::from(spare == Some(1));
                 self.full_table += u64::from(full);
@@ -145,8 +137,8 @@ impl Nines {
 impl Display for Shelves {
     fn fmt(&self, to: &mut Formatter) -> fmt::Result {
         let mut line = |name: &str, times: u64| super::line(to, name, times);
-        line("shelves in form", self.in_form)?;
-        line("shelves not in form", self.not_in_form)?;
+        line("shelves in form", self.shelves.in_form)?;
+        line("shelves not in form", self.shelves.not_in_form)?;
         line("shelves with each bit flipped in turn", self.every_bit)?;
         for (condition, times) in DOCUMENT.iter().zip(self.one_broken) {
             line(&format!("broken alone: {}", condition.name), times)?;
@@ -166,13 +158,13 @@ impl Display for Shelves {
         line("full shelves", self.full)?;
         line("shelves with a campaign at 10", self.at_most)?;
         line("shelves with the same bytes for two campaigns", self.for_two)?;
-        line("9 for a campaign that holds fewer than 2", self.nines.below_two)?;
-        line("9 for the last place that others leave", self.nines.last_place)?;
-        line("9 with a full table", self.nines.full_table)?;
-        line("19 for a campaign at 10", self.nines.at_most)?;
-        line("19 for what others lack", self.nines.for_others)?;
-        line("20 where no place is left", self.nines.no_place)?;
-        line("20 with a full shelf", self.nines.full_shelf)?;
+        line("9 for a campaign that holds fewer than 2", self.without_reference.below_two)?;
+        line("9 for the last place that others leave", self.without_reference.last_place)?;
+        line("9 with a full table", self.without_reference.full_table)?;
+        line("19 for a campaign at 10", self.without_reference.at_most)?;
+        line("19 for what others lack", self.without_reference.for_others)?;
+        line("20 where no place is left", self.without_reference.no_place)?;
+        line("20 with a full shelf", self.without_reference.full_shelf)?;
         line("campaigns replayed alone", self.alone)?;
         line("campaigns replayed alone that got 19", self.alone_refused_19)?;
         line("campaigns replayed alone with waiting blocks ended", self.alone_let_in)?;

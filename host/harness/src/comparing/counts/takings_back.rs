@@ -3,9 +3,9 @@
 use std::fmt::{self, Display, Formatter};
 
 use super::Times;
-use crate::comparing::laws::Ever;
+use crate::comparing::laws::TwoLedgers;
 use crate::model::answer::Answer;
-use crate::model::ledger::{forked, Known, Ledger};
+use crate::model::ledger::{forked, Ledger, LedgerBlock};
 use crate::model::setup::faults;
 use crate::model::sizes::{PLACES, SLOTS};
 use crate::model::table::{places, Table};
@@ -21,7 +21,7 @@ pub struct TakingsBack {
     taken: Times<4>,
     admitted: Times<1>,
     of_shelf: Times<2>,
-    kept: Times<1>,
+    by_keepers: Times<1>,
     campaigns: Times<6>,
 }
 
@@ -49,7 +49,7 @@ const TAKEN: [&str; 4] = [
 const ADMITTED: [&str; 1] = ["blocks admitted again after they were taken back"];
 const OF_SHELF: [&str; 2] =
     ["blocks let in from the shelf taken back", "arrivals taken back with all that they let in"];
-const KEPT: [&str; 1] = ["takings back by sites that never retire"];
+const BY_KEEPERS: [&str; 1] = ["takings back by sites that never retire"];
 const CAMPAIGNS: [&str; 6] = [
     "campaigns with takings back at both sites",
     "campaigns with takings back and a delivery at both",
@@ -60,20 +60,20 @@ const CAMPAIGNS: [&str; 6] = [
 ];
 
 /// What a campaign's site knows of the block at its last place, before a taking back.
-pub struct Going {
-    /// The call before was its admission.
+pub struct LastBlockHistory {
+    /// The call before was the block's admission.
     pub just_admitted: bool,
-    /// It was retired and has come again.
+    /// The block was retired and has come again.
     pub has_returned: bool,
-    /// Another block of its site and number counts.
+    /// Another block of its site and sequence number counts.
     pub is_twin: bool,
 }
 
 impl TakingsBack {
     /// What a taking back was answered, by the table before it and how many blocks were taken back from it before.
-    pub fn asked(&mut self, table: &Table, taken: usize, answer: Answer) {
+    pub fn answer(&mut self, table: &Table, taken: usize, answer: Answer) {
         match answer.refusal {
-            0 => self.passed(table, taken),
+            0 => self.success(table, taken),
             2 => self.out_of_form.note([table.count == 0, last_interpreted(table)]),
             32 => self.empty.note([table.retired == 0, table.retired == 1]),
             33 => {
@@ -84,7 +84,7 @@ impl TakingsBack {
         }
     }
 
-    fn passed(&mut self, table: &Table, taken: usize) {
+    fn success(&mut self, table: &Table, taken: usize) {
         let marked = |place: usize| table.rows[place].mark == 1;
         let references = table.held().last().map_or(0, |row| row.references);
         self.passed.note([
@@ -102,41 +102,41 @@ impl TakingsBack {
         self.put_in.note([true, comes_again]);
     }
 
-    pub fn taken(&mut self, answer: Answer, going: &Going) {
-        let Going { just_admitted, has_returned, is_twin } = *going;
+    pub fn taking_back(&mut self, answer: Answer, history: &LastBlockHistory) {
+        let LastBlockHistory { just_admitted, has_returned, is_twin } = *history;
         let passed = answer.refusal == 0;
         self.taken.note([passed && just_admitted, passed && !just_admitted, passed && has_returned, passed && is_twin]);
     }
 
     /// A block comes of which an admission was taken back.
-    pub fn admitted(&mut self, answer: Answer, was_taken_back: bool) {
+    pub fn admission(&mut self, answer: Answer, was_taken_back: bool) {
         self.admitted.note([was_taken_back && answer.refusal == 0]);
     }
 
-    /// A block that an arrival let in from the shelf, or the arrival itself after all these.
+    /// A block that an arrival let in from the shelf, or the arrival itself after all that it let in.
     pub fn of_shelf(&mut self, answer: Answer, waited: bool) {
         self.of_shelf.note([waited && answer.refusal == 0, !waited && answer.refusal == 0]);
     }
 
-    /// By a keeper that never retires.
-    pub fn kept(&mut self, answer: Answer) {
-        self.kept.note([answer.refusal == 0]);
+    /// A taking back by a keeper that never retires.
+    pub fn by_keeper(&mut self, answer: Answer) {
+        self.by_keepers.note([answer.refusal == 0]);
     }
 
     /// What a campaign came to.
-    pub fn ended(&mut self, ever: &Ever) {
-        let ledgers = ever.sites.map(|site| &site.ledger);
+    pub fn campaign(&mut self, two_ledgers: &TwoLedgers) {
+        let ledgers = two_ledgers.sites.map(|site| &site.ledger);
         let both = |of: fn(&Ledger) -> usize| ledgers.iter().all(|ledger| of(ledger) > 0);
         let take_back = both(Ledger::takings_back);
-        let delivers = (0..SLOTS).any(|slot| ever.sites.iter().all(|site| !site.delivered[slot].is_empty()));
-        let with_taken_back = forked(ledgers.iter().flat_map(|ledger| ledger.known()));
+        let delivers = (0..SLOTS).any(|slot| two_ledgers.sites.iter().all(|site| !site.delivered[slot].is_empty()));
+        let with_taken_back = forked(ledgers.iter().flat_map(|ledger| ledger.blocks()));
         let [one, other] = ledgers;
         self.campaigns.note([
             take_back,
             take_back && delivers,
             take_back && both(Ledger::retirings),
-            with_taken_back & !ever.forked() != 0,
-            ever.few_forked() && with_taken_back.count_ones() > faults(ever.site_count),
+            with_taken_back & !two_ledgers.forked() != 0,
+            two_ledgers.few_forked() && with_taken_back.count_ones() > faults(two_ledgers.site_count),
             fork_taken_back(one, other) || fork_taken_back(other, one),
         ]);
     }
@@ -144,9 +144,9 @@ impl TakingsBack {
 
 /// Whether a ledger took back a block that counts in the other, and has another of its site and number.
 fn fork_taken_back(ledger: &Ledger, other: &Ledger) -> bool {
-    let counts = |known: &Known| ledger.counting().any(|own| own.digest == known.digest);
-    let taken = |known: &&Known| ledger.was_taken_back(&known.digest) && !counts(known);
-    other.counting().filter(taken).any(|known| ledger.counting().any(|own| own.is_twin_of(known)))
+    let counts = |block: &LedgerBlock| ledger.counting().any(|own| own.digest == block.digest);
+    let taken = |block: &&LedgerBlock| ledger.was_taken_back(&block.digest) && !counts(block);
+    other.counting().filter(taken).any(|block| ledger.counting().any(|own| own.is_twin_of(block)))
 }
 
 impl Display for TakingsBack {
@@ -159,7 +159,7 @@ impl Display for TakingsBack {
         self.taken.write(to, TAKEN)?;
         self.admitted.write(to, ADMITTED)?;
         self.of_shelf.write(to, OF_SHELF)?;
-        self.kept.write(to, KEPT)?;
+        self.by_keepers.write(to, BY_KEEPERS)?;
         self.campaigns.write(to, CAMPAIGNS)
     }
 }

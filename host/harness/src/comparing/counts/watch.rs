@@ -10,7 +10,7 @@ use crate::model::table::Table;
 
 /// Tables in form, by what forked in them.
 #[derive(Default)]
-pub struct Watched {
+pub struct WatchedTables {
     none: u64,
     fewer_than_f: u64,
     f: u64,
@@ -25,7 +25,7 @@ pub struct Watched {
     most_ancestors: u64,
 }
 
-impl Watched {
+impl WatchedTables {
     pub fn forks(&mut self, table: &[u8], answer: ForkedSites) {
         if answer.refusal != 0 {
             return;
@@ -66,7 +66,7 @@ fn all_twins(table: &Table, holds: fn(u16, u16) -> bool) -> bool {
     })
 }
 
-impl Display for Watched {
+impl Display for WatchedTables {
     fn fmt(&self, to: &mut Formatter) -> fmt::Result {
         let mut line = |name: &str, times: u64| super::line(to, name, times);
         line("tables watched with no forked site", self.none)?;

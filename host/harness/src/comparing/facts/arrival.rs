@@ -1,6 +1,7 @@
 //! One arrival for a campaign with a shelf: what there was before and after it.
 
-use crate::drawing::arrivals::Sent;
+use crate::comparing::buffers::OutcomeNumbers;
+use crate::drawing::arrivals::Arrival;
 use crate::model::answer::{Answer, ArrivalAnswer};
 use crate::model::calls::Calls;
 use crate::model::sha256::sha256;
@@ -8,60 +9,58 @@ use crate::model::shelf::{Entry, Shelf};
 use crate::model::table::Table;
 use crate::model::Model;
 
-/// What became of a block that waited, as the two numbers that are listed.
-pub type Listed = [u64; 2];
-
 /// The campaign's table and the shelf at some time.
-pub struct Kept {
+pub struct TableAndShelf {
     pub table: Vec<u8>,
     pub shelf: Shelf,
 }
 
-pub struct Brought {
+/// An arrival, its answer and the outcomes that it listed, with the table and the shelf before and after it.
+pub struct ArrivalFacts {
     pub campaign: u8,
-    pub sent: Sent,
-    pub before: Kept,
-    pub after: Kept,
+    pub arrival: Arrival,
+    pub before: TableAndShelf,
+    pub after: TableAndShelf,
     pub answer: Answer,
-    pub listed: Vec<Listed>,
+    pub listed: Vec<OutcomeNumbers>,
     /// Whether the shelf that is left is in form.
     pub in_form: bool,
-    /// None if the call was refused before admission had its turn.
-    pub plain: Option<Plain>,
+    /// The plain admissions that it comes to. None if it was refused before admission had its turn.
+    pub plain: Option<PlainAdmissions>,
     /// If the arrival was let in: what admission answers to each block that still waits for the campaign.
-    pub still: Vec<Answer>,
-    /// Of some arrivals that were let in.
-    pub taken_back: Option<TakenBack>,
+    pub waiting_answers: Vec<Answer>,
+    /// The arrival taken back, for some of those that were let in.
+    pub taken_back: Option<ArrivalTakenBack>,
 }
 
-/// The same admissions made plainly, one by one and without a shelf: of the arrival, then of each block that ended.
-pub struct Plain {
-    pub admissions: Vec<(Sent, Answer)>,
+/// The admissions of an arrival made one by one and without a shelf: its own, then that of each block that was let in or dropped.
+pub struct PlainAdmissions {
+    pub admissions: Vec<(Arrival, Answer)>,
     pub table: Vec<u8>,
-    /// Where each of the blocks that ended stood among those that waited for the campaign.
-    pub stood: Vec<usize>,
+    /// Where each block that was let in or dropped stood among those that waited for the campaign.
+    pub positions: Vec<usize>,
     /// Whether each outcome is that of a block that waits no more.
     pub all_known: bool,
 }
 
-/// The arrival and all that it let in taken back, one by one, on copies; and then the same arrival once more.
-pub struct TakenBack {
+/// What is left when an arrival and all that it let in are taken back, one by one, on copies, and it then comes once more.
+pub struct ArrivalTakenBack {
     pub refusals: Vec<u8>,
     pub table: Vec<u8>,
-    pub again: ArrivalAnswer,
-    /// As the second arrival left it.
+    pub second_answer: ArrivalAnswer,
+    /// The shelf that the second arrival left.
     pub shelf: Vec<u8>,
 }
 
-impl Brought {
-    /// In how many passes blocks ended: one that stood before the one that ended last is of another pass.
+impl ArrivalFacts {
+    /// In how many passes blocks were let in or dropped: one that stood before the one tried last is of another pass.
     pub fn passes(&self) -> usize {
-        let stood = self.plain.as_ref().map_or(&[][..], |plain| &plain.stood);
-        usize::from(!stood.is_empty()) + stood.windows(2).filter(|pair| pair[0] > pair[1]).count()
+        let positions = self.plain.as_ref().map_or(&[][..], |plain| &plain.positions);
+        usize::from(!positions.is_empty()) + positions.windows(2).filter(|pair| pair[0] > pair[1]).count()
     }
 
     /// The blocks that were tried and didn't wait on, each with its answer.
-    pub fn tries(&self) -> impl Iterator<Item = &(Sent, Answer)> {
+    pub fn tries(&self) -> impl Iterator<Item = &(Arrival, Answer)> {
         self.plain.iter().flat_map(|plain| plain.admissions.iter().skip(1))
     }
 
@@ -76,11 +75,18 @@ impl Brought {
     }
 }
 
-impl Plain {
-    pub fn of(model: &Model, before: &Kept, after: &Kept, campaign: u8, sent: &Sent, listed: &[Listed]) -> Plain {
+impl PlainAdmissions {
+    pub fn of(
+        model: &Model,
+        before: &TableAndShelf,
+        after: &TableAndShelf,
+        campaign: u8,
+        arrival: &Arrival,
+        listed: &[OutcomeNumbers],
+    ) -> PlainAdmissions {
         let table = before.table.clone();
-        let mut plain = Plain { admissions: Vec::new(), table, stood: Vec::new(), all_known: true };
-        plain.admit(model, sent.clone());
+        let mut plain = PlainAdmissions { admissions: Vec::new(), table, positions: Vec::new(), all_known: true };
+        plain.admit(model, arrival.clone());
         let waiting: Vec<&[u8]> = before.shelf.of(campaign).map(Entry::block).collect();
         let mut gone: Vec<usize> = (0..waiting.len()).filter(|&at| !after.shelf.waits(campaign, waiting[at])).collect();
         let held = Table::from_bytes(&after.table);
@@ -96,14 +102,14 @@ impl Plain {
                 break;
             };
             let at = gone.remove(index);
-            plain.stood.push(at);
-            plain.admit(model, Sent { block: waiting[at].to_vec(), verdict: 1 });
+            plain.positions.push(at);
+            plain.admit(model, Arrival { block: waiting[at].to_vec(), verdict: 1 });
         }
         plain
     }
 
-    fn admit(&mut self, model: &Model, sent: Sent) {
-        let answer = model.admit(&mut self.table, &mut sent.block.clone(), sent.verdict);
-        self.admissions.push((sent, answer));
+    fn admit(&mut self, model: &Model, arrival: Arrival) {
+        let answer = model.admit(&mut self.table, &mut arrival.block.clone(), arrival.verdict);
+        self.admissions.push((arrival, answer));
     }
 }

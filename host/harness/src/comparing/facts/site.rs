@@ -2,13 +2,14 @@
 
 use std::collections::{BTreeSet, HashMap, HashSet};
 
-use crate::comparing::buffers::{Lent, Sides};
+use crate::comparing::buffers::{Buffers, Sides};
 use crate::model::ledger::Ledger;
 use crate::model::record::Part;
 use crate::model::sha256::Digest;
 use crate::model::sizes::SLOTS;
 
-pub struct Kept {
+/// A site: its buffers on both sides of the comparison, and its ledger.
+pub struct SiteWithLedger {
     pub sides: Sides,
     pub ledger: Ledger,
     /// Which law comes first of those that are held against each call. Without one only those of the end are held: so wrong
@@ -22,9 +23,9 @@ pub struct Kept {
     pub retired: HashSet<Digest>,
 }
 
-impl Kept {
-    /// What the calls so far have left: the library's, which is the model's too.
-    pub fn left(&self) -> &Lent {
+impl SiteWithLedger {
+    /// The buffers as the calls so far have left them: the library's, which are the model's too.
+    pub fn buffers(&self) -> &Buffers {
         &self.sides.tested
     }
 }

@@ -1,21 +1,22 @@
 //! What the calls of two sites left, seen together.
 
-use crate::comparing::buffers::Lent;
+use crate::comparing::buffers::Buffers;
 use crate::model::answer::ForkedSites;
 use crate::model::record::{part_of, record_at, Act};
 use crate::model::setup::faults;
 use crate::model::sha256::Digest;
 use crate::model::table::Table;
 
-/// What one site's calls left.
+/// One of the two sites: its buffers after all its calls.
 pub struct Site<'a> {
-    pub lent: &'a Lent,
+    pub buffers: &'a Buffers,
     pub table: Table,
     /// What the watch says of the table.
-    pub watched: ForkedSites,
+    pub watch_answer: ForkedSites,
 }
 
-pub struct Ends<'a> {
+/// Two sites after all their calls.
+pub struct TwoSites<'a> {
     pub sites: [Site<'a>; 2],
     /// The mask of the sites that forked.
     forked: u16,
@@ -29,12 +30,12 @@ impl Site<'_> {
 
     /// The numbers of the buffer that belong to a place.
     pub fn part(&self, place: usize) -> Option<&[u16]> {
-        part_of(place).and_then(|part| self.lent.records.get(part))
+        part_of(place).and_then(|part| self.buffers.records.get(part))
     }
 
     /// The number that was sent or delivered so far in a slot, by the record of a place.
     pub fn so_far(&self, place: usize, slot: usize, act: Act) -> u16 {
-        record_at(&self.lent.records, place, slot)[act.so_far()]
+        record_at(&self.buffers.records, place, slot)[act.so_far()]
     }
 
     /// All numbers, not 0, that an interpreted block has sent or delivered so far in a slot.
@@ -44,11 +45,15 @@ impl Site<'_> {
     }
 }
 
-impl<'a> Ends<'a> {
-    pub fn of(sites: [(&'a Lent, ForkedSites); 2]) -> Ends<'a> {
-        let sites = sites.map(|(lent, watched)| Site { lent, table: Table::from_bytes(&lent.table), watched });
+impl<'a> TwoSites<'a> {
+    pub fn of(sites: [(&'a Buffers, ForkedSites); 2]) -> TwoSites<'a> {
+        let sites = sites.map(|(buffers, watch_answer)| Site {
+            buffers,
+            table: Table::from_bytes(&buffers.table),
+            watch_answer,
+        });
         let forked = forked(&sites);
-        Ends { sites, forked }
+        TwoSites { sites, forked }
     }
 
     /// The document's n.

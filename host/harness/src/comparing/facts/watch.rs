@@ -3,11 +3,12 @@
 use crate::model::answer::{AncestorPlaces, Answer, ForkedSites};
 use crate::model::table::Table;
 
-pub struct Seen {
+/// What the watch and building answered about one table.
+pub struct WatchAnswers {
     pub table: Table,
     pub forked: ForkedSites,
-    /// Of each place.
+    /// The ancestors of each place.
     pub ancestors: Vec<AncestorPlaces>,
-    /// What each site is answered that builds a block without requests.
-    pub built: Vec<Answer>,
+    /// What building answered to each site, for a block without requests.
+    pub build_answers: Vec<Answer>,
 }

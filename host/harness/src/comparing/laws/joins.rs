@@ -1,8 +1,8 @@
 //! What must hold of a join, by what was there before and after it. Blocks go by their digests.
 
 use super::Law;
-use crate::comparing::buffers::Lent;
-use crate::comparing::facts::join::Joined;
+use crate::comparing::buffers::Buffers;
+use crate::comparing::facts::join::JoinFacts;
 use crate::model::joining::referred;
 use crate::model::record::part_of;
 use crate::model::sha256::Digest;
@@ -15,19 +15,19 @@ pub const MARKED: &str = "law: a block is interpreted in the result exactly wher
 pub const PARTS: &str = "law: an interpreted block has its part of the left, else of the right, and all else stays";
 pub const AGAIN: &str = "law: the same right joined once more changes nothing";
 
-pub const LAWS: [Law<Joined>; 5] = [
-    Law { name: IN_FORM, broken: |joined| (joined.answer.refusal == 0 && !joined.in_form).then(|| said(joined)) },
-    Law { name: STAYS_FIRST, broken: |joined| Tables::of(joined).and_then(|tables| out_of_order(&tables)) },
-    Law { name: SAME_BLOCKS, broken: |joined| Tables::of(joined).and_then(|tables| other_blocks(joined, &tables)) },
-    Law { name: MARKED, broken: |joined| Tables::of(joined).and_then(|tables| wrong_mark(&tables)) },
-    Law { name: PARTS, broken: |joined| Tables::of(joined).and_then(|tables| wrong_part(joined, &tables)) },
+pub const LAWS: [Law<JoinFacts>; 5] = [
+    Law { name: IN_FORM, broken: |facts| (facts.answer.refusal == 0 && !facts.in_form).then(|| answer_text(facts)) },
+    Law { name: STAYS_FIRST, broken: |facts| Tables::of(facts).and_then(|tables| out_of_order(&tables)) },
+    Law { name: SAME_BLOCKS, broken: |facts| Tables::of(facts).and_then(|tables| other_blocks(facts, &tables)) },
+    Law { name: MARKED, broken: |facts| Tables::of(facts).and_then(|tables| wrong_mark(&tables)) },
+    Law { name: PARTS, broken: |facts| Tables::of(facts).and_then(|tables| wrong_part(facts, &tables)) },
 ];
 
-/// By itself, since rules that break it mostly break one of the others too.
-pub const LAW_OF_AGAIN: [Law<Joined>; 1] = [Law { name: AGAIN, broken: changed_again }];
+/// The law of a second join stands alone, since rules that break it mostly break one of the other laws of joins too.
+pub const LAW_OF_AGAIN: [Law<JoinFacts>; 1] = [Law { name: AGAIN, broken: changed_again }];
 
-fn said(joined: &Joined) -> String {
-    format!("{:?}", joined.answer)
+fn answer_text(facts: &JoinFacts) -> String {
+    format!("{:?}", facts.answer)
 }
 
 /// The two tables, and the one that they came to.
@@ -38,11 +38,11 @@ struct Tables {
 }
 
 impl Tables {
-    /// Of a success.
-    fn of(joined: &Joined) -> Option<Tables> {
-        let table = |lent: &Lent| Table::from_bytes(&lent.table);
-        let Joined { left, right, after, .. } = joined;
-        (joined.answer.refusal == 0).then(|| Tables { left: table(left), right: table(right), after: table(after) })
+    /// The tables of a join that was answered 0.
+    fn of(facts: &JoinFacts) -> Option<Tables> {
+        let table = |buffers: &Buffers| Table::from_bytes(&buffers.table);
+        let JoinFacts { left, right, after, .. } = facts;
+        (facts.answer.refusal == 0).then(|| Tables { left: table(left), right: table(right), after: table(after) })
     }
 }
 
@@ -59,7 +59,7 @@ fn out_of_order(tables: &Tables) -> Option<String> {
 }
 
 /// Each block of a side is held with the same fields, and each held block is one of a side.
-fn other_blocks(joined: &Joined, tables: &Tables) -> Option<String> {
+fn other_blocks(facts: &JoinFacts, tables: &Tables) -> Option<String> {
     let Tables { left, right, after } = tables;
     let kept = |side: &Table, row: &Row| {
         let place = after.place_of(&row.digest);
@@ -67,8 +67,8 @@ fn other_blocks(joined: &Joined, tables: &Tables) -> Option<String> {
     };
     let lost = [left, right].iter().any(|side| side.held().iter().any(|row| !kept(side, row)));
     let invented = after.held().iter().any(|row| [left, right].iter().all(|side| side.place_of(&row.digest).is_none()));
-    let told = joined.answer.value == after.count;
-    (lost || invented || !told).then(|| format!("{}, {} held", said(joined), after.count))
+    let told = facts.answer.value == after.count;
+    (lost || invented || !told).then(|| format!("{}, {} held", answer_text(facts), after.count))
 }
 
 /// All that is held of a block but its mark, without places.
@@ -88,22 +88,22 @@ fn wrong_mark(tables: &Tables) -> Option<String> {
     Some(format!("place {place}"))
 }
 
-fn wrong_part(joined: &Joined, tables: &Tables) -> Option<String> {
-    let mut expected = joined.third.clone();
+fn wrong_part(facts: &JoinFacts, tables: &Tables) -> Option<String> {
+    let mut expected = facts.third.clone();
     for (place, row) in tables.after.held().iter().enumerate() {
-        let left = interpreted(&tables.left, row).map(|at| (&joined.left.records, at));
-        let right = interpreted(&tables.right, row).map(|at| (&joined.right.records, at));
+        let left = interpreted(&tables.left, row).map(|at| (&facts.left.records, at));
+        let right = interpreted(&tables.right, row).map(|at| (&facts.right.records, at));
         if let Some((records, at)) = left.or(right) {
             let [to, from] = [place, at].map(|place| part_of(place).expect("a place of a table"));
             expected[to].copy_from_slice(&records[from]);
         }
     }
-    let number = (0..expected.len()).find(|&number| joined.after.records[number] != expected[number])?;
+    let number = (0..expected.len()).find(|&number| facts.after.records[number] != expected[number])?;
     Some(format!("number {number}"))
 }
 
-fn changed_again(joined: &Joined) -> Option<String> {
-    let (answer, after) = joined.again.as_ref()?;
-    let stays = after.table == joined.after.table && after.records == joined.after.records;
-    (*answer != joined.answer || !stays).then(|| format!("{}, then {answer:?}", said(joined)))
+fn changed_again(facts: &JoinFacts) -> Option<String> {
+    let (answer, after) = facts.second.as_ref()?;
+    let stays = after.table == facts.after.table && after.records == facts.after.records;
+    (*answer != facts.answer || !stays).then(|| format!("{}, then {answer:?}", answer_text(facts)))
 }

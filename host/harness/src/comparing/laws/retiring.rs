@@ -1,7 +1,7 @@
 //! What must hold of a retiring, by what was there before and after it. Blocks go by their digests.
 
 use super::Law;
-use crate::comparing::buffers::Lent;
+use crate::comparing::buffers::Buffers;
 use crate::model::answer::Answer;
 use crate::model::joining::referred;
 use crate::model::record::part_of;
@@ -9,9 +9,10 @@ use crate::model::sha256::Digest;
 use crate::model::sizes::PLACES;
 use crate::model::table::{Row, Table};
 
-pub struct Retired<'a> {
-    pub before: &'a Lent,
-    pub after: &'a Lent,
+/// A retiring that was answered 0: the buffers before and after it.
+pub struct RetiringFacts<'a> {
+    pub before: &'a Buffers,
+    pub after: &'a Buffers,
     pub answer: Answer,
     /// Whether the table is in form after it.
     pub in_form: bool,
@@ -26,9 +27,9 @@ pub const PARTS_MOVE: &str =
 pub const NOTHING_OPEN: &str = "law: a block leaves only where it and all that refer to it are interpreted";
 pub const NEVER_THE_LAST: &str = "law: the greatest interpreted block of a site is never retired";
 
-pub fn laws<'a>() -> [Law<Retired<'a>>; 6] {
+pub fn laws<'a>() -> [Law<RetiringFacts<'a>>; 6] {
     [
-        Law { name: STILL_IN_FORM, broken: |retired| (!retired.in_form).then(|| said(retired)) },
+        Law { name: STILL_IN_FORM, broken: |facts| (!facts.in_form).then(|| answer_text(facts)) },
         Law { name: KEEPS_THAT, broken: forgotten },
         Law { name: OTHERS_STAY, broken: others_change },
         Law { name: PARTS_MOVE, broken: other_number },
@@ -37,21 +38,21 @@ pub fn laws<'a>() -> [Law<Retired<'a>>; 6] {
     ]
 }
 
-fn forgotten(retired: &Retired) -> Option<String> {
-    let kept = Table::from_bytes(&retired.after.table).retired;
+fn forgotten(facts: &RetiringFacts) -> Option<String> {
+    let kept = Table::from_bytes(&facts.after.table).retired;
     (kept != 1).then(|| format!("the byte is {kept}"))
 }
 
-fn said(retired: &Retired) -> String {
-    format!("{:?}", retired.answer)
+fn answer_text(facts: &RetiringFacts) -> String {
+    format!("{:?}", facts.answer)
 }
 
-fn tables(retired: &Retired) -> [Table; 2] {
-    [retired.before, retired.after].map(|lent| Table::from_bytes(&lent.table))
+fn tables(facts: &RetiringFacts) -> [Table; 2] {
+    [facts.before, facts.after].map(|buffers| Table::from_bytes(&buffers.table))
 }
 
-fn others_change(retired: &Retired) -> Option<String> {
-    let [before, after] = tables(retired);
+fn others_change(facts: &RetiringFacts) -> Option<String> {
+    let [before, after] = tables(facts);
     let left = before.rows[0].digest;
     let same = |place: usize| {
         let (old, new) = (&before.rows[place + 1], &after.rows[place]);
@@ -64,9 +65,9 @@ fn others_change(retired: &Retired) -> Option<String> {
     (count || place.is_some()).then(|| format!("{} held, then {}; place {place:?}", before.count, after.count))
 }
 
-fn other_number(retired: &Retired) -> Option<String> {
-    let [before, after] = [retired.before, retired.after].map(|lent| &lent.records);
-    let count = Table::from_bytes(&retired.after.table).count;
+fn other_number(facts: &RetiringFacts) -> Option<String> {
+    let [before, after] = [facts.before, facts.after].map(|buffers| &buffers.records);
+    let count = Table::from_bytes(&facts.after.table).count;
     let moved = part_of(count).map_or(0, |part| part.start);
     let part = part_of(0).map_or(0, |part| part.end);
     let wanted = |at: usize| if at < moved { before[at + part] } else { before[at] };
@@ -74,15 +75,15 @@ fn other_number(retired: &Retired) -> Option<String> {
     Some(format!("number {at}"))
 }
 
-fn open(retired: &Retired) -> Option<String> {
-    let [before, _] = tables(retired);
+fn open(facts: &RetiringFacts) -> Option<String> {
+    let [before, _] = tables(facts);
     let concerned = |place: &usize| *place == 0 || before.rows[*place].references & 1 == 1;
     let place = (0..before.count).filter(concerned).find(|&place| before.rows[place].mark == 0)?;
     Some(format!("place {place}"))
 }
 
-fn last_of_its_site(retired: &Retired) -> Option<String> {
-    let [before, after] = tables(retired);
+fn last_of_its_site(facts: &RetiringFacts) -> Option<String> {
+    let [before, after] = tables(facts);
     let left = before.rows[0];
     let later = |row: &Row| row.site == left.site && row.mark == 1 && row.sequence > left.sequence;
     (!after.held().iter().any(later)).then(|| format!("site {} at {}", left.site, left.sequence))

@@ -1,20 +1,20 @@
 //! What must hold of an admission that is taken back straight away: alone, and anywhere in a list of calls.
 
 use super::Law;
-use crate::comparing::buffers::{first_other, Lent};
+use crate::comparing::buffers::{first_other, Buffers};
 use crate::model::answer::Answer;
 
 /// The table before an admission, and what a taking back straight after it answered and left.
-pub struct GivenBack {
+pub struct AdmissionTakenBack {
     pub before: Vec<u8>,
     pub answer: Answer,
     pub after: Vec<u8>,
 }
 
-/// What a list left, and the same list with admissions put in, each taken back straight away.
-pub struct PutIn<'a> {
-    pub without: &'a Lent,
-    pub with: &'a Lent,
+/// The buffers that a list of calls left, and those that it left with admissions put in, each taken back straight away.
+pub struct ExtendedList<'a> {
+    pub without: &'a Buffers,
+    pub with: &'a Buffers,
     /// Which calls of the longer list were put in.
     pub put_in: Vec<bool>,
 }
@@ -23,18 +23,18 @@ pub const GIVES_BACK: &str = "law: straight after an admission a taking back giv
 pub const AS_IF_NEVER: &str =
     "law: an admission and its taking back in a list leave table, records and later answers as without both";
 
-pub const LAW_OF_ONE: [Law<GivenBack>; 1] = [Law { name: GIVES_BACK, broken: not_given_back }];
+pub const LAW_OF_ONE: [Law<AdmissionTakenBack>; 1] = [Law { name: GIVES_BACK, broken: not_given_back }];
 
-pub fn laws_of_lists<'a>() -> [Law<PutIn<'a>>; 1] {
+pub fn laws_of_lists<'a>() -> [Law<ExtendedList<'a>>; 1] {
     [Law { name: AS_IF_NEVER, broken: leaves_something }]
 }
 
-fn not_given_back(given: &GivenBack) -> Option<String> {
-    let other = first_other("table", &given.after, &given.before);
-    (given.answer != Answer::success(0) || other.is_some()).then(|| format!("{:?}, {other:?}", given.answer))
+fn not_given_back(taken_back: &AdmissionTakenBack) -> Option<String> {
+    let other = first_other("table", &taken_back.after, &taken_back.before);
+    (taken_back.answer != Answer::success(0) || other.is_some()).then(|| format!("{:?}, {other:?}", taken_back.answer))
 }
 
-fn leaves_something(list: &PutIn) -> Option<String> {
+fn leaves_something(list: &ExtendedList) -> Option<String> {
     let answers = list.with.answers.chunks_exact(2).zip(&list.put_in);
     let own: Vec<u64> = answers.filter(|(_, put_in)| !**put_in).flat_map(|(answer, _)| answer).copied().collect();
     first_other("table", &list.with.table, &list.without.table)

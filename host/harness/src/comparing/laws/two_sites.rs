@@ -2,7 +2,7 @@
 //! lists.
 
 use super::Law;
-use crate::comparing::facts::two_sites::{different, Ends, Site};
+use crate::comparing::facts::two_sites::{different, Site, TwoSites};
 use crate::model::record::Act;
 use crate::model::sizes::SLOTS;
 use crate::model::table::places;
@@ -12,27 +12,27 @@ pub const ONE_NUMBER: &str = "law: where at most f sites forked, one number is d
 pub const REQUESTED: &str = "law: a delivered number was requested by the owner in an ancestor";
 pub const WATCHED: &str = "law: whom the watch names at one site has forked in the two ledgers together";
 
-pub fn laws<'a>() -> [Law<Ends<'a>>; 4] {
+pub fn laws<'a>() -> [Law<TwoSites<'a>>; 4] {
     [
         Law { name: EQUAL_PARTS, broken: unequal_parts },
         Law { name: ONE_NUMBER, broken: two_numbers },
-        Law { name: REQUESTED, broken: |ends| ends.sites.iter().find_map(not_requested) },
+        Law { name: REQUESTED, broken: |two_sites| two_sites.sites.iter().find_map(not_requested) },
         Law { name: WATCHED, broken: named_in_vain },
     ]
 }
 
-fn unequal_parts(ends: &Ends) -> Option<String> {
-    let [one, other] = &ends.sites;
+fn unequal_parts(two_sites: &TwoSites) -> Option<String> {
+    let [one, other] = &two_sites.sites;
     let (place, its_place) =
-        ends.interpreted_at_both().find(|&(place, its_place)| one.part(place) != other.part(its_place))?;
+        two_sites.interpreted_at_both().find(|&(place, its_place)| one.part(place) != other.part(its_place))?;
     Some(format!("place {place} at one, {its_place} at the other"))
 }
 
-fn two_numbers(ends: &Ends) -> Option<String> {
-    if !ends.few_forked() {
+fn two_numbers(two_sites: &TwoSites) -> Option<String> {
+    if !two_sites.few_forked() {
         return None;
     }
-    let delivered = |slot: usize| ends.numbers(slot, Act::Deliver);
+    let delivered = |slot: usize| two_sites.numbers(slot, Act::Deliver);
     let slot = (0..SLOTS).find(|&slot| different(&delivered(slot)))?;
     Some(format!("slot {slot} has {:?}", delivered(slot)))
 }
@@ -55,12 +55,12 @@ fn not_requested(site: &Site) -> Option<String> {
     None
 }
 
-/// A table holds a part of the two ledgers' blocks. So where at most f forked, each watch says so too.
-fn named_in_vain(ends: &Ends) -> Option<String> {
+/// A table holds a part of the two ledgers' blocks. So where at most f forked, each watch says so.
+fn named_in_vain(two_sites: &TwoSites) -> Option<String> {
     let wrong = |site: &&Site| {
-        let watched = &site.watched;
-        watched.sites & !ends.forked() != 0 || ends.few_forked() && !watched.at_most_f
+        let watch_answer = &site.watch_answer;
+        watch_answer.sites & !two_sites.forked() != 0 || two_sites.few_forked() && !watch_answer.at_most_f
     };
-    let site = ends.sites.iter().find(wrong)?;
-    Some(format!("{:?}, forked are {:016b}", site.watched, ends.forked()))
+    let site = two_sites.sites.iter().find(wrong)?;
+    Some(format!("{:?}, forked are {:016b}", site.watch_answer, two_sites.forked()))
 }

@@ -1,15 +1,15 @@
 //! A controller that follows four campaigns, each with a table and records of its own, and keeps one shelf for all.
 //! Blocks come out of order, again, for the wrong campaign or spoiled; other calls come in between.
 
-use crate::comparing::buffers::{Lent, Sides};
-use crate::comparing::compare::arrival::bring;
-use crate::comparing::compare::story::alone;
-use crate::comparing::compare::{Compare, Made};
+use crate::comparing::buffers::{Buffers, Sides};
+use crate::comparing::compare::arrival::arrival_facts;
+use crate::comparing::compare::campaign_alone::alone;
+use crate::comparing::compare::{CallList, Compare};
 use crate::comparing::difference::Difference;
-use crate::comparing::facts::arrival::Brought;
-use crate::comparing::facts::story::{Call, Reply, Story};
-use crate::comparing::laws::{self, Told};
-use crate::drawing::arrivals::{any, some_room, Sent};
+use crate::comparing::facts::arrival::ArrivalFacts;
+use crate::comparing::facts::campaign_run::{Call, CampaignRun, Reply};
+use crate::comparing::laws::{self, SharedAndAlone};
+use crate::drawing::arrivals::{any, some_room, Arrival};
 use crate::drawing::feed::{batch, lacking, Feed};
 use crate::drawing::random::Random;
 use crate::drawing::record_contents::any_numbers;
@@ -25,22 +25,22 @@ use crate::model::table::Table;
 pub struct Controller<'a> {
     random: &'a Random,
     habits: Habits,
-    /// These have the shelf between calls.
+    /// The shelf, between calls.
     shelf: Sides,
-    campaigns: Vec<Followed>,
+    campaigns: Vec<FollowedCampaign>,
     /// What came so far, for any campaign.
     earlier: Vec<Vec<u8>>,
 }
 
-/// One of the campaigns.
-struct Followed {
+/// One of the campaigns that the controller follows.
+struct FollowedCampaign {
     sites: u8,
-    start: Lent,
+    start: Buffers,
     sides: Sides,
     feed: Feed,
     calls: Vec<Call>,
     replies: Vec<Reply>,
-    /// The same as a list of plain calls, a block let in from the shelf being an admission of its own.
+    /// The campaign's calls as a list of plain ones, a block let in from the shelf being an admission of its own.
     list: Vec<u8>,
     answers: Vec<Answer>,
 }
@@ -63,7 +63,7 @@ struct Habits {
 }
 
 impl Habits {
-    fn drawn(random: &Random, campaigns: &[Followed]) -> Habits {
+    fn drawn(random: &Random, campaigns: &[FollowedCampaign]) -> Habits {
         let mut order: Vec<u8> = (0..CAMPAIGNS as u8).collect();
         random.shuffle(&mut order);
         // One, or two, may be busier than the others.
@@ -86,7 +86,7 @@ impl Habits {
 }
 
 impl<'a> Controller<'a> {
-    /// With an empty shelf, and fresh tables but for some that are nearly full, or that can retire.
+    /// A controller with an empty shelf, and with fresh tables but for some that are nearly full, or that can retire.
     pub fn new(random: &'a Random, compare: &mut Compare) -> Result<Controller<'a>, Difference> {
         let mut campaigns = Vec::new();
         for _ in 0..CAMPAIGNS {
@@ -97,12 +97,12 @@ impl<'a> Controller<'a> {
             if random.one_in(8) {
                 table = tables::grown(random, empty, PLACES - random.pick(&[0, 1, 2, 4, 8])).to_bytes();
             } else if random.one_in(3) {
-                table = interpreted(random, empty).to_bytes();
+                table = interpreted_table(random, empty).to_bytes();
             }
-            let start = Lent::new(table, any_numbers(random, BUFFER_NUMBERS));
-            campaigns.push(Followed::new(sites, start));
+            let start = Buffers::new(table, any_numbers(random, BUFFER_NUMBERS));
+            campaigns.push(FollowedCampaign::new(sites, start));
         }
-        let shelf = Lent { shelf: Shelf::empty().to_bytes(), ..Lent::default() };
+        let shelf = Buffers { shelf: Shelf::empty().to_bytes(), ..Buffers::default() };
         let (habits, shelf) = (Habits::drawn(random, &campaigns), Sides::new(shelf));
         Ok(Controller { random, habits, shelf, campaigns, earlier: Vec::new() })
     }
@@ -116,7 +116,7 @@ impl<'a> Controller<'a> {
         looked_at.into_iter().try_for_each(|campaign| self.look_back(compare, campaign))
     }
 
-    fn followed(&mut self, campaign: u8) -> &mut Followed {
+    fn followed(&mut self, campaign: u8) -> &mut FollowedCampaign {
         &mut self.campaigns[usize::from(campaign)]
     }
 
@@ -139,10 +139,10 @@ impl<'a> Controller<'a> {
         }
         if random.one_in(self.habits.floods_one_in[usize::from(campaign)]) {
             let block = lacking(random, &table);
-            self.arrive(compare, campaign, &Sent { block, verdict: 1 })?;
+            self.arrive(compare, campaign, &Arrival { block, verdict: 1 })?;
         } else {
             let block = self.next_block(campaign, &table);
-            let answer = self.arrive(compare, campaign, &Sent { block: block.clone(), verdict: 1 })?;
+            let answer = self.arrive(compare, campaign, &Arrival { block: block.clone(), verdict: 1 })?;
             // Nothing was done with it, so that it can still come.
             if [17, 19].contains(&answer.refusal) && !random.one_in(4) {
                 self.followed(campaign).feed.add(random, vec![block]);
@@ -171,22 +171,22 @@ impl<'a> Controller<'a> {
             4 | 5 => {
                 let block = self.again(campaign).unwrap_or_else(|| lacking(random, table));
                 let verdict = if random.one_in(6) { random.pick(&[0, 2, 255]) } else { 1 };
-                self.arrive(compare, campaign, &Sent { block, verdict }).map(|_| ())
+                self.arrive(compare, campaign, &Arrival { block, verdict }).map(|_| ())
             }
             6 => self.arrive(compare, campaign, &any(random, table, &self.earlier)).map(|_| ()),
             7 => self.arrive_for_none(compare, campaign),
             // Past the shelf, unless it would be lost by that. What waits for such a block isn't tried.
             8 => {
-                let sent = Sent { block: self.next_block(campaign, table), verdict: 1 };
-                if block::references(&sent.block).iter().all(|reference| table.place_of(reference).is_some()) {
-                    self.admit(compare, campaign, sent)
+                let arrival = Arrival { block: self.next_block(campaign, table), verdict: 1 };
+                if block::references(&arrival.block).iter().all(|reference| table.place_of(reference).is_some()) {
+                    self.admit(compare, campaign, arrival)
                 } else {
-                    self.arrive(compare, campaign, &sent).map(|_| ())
+                    self.arrive(compare, campaign, &arrival).map(|_| ())
                 }
             }
             _ => {
                 let block = self.again(campaign).unwrap_or_else(|| lacking(random, table));
-                self.admit(compare, campaign, Sent { block, verdict: 1 })
+                self.admit(compare, campaign, Arrival { block, verdict: 1 })
             }
         }
     }
@@ -203,23 +203,23 @@ impl<'a> Controller<'a> {
 
     // ---- Calls
 
-    fn arrive(&mut self, compare: &mut Compare, campaign: u8, sent: &Sent) -> Result<Answer, Difference> {
+    fn arrive(&mut self, compare: &mut Compare, campaign: u8, arrival: &Arrival) -> Result<Answer, Difference> {
         let random = self.random;
         let followed = &mut self.campaigns[usize::from(campaign)];
         let room = some_room(random);
         followed.sides.swap_shelf(&mut self.shelf);
-        let brought = bring(random, compare, &mut followed.sides, campaign, sent, room)?;
+        let facts = arrival_facts(random, compare, &mut followed.sides, campaign, arrival, room)?;
         followed.sides.swap_shelf(&mut self.shelf);
         if self.habits.each_by_itself {
-            laws::check_brought(&brought)?;
+            laws::check_arrival(&facts)?;
         }
-        let answer = brought.answer;
-        let let_in = brought.tries().filter(|(_, answer)| answer.refusal == 0).map(|(sent, _)| sent.block.clone());
+        let answer = facts.answer;
+        let let_in = facts.tries().filter(|(_, answer)| answer.refusal == 0).map(|(arrival, _)| arrival.block.clone());
         let let_in: Vec<Vec<u8>> = let_in.collect();
-        followed.note_arrival(brought, room);
-        self.earlier.push(sent.block.clone());
+        followed.note_arrival(facts, room);
+        self.earlier.push(arrival.block.clone());
         if !let_in.is_empty() && random.one_in(self.habits.takes_back_one_in) {
-            self.take_back_some(compare, campaign, sent, let_in)?;
+            self.take_back_some(compare, campaign, arrival, let_in)?;
         }
         Ok(answer)
     }
@@ -229,11 +229,11 @@ impl<'a> Controller<'a> {
         &mut self,
         compare: &mut Compare,
         campaign: u8,
-        sent: &Sent,
+        arrival: &Arrival,
         let_in: Vec<Vec<u8>>,
     ) -> Result<(), Difference> {
         let random = self.random;
-        let blocks = [vec![sent.block.clone()], let_in].concat();
+        let blocks = [vec![arrival.block.clone()], let_in].concat();
         let kept = random.pick(&[0, 0, random.below(blocks.len())]);
         for at in (kept..blocks.len()).rev() {
             let answer = self.take_back(compare, campaign)?;
@@ -250,20 +250,21 @@ impl<'a> Controller<'a> {
     fn arrive_for_none(&mut self, compare: &mut Compare, campaign: u8) -> Result<(), Difference> {
         let random = self.random;
         let table = self.table(campaign);
-        let sent = any(random, &table, &self.earlier);
+        let arrival = any(random, &table, &self.earlier);
         let followed = &mut self.campaigns[usize::from(campaign)];
         let beyond = [4, 4, 5, campaign + 4, campaign | 128, 255, random.byte().max(4)];
         followed.sides.swap_shelf(&mut self.shelf);
-        let brought = bring(random, compare, &mut followed.sides, random.pick(&beyond), &sent, some_room(random))?;
+        let facts =
+            arrival_facts(random, compare, &mut followed.sides, random.pick(&beyond), &arrival, some_room(random))?;
         followed.sides.swap_shelf(&mut self.shelf);
-        laws::check_brought(&brought)
+        laws::check_arrival(&facts)
     }
 
-    fn admit(&mut self, compare: &mut Compare, campaign: u8, sent: Sent) -> Result<(), Difference> {
+    fn admit(&mut self, compare: &mut Compare, campaign: u8, arrival: Arrival) -> Result<(), Difference> {
         let followed = self.followed(campaign);
-        let answer = compare.admit(&mut followed.sides, &sent.block, sent.verdict)?;
-        followed.list.extend(admission(sent.verdict, &sent.block));
-        followed.note(Call::Admission(sent), answer);
+        let answer = compare.admit(&mut followed.sides, &arrival.block, arrival.verdict)?;
+        followed.list.extend(admission(arrival.verdict, &arrival.block));
+        followed.note(Call::Admission(arrival), answer);
         Ok(())
     }
 
@@ -275,7 +276,7 @@ impl<'a> Controller<'a> {
         Ok(())
     }
 
-    /// What waits isn't tried after it.
+    /// What waits isn't tried after a retiring.
     fn retire(&mut self, compare: &mut Compare, campaign: u8) -> Result<(), Difference> {
         let followed = self.followed(campaign);
         let answer = compare.retire(&mut followed.sides)?;
@@ -284,7 +285,7 @@ impl<'a> Controller<'a> {
         Ok(())
     }
 
-    /// What waits isn't tried after a taking back either.
+    /// What waits isn't tried after a taking back.
     fn take_back(&mut self, compare: &mut Compare, campaign: u8) -> Result<Answer, Difference> {
         let followed = self.followed(campaign);
         let answer = compare.take_back(&mut followed.sides)?;
@@ -300,27 +301,26 @@ impl<'a> Controller<'a> {
         let waiting = self.waiting().blocks(campaign);
         let number = self.random.below(CAMPAIGNS) as u8;
         let followed = self.followed(campaign);
-        let story = followed.story(waiting);
-        let alone = alone(compare, &followed.start, &story, number)?;
-        compare.counts.shelves.told(&story);
-        laws::check_told(&Told { among_others: &story, alone: &alone })?;
-        let Lent { table, records, .. } = followed.sides.expected.clone();
-        let after = Lent::new(table, records);
-        let Followed { start: before, list: calls, answers, .. } = &*followed;
-        compare.replay_made(&Made { before, calls, answers, after: &after }, &vec![0; 2 * answers.len()])
+        let run = followed.campaign_run(waiting);
+        let alone = alone(compare, &followed.start, &run, number)?;
+        compare.counts.shelves.replayed_alone(&run);
+        laws::check_campaign_runs(&SharedAndAlone { among_others: &run, alone: &alone })?;
+        let after = followed.sides.expected.table_and_records();
+        let FollowedCampaign { start: before, list: calls, answers, .. } = &*followed;
+        compare.replay_call_list(&CallList { before, calls, answers, after: &after }, &vec![0; 2 * answers.len()])
     }
 }
 
 /// A table whose places are all interpreted.
-fn interpreted(random: &Random, empty: Table) -> Table {
+fn interpreted_table(random: &Random, empty: Table) -> Table {
     let mut table = tables::grown(random, empty, random.between(2, PLACES));
     (0..table.count).for_each(|place| table.rows[place].mark = 1);
     tables::sometimes_aged(random, table)
 }
 
-impl Followed {
-    fn new(sites: u8, start: Lent) -> Followed {
-        Followed {
+impl FollowedCampaign {
+    fn new(sites: u8, start: Buffers) -> FollowedCampaign {
+        FollowedCampaign {
             sites,
             sides: Sides::new(start.clone()),
             start,
@@ -338,18 +338,18 @@ impl Followed {
         self.answers.push(answer);
     }
 
-    fn note_arrival(&mut self, brought: Brought, room: usize) {
-        for (sent, answer) in brought.plain.into_iter().flat_map(|plain| plain.admissions) {
-            self.list.extend(admission(sent.verdict, &sent.block));
+    fn note_arrival(&mut self, facts: ArrivalFacts, room: usize) {
+        for (arrival, answer) in facts.plain.into_iter().flat_map(|plain| plain.admissions) {
+            self.list.extend(admission(arrival.verdict, &arrival.block));
             self.answers.push(answer);
         }
-        self.calls.push(Call::Arrival(brought.sent, room));
-        self.replies.push(Reply { answer: brought.answer, listed: brought.listed });
+        self.calls.push(Call::Arrival(facts.arrival, room));
+        self.replies.push(Reply { answer: facts.answer, listed: facts.listed });
     }
 
-    /// With the blocks that wait.
-    fn story(&self, waiting: Vec<Vec<u8>>) -> Story {
-        let Lent { table, records, .. } = self.sides.expected.clone();
-        Story { calls: self.calls.clone(), replies: self.replies.clone(), table, records, waiting }
+    /// The campaign's calls and what they left, with the blocks that wait.
+    fn campaign_run(&self, waiting: Vec<Vec<u8>>) -> CampaignRun {
+        let Buffers { table, records, .. } = self.sides.expected.table_and_records();
+        CampaignRun { calls: self.calls.clone(), replies: self.replies.clone(), table, records, waiting }
     }
 }

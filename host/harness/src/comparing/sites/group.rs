@@ -2,14 +2,14 @@
 //! on all of it. Some choose what they refer to and are full all the same. Others fork, and show each version of a
 //! block to some of the sites; or overlook blocks that they hold; or build nothing.
 
-use crate::comparing::buffers::{Lent, Next, Sides};
+use crate::comparing::buffers::{Buffers, NextBlock, Sides};
 use crate::comparing::compare::Compare;
 use crate::comparing::difference::Difference;
 use crate::drawing::campaign::requests_of;
 use crate::drawing::draft::{lineage_of, Draft, Lineage};
 use crate::drawing::random::Random;
 use crate::drawing::record_contents::any_numbers;
-use crate::drawing::tables_with_forks::left;
+use crate::drawing::tables_with_forks::places_left;
 use crate::model::block::{self, list_bytes, Request};
 use crate::model::setup::faults;
 use crate::model::sha256::{sha256, Digest};
@@ -22,14 +22,14 @@ pub struct Group<'a> {
     habits: Habits,
     pub sites: u8,
     owners: [u8; SLOTS],
-    /// Each refers to earlier ones only. They are no more than a table holds.
-    issued: Vec<Issued>,
-    /// Of each site.
+    /// All blocks that were built, each referring to earlier ones only. They are no more than a table holds.
+    blocks: Vec<GroupBlock>,
+    /// The controller of each site.
     controllers: Vec<Controller>,
 }
 
-/// A block that was built.
-struct Issued {
+/// A block that a site of the group built.
+struct GroupBlock {
     bytes: Vec<u8>,
     digest: Digest,
     /// The blocks that it refers to: bit i is block i.
@@ -62,7 +62,7 @@ enum Manner {
 
 #[derive(Clone, Copy)]
 struct Branch {
-    /// Its last block.
+    /// The last block of the branch.
     head: Option<usize>,
     /// The sites that its next blocks are shown to, as a mask.
     shown_to: u16,
@@ -140,7 +140,7 @@ fn owners(random: &Random, manners: &[Manner]) -> [u8; SLOTS] {
 }
 
 impl<'a> Group<'a> {
-    /// With fresh tables and any records.
+    /// A group with fresh tables and any records.
     pub fn new(random: &'a Random, compare: &mut Compare) -> Result<Group<'a>, Difference> {
         // Those with few sites take less time.
         let few = random.pick(&[1, 4, 4, 4, 4, 4, 4, 4, 4, 7, 7, 10]);
@@ -151,12 +151,12 @@ impl<'a> Group<'a> {
         for manner in manners {
             let mut table = random.bytes(TABLE_BYTES);
             compare.fresh(sites, &owners, &mut table)?;
-            let sides = Sides::new(Lent::new(table, any_numbers(random, BUFFER_NUMBERS)));
+            let sides = Sides::new(Buffers::new(table, any_numbers(random, BUFFER_NUMBERS)));
             let branches = vec![Branch { head: None, shown_to: u16::MAX }];
             controllers.push(Controller { manner, sides, held: 0, refused: 0, branches });
         }
         let habits = Habits::drawn(random, sites);
-        Ok(Group { random, habits, sites, owners, issued: Vec::new(), controllers })
+        Ok(Group { random, habits, sites, owners, blocks: Vec::new(), controllers })
     }
 
     pub fn rounds(&self) -> usize {
@@ -169,8 +169,8 @@ impl<'a> Group<'a> {
         (0..self.sites).filter(by_rule).fold(0, |mask, site| mask | bit(site))
     }
 
-    /// What a site has: the model's table, and the records of what is compared with the model.
-    pub fn left(&self, site: u8) -> (Table, &[u16]) {
+    /// A site's table by the model, and its records by what is compared with the model.
+    pub fn table_and_records(&self, site: u8) -> (Table, &[u16]) {
         (self.table(site), &self.controllers[usize::from(site)].sides.tested.records)
     }
 
@@ -182,12 +182,12 @@ impl<'a> Group<'a> {
     pub fn round(&mut self, compare: &mut Compare, round: usize) -> Result<(), Difference> {
         let mut order: Vec<u8> = (0..self.sites).collect();
         self.random.shuffle(&mut order);
-        let before = self.issued.len();
+        let before = self.blocks.len();
         for site in order {
             if self.random.one_in(self.habits.idle_one_in) {
                 continue;
             }
-            let known = if self.habits.in_step { before } else { self.issued.len() };
+            let known = if self.habits.in_step { before } else { self.blocks.len() };
             let now = |_: &usize| !self.random.one_in(self.habits.late_one_in);
             self.receive(compare, site, (0..known).filter(now).collect())?;
             if round > 0 || !self.habits.owners_first || self.owners.contains(&site) {
@@ -201,7 +201,7 @@ impl<'a> Group<'a> {
     pub fn settle(&mut self, compare: &mut Compare) -> Result<(), Difference> {
         if self.habits.settles {
             for site in 0..self.sites {
-                self.receive(compare, site, (0..self.issued.len()).collect())?;
+                self.receive(compare, site, (0..self.blocks.len()).collect())?;
             }
         }
         Ok(())
@@ -214,9 +214,9 @@ impl<'a> Group<'a> {
         loop {
             let Controller { held, refused, .. } = self.controllers[usize::from(site)];
             let can_come = |&block: &usize| {
-                let issued = &self.issued[block];
-                let to_come = (held | refused) >> block & 1 == 0 && issued.comes_to & bit(site) != 0;
-                to_come && issued.references & !held == 0
+                let built = &self.blocks[block];
+                let to_come = (held | refused) >> block & 1 == 0 && built.comes_to & bit(site) != 0;
+                to_come && built.references & !held == 0
             };
             let ready: Vec<usize> = blocks.iter().copied().filter(can_come).collect();
             if ready.is_empty() {
@@ -229,8 +229,8 @@ impl<'a> Group<'a> {
     /// Admits a block to a site's table and interprets it.
     fn hold(&mut self, compare: &mut Compare, site: u8, block: usize) -> Result<(), Difference> {
         let controller = &mut self.controllers[usize::from(site)];
-        let issued = &mut self.issued[block];
-        let answer = compare.admit(&mut controller.sides, &issued.bytes, 1)?;
+        let built = &mut self.blocks[block];
+        let answer = compare.admit(&mut controller.sides, &built.bytes, 1)?;
         if answer.refusal != 0 {
             controller.refused |= 1 << block;
             return Ok(());
@@ -238,7 +238,7 @@ impl<'a> Group<'a> {
         compare.interpret(&mut controller.sides, answer.value)?;
         controller.held |= 1 << block;
         if controller.manner != Manner::Forking {
-            issued.comes_to = u16::MAX;
+            built.comes_to = u16::MAX;
         }
         Ok(())
     }
@@ -286,7 +286,7 @@ impl<'a> Group<'a> {
     /// The block that the building rule gives. None if it is refused: only wrong rules do so.
     fn build(&mut self, compare: &mut Compare, site: u8, requests: &[Request]) -> Result<Option<Vec<u8>>, Difference> {
         let table = &self.controllers[usize::from(site)].sides.expected.table;
-        let next = Next { table, site, requests: &list_bytes(requests) };
+        let next = NextBlock { table, site, requests: &list_bytes(requests) };
         let (answer, output) = compare.build(&next, &[0; MAX_BLOCK_BYTES])?;
         Ok((answer.refusal == 0).then(|| output[..answer.value].to_vec()))
     }
@@ -294,7 +294,7 @@ impl<'a> Group<'a> {
     /// A block on top of another that doesn't come from the building rule.
     fn draft(&self, site: u8, head: Option<usize>, requests: Vec<Request>) -> Vec<u8> {
         let table = self.table(site);
-        let parent = head.and_then(|head| table.place_of(&self.issued[head].digest));
+        let parent = head.and_then(|head| table.place_of(&self.blocks[head].digest));
         let (site, sequence, set) = match self.controllers[usize::from(site)].manner {
             Manner::Choosing => chosen(self.random, &table, site, parent),
             Manner::Forking if self.random.one_in(2) => chosen(self.random, &table, site, parent),
@@ -308,13 +308,13 @@ impl<'a> Group<'a> {
     /// Puts a block among the others, unless there are enough or it is one of them.
     fn issue(&mut self, bytes: Vec<u8>, shown_to: u16) -> Option<usize> {
         let digest = sha256(&bytes);
-        let issued = |digest: &Digest| self.issued.iter().position(|block| block.digest == *digest);
-        if self.issued.len() == PLACES || issued(&digest).is_some() {
+        let number_of = |digest: &Digest| self.blocks.iter().position(|block| block.digest == *digest);
+        if self.blocks.len() == PLACES || number_of(&digest).is_some() {
             return None;
         }
-        let references = block::references(&bytes).iter().filter_map(issued).fold(0, |set, block| set | 1 << block);
-        self.issued.push(Issued { bytes, digest, references, comes_to: shown_to });
-        Some(self.issued.len() - 1)
+        let references = block::references(&bytes).iter().filter_map(number_of).fold(0, |set, block| set | 1 << block);
+        self.blocks.push(GroupBlock { bytes, digest, references, comes_to: shown_to });
+        Some(self.blocks.len() - 1)
     }
 }
 
@@ -324,7 +324,7 @@ fn chosen(random: &Random, table: &Table, site: u8, parent: Option<usize>) -> Li
     let sequence = parent.map_or(0, |place| table.rows[place].sequence + 1);
     let mut known = table.own(site).fold(0, |set, own| set | table.rows[own].references | 1 << own);
     let mut set: u64 = parent.map_or(0, |place| 1 << place);
-    for place in left(table, site) {
+    for place in places_left(table, site) {
         let fits = (set.count_ones() as usize) < MAX_REFERENCES && table.rows[place].references & !known == 0;
         if fits && !random.one_in(8) {
             set |= 1 << place;

@@ -1,8 +1,8 @@
 //! A keeper of a table: it gets the blocks of a campaign in an order of its own and interprets them by and by. It takes
 //! some back, which come again. Calls that are refused come in between. The list of its calls is kept, to be replayed.
 
-use crate::comparing::buffers::{Lent, Sides};
-use crate::comparing::compare::{Compare, Made};
+use crate::comparing::buffers::{Buffers, Sides};
+use crate::comparing::compare::{CallList, Compare};
 use crate::comparing::difference::Difference;
 use crate::drawing::arrivals::any;
 use crate::drawing::campaign::Campaign;
@@ -23,18 +23,18 @@ pub struct Keeper<'a> {
     // Sets of blocks: bit i is block i.
     admitted: u128,
     interpreted: u128,
-    /// They come no more: the table is full.
+    /// The blocks that come no more: the table is full.
     given_up: u128,
     calls: Vec<u8>,
     answers: Vec<Answer>,
     stages: Vec<Stage>,
 }
 
-/// How far a list was at some time.
+/// How far the list of calls was at some time, and the buffers then.
 struct Stage {
     bytes: usize,
     calls: usize,
-    left: Lent,
+    buffers: Buffers,
 }
 
 /// No keeper needs so many; one that found no end would otherwise go on for ever.
@@ -96,14 +96,14 @@ impl<'a> Keeper<'a> {
         Ok(keeper)
     }
 
-    /// With a fresh table and any records.
+    /// A keeper with a fresh table and any records.
     fn new(random: &Random, compare: &mut Compare, campaign: &'a Campaign) -> Result<Keeper<'a>, Difference> {
         let mut table = random.bytes(TABLE_BYTES);
         compare.fresh(campaign.sites, &campaign.owners, &mut table)?;
         let length = if random.one_in(16) { some_length(random) } else { BUFFER_NUMBERS };
         let mut keeper = Keeper {
             campaign,
-            sides: Sides::new(Lent::new(table, any_numbers(random, length))),
+            sides: Sides::new(Buffers::new(table, any_numbers(random, length))),
             held: Vec::new(),
             admitted: 0,
             interpreted: 0,
@@ -116,14 +116,14 @@ impl<'a> Keeper<'a> {
         Ok(keeper)
     }
 
-    /// What the calls so far have left.
-    pub fn left(&self) -> &Lent {
+    /// The buffers as the calls so far have left them.
+    pub fn buffers(&self) -> &Buffers {
         &self.sides.expected
     }
 
     fn stage(&mut self) {
-        let left = Lent::new(self.left().table.clone(), self.left().records.clone());
-        self.stages.push(Stage { bytes: self.calls.len(), calls: self.answers.len(), left });
+        let buffers = self.buffers().table_and_records();
+        self.stages.push(Stage { bytes: self.calls.len(), calls: self.answers.len(), buffers });
     }
 
     /// Replays the list from stage to stage.
@@ -131,11 +131,11 @@ impl<'a> Keeper<'a> {
         for (from, to) in self.stages.iter().zip(self.stages.iter().skip(1)) {
             let answers = &self.answers[from.calls..to.calls];
             let calls = &self.calls[from.bytes..to.bytes];
-            let made = Made { before: &from.left, calls, answers, after: &to.left };
+            let list = CallList { before: &from.buffers, calls, answers, after: &to.buffers };
             let room = 2 * answers.len();
             let length = random.pick(&[room, room, room + 1, room.saturating_sub(1), random.between(0, room + 3)]);
             let before: Vec<u64> = (0..length).map(|_| random.set()).collect();
-            compare.replay_made(&made, &before)?;
+            compare.replay_call_list(&list, &before)?;
         }
         Ok(())
     }
@@ -175,9 +175,9 @@ impl<'a> Keeper<'a> {
         let answer = compare.interpret(&mut self.sides, place)?;
         self.answers.push(answer);
         if answer.refusal == 0 {
-            compare.counts.campaigns.made(&part_at(&self.left().records, place));
+            compare.counts.campaigns.acts(&part_at(&self.buffers().records, place));
         }
-        // Or before it was known as a block of the campaign.
+        // 14: it was interpreted before it was known as a block of the campaign.
         if [0, 14].contains(&answer.refusal) {
             self.interpreted |= self.held[place].map_or(0, |block| 1 << block);
         }
@@ -187,7 +187,7 @@ impl<'a> Keeper<'a> {
     fn take_back(&mut self, compare: &mut Compare) -> Result<(), Difference> {
         self.calls.extend(taking_back());
         let answer = compare.take_back(&mut self.sides)?;
-        compare.counts.takings_back.kept(answer);
+        compare.counts.takings_back.by_keeper(answer);
         self.answers.push(answer);
         if answer.refusal == 0 {
             let block = self.held.pop().flatten();
@@ -202,7 +202,7 @@ impl<'a> Keeper<'a> {
     fn next_call(&mut self, random: &Random, compare: &mut Compare, habits: &Habits) -> Result<bool, Difference> {
         let ready = self.ready();
         // With a buffer of another length no place is ever interpreted.
-        let open = if self.left().records.len() == BUFFER_NUMBERS { self.open() } else { Vec::new() };
+        let open = if self.buffers().records.len() == BUFFER_NUMBERS { self.open() } else { Vec::new() };
         if !open.is_empty() && (ready.is_empty() || random.one_in(habits.interprets_one_in)) {
             self.interpret(compare, random.pick(&open))?;
             return Ok(true);
@@ -247,9 +247,9 @@ impl<'a> Keeper<'a> {
             0..=2 => self.admit(compare, bytes, random.pick(&[0, 2, 255]), Some(block)),
             // Few, since those that are admitted are often a fork.
             3 => {
-                let held = Table::from_bytes(&self.left().table);
-                let sent = any(random, &held, &[]);
-                self.admit(compare, &sent.block, sent.verdict, None)
+                let held = Table::from_bytes(&self.buffers().table);
+                let arrival = any(random, &held, &[]);
+                self.admit(compare, &arrival.block, arrival.verdict, None)
             }
             // Held already, or without its references, or admitted.
             _ => self.admit(compare, bytes, 1, Some(block)),

@@ -2,11 +2,11 @@
 //! bounds. In each round every site builds a block, and gets those of the others in an order of its own. Each retires where
 //! its table is full, or sooner. Now and then it takes a block back, which comes again.
 
-use crate::comparing::buffers::Next;
+use crate::comparing::buffers::NextBlock;
 use crate::comparing::compare::Compare;
 use crate::comparing::difference::Difference;
-use crate::comparing::facts::long_campaign::LongCampaign;
-use crate::comparing::facts::site::Kept;
+use crate::comparing::facts::long_campaign::LongCampaignFacts;
+use crate::comparing::facts::site::SiteWithLedger;
 use crate::comparing::laws;
 use crate::drawing::random::Random;
 use crate::model::block::{list_bytes, Request};
@@ -19,7 +19,7 @@ const ASKED_LATER: u16 = 1;
 /// Of so many blocks that come to a site, one is taken back first.
 const TAKEN_BACK_ONE_IN: usize = 32;
 
-pub struct Long<'a> {
+pub struct LongCampaign<'a> {
     random: &'a Random,
     sites: u8,
     owners: [u8; SLOTS],
@@ -33,19 +33,19 @@ pub struct Long<'a> {
 }
 
 struct Controller {
-    kept: Kept,
-    /// It retires until it holds fewer than so many.
+    site: SiteWithLedger,
+    /// The site retires until it holds fewer blocks than this.
     fewer_than: usize,
 }
 
-impl<'a> Long<'a> {
-    /// Of so many blocks at least, with the law that is held first against each call, if any is.
+impl<'a> LongCampaign<'a> {
+    /// A campaign of so many blocks at least, with the law that is held first against each call, if any is.
     pub fn new(
         random: &'a Random,
         compare: &mut Compare,
         blocks: usize,
         first_law: Option<usize>,
-    ) -> Result<Long<'a>, Difference> {
+    ) -> Result<LongCampaign<'a>, Difference> {
         let sites: u8 = random.pick(&[1, 4, 4, 7]);
         let owners = std::array::from_fn(|_| random.below(sites.into()) as u8);
         let rounds = blocks.div_ceil(sites.into());
@@ -55,12 +55,12 @@ impl<'a> Long<'a> {
         let numbers = std::array::from_fn(|_| random.number().max(ASKED_LATER + 1));
         let mut controllers = Vec::new();
         for _ in 0..sites {
-            let kept = Kept::new(random, compare, (sites, owners), BUFFER_NUMBERS, first_law)?;
+            let site = SiteWithLedger::new(random, compare, (sites, owners), BUFFER_NUMBERS, first_law)?;
             // The blocks of the last three rounds stay: the others still refer to them.
             let fewer_than = random.pick(&[PLACES, PLACES, random.between(3 * usize::from(sites), PLACES)]);
-            controllers.push(Controller { kept, fewer_than });
+            controllers.push(Controller { site, fewer_than });
         }
-        Ok(Long { random, sites, owners, numbers, asked_in, rounds, controllers, when_full: 0 })
+        Ok(LongCampaign { random, sites, owners, numbers, asked_in, rounds, controllers, when_full: 0 })
     }
 
     pub fn run(&mut self, compare: &mut Compare) -> Result<(), Difference> {
@@ -79,10 +79,10 @@ impl<'a> Long<'a> {
         Ok(())
     }
 
-    /// What the sites came to.
-    pub fn left(&self) -> LongCampaign<'_> {
-        let sites = self.controllers.iter().map(|controller| &controller.kept).collect();
-        LongCampaign { sites, numbers: self.numbers, when_full: self.when_full }
+    /// The sites after all calls.
+    pub fn facts(&self) -> LongCampaignFacts<'_> {
+        let sites = self.controllers.iter().map(|controller| &controller.site).collect();
+        LongCampaignFacts { sites, numbers: self.numbers, when_full: self.when_full }
     }
 
     /// What a site builds in a round. Owners ask in theirs, and once more later, in vain.
@@ -96,29 +96,29 @@ impl<'a> Long<'a> {
             (self.owners[slot] == site).then_some(Request { slot: slot as u8, number })
         };
         let requests: Vec<Request> = (0..SLOTS).filter_map(request).collect();
-        let next = Next {
-            table: &self.controllers[usize::from(site)].kept.left().table,
+        let next = NextBlock {
+            table: &self.controllers[usize::from(site)].site.buffers().table,
             site,
             requests: &list_bytes(&requests),
         };
         let (answer, output) = compare.build(&next, &[0; MAX_BLOCK_BYTES])?;
-        laws::check_passed("gt_build", answer)?;
+        laws::check_not_refused("gt_build", answer)?;
         Ok(output[..answer.value].to_vec())
     }
 
     /// A block comes to a site, which makes room for it.
     fn hold(&mut self, compare: &mut Compare, site: u8, block: &[u8]) -> Result<(), Difference> {
-        let Controller { kept, fewer_than } = &mut self.controllers[usize::from(site)];
-        while kept.ledger.count() >= *fewer_than {
-            self.when_full += u64::from(kept.ledger.count() == PLACES);
-            laws::check_passed("gt_retire", kept.retire(compare)?)?;
+        let Controller { site, fewer_than } = &mut self.controllers[usize::from(site)];
+        while site.ledger.count() >= *fewer_than {
+            self.when_full += u64::from(site.ledger.count() == PLACES);
+            laws::check_not_refused("gt_retire", site.retire(compare)?)?;
         }
         if self.random.one_in(TAKEN_BACK_ONE_IN) {
-            laws::check_passed("gt_admit", kept.admit(compare, block, 1)?)?;
-            laws::check_passed("gt_take_back", kept.take_back(compare)?)?;
+            laws::check_not_refused("gt_admit", site.admit(compare, block, 1)?)?;
+            laws::check_not_refused("gt_take_back", site.take_back(compare)?)?;
         }
-        let admission = kept.admit(compare, block, 1)?;
-        laws::check_passed("gt_admit", admission)?;
-        laws::check_passed("gt_interpret", kept.interpret(compare, admission.value)?)
+        let admission = site.admit(compare, block, 1)?;
+        laws::check_not_refused("gt_admit", admission)?;
+        laws::check_not_refused("gt_interpret", site.interpret(compare, admission.value)?)
     }
 }

@@ -3,12 +3,12 @@
 //! them. Blocks that have left and blocks that were taken back come again. The list of its calls is kept, to be
 //! replayed.
 
-use crate::comparing::buffers::Lent;
-use crate::comparing::compare::{Compare, Made};
-use crate::comparing::counts::{Coming, Going};
+use crate::comparing::buffers::Buffers;
+use crate::comparing::compare::{CallList, Compare};
+use crate::comparing::counts::{BlockHistory, LastBlockHistory};
 use crate::comparing::difference::Difference;
-use crate::comparing::facts::site::Kept;
-use crate::comparing::laws::{self, GivenBack};
+use crate::comparing::facts::site::SiteWithLedger;
+use crate::comparing::laws::{self, AdmissionTakenBack};
 use crate::drawing::arrivals::{any, good};
 use crate::drawing::campaign::Campaign;
 use crate::drawing::random::Random;
@@ -23,10 +23,10 @@ use crate::model::table::Table;
 
 pub struct Retirer<'a> {
     campaign: &'a Campaign,
-    pub kept: Kept,
+    pub site: SiteWithLedger,
     calls: Vec<u8>,
     answers: Vec<Answer>,
-    before: Lent,
+    before: Buffers,
     /// Whether the last call admitted a block.
     just_admitted: bool,
     /// Whether each admission is taken back on a copy. Else wrong rules show whether the laws of what the lists leave
@@ -77,11 +77,11 @@ impl<'a> Retirer<'a> {
     ) -> Result<Retirer<'a>, Difference> {
         let habits = Habits::drawn(random, campaign);
         let numbers = if random.one_in(24) { some_length(random) } else { BUFFER_NUMBERS };
-        let kept = Kept::new(random, compare, (campaign.sites, campaign.owners), numbers, first_law)?;
-        let before = Lent::new(kept.left().table.clone(), kept.left().records.clone());
+        let site = SiteWithLedger::new(random, compare, (campaign.sites, campaign.owners), numbers, first_law)?;
+        let before = site.buffers().table_and_records();
         let on_copies = first_law.is_some() && random.one_in(2);
         let (calls, answers) = (Vec::new(), Vec::new());
-        let mut retirer = Retirer { campaign, kept, calls, answers, before, just_admitted: false, on_copies };
+        let mut retirer = Retirer { campaign, site, calls, answers, before, just_admitted: false, on_copies };
         while retirer.answers.len() < habits.most_calls {
             retirer.next_call(random, compare, &habits)?;
         }
@@ -90,27 +90,27 @@ impl<'a> Retirer<'a> {
 
     /// Replays the whole list.
     pub fn replay(&self, random: &Random, compare: &mut Compare) -> Result<(), Difference> {
-        let left = Lent::new(self.kept.left().table.clone(), self.kept.left().records.clone());
-        let made = Made { before: &self.before, calls: &self.calls, answers: &self.answers, after: &left };
+        let after = self.site.buffers().table_and_records();
+        let list = CallList { before: &self.before, calls: &self.calls, answers: &self.answers, after: &after };
         let room = 2 * self.answers.len();
         let length = random.pick(&[room, room, room + 1, room.saturating_sub(1)]);
         let answers: Vec<u64> = (0..length).map(|_| random.set()).collect();
-        compare.replay_made(&made, &answers)
+        compare.replay_call_list(&list, &answers)
     }
 
     // ---- Calls
 
     fn admit(&mut self, compare: &mut Compare, bytes: &[u8], verdict: u8) -> Result<Answer, Difference> {
-        let coming = self.coming(bytes);
-        let before = self.kept.left().table.clone();
+        let history = self.block_history(bytes);
+        let before = self.site.buffers().table.clone();
         self.calls.extend(admission(verdict, bytes));
-        let answer = self.kept.admit(compare, bytes, verdict)?;
-        compare.counts.retirings.admitted(answer, &coming);
-        compare.counts.takings_back.admitted(answer, coming.was_taken_back);
+        let answer = self.site.admit(compare, bytes, verdict)?;
+        compare.counts.retirings.admission(answer, &history);
+        compare.counts.takings_back.admission(answer, history.was_taken_back);
         self.note(answer);
         self.just_admitted = answer.refusal == 0;
         if self.just_admitted && self.on_copies {
-            laws::check_gives_back(&GivenBack::of(compare, before, &self.kept.left().table)?)?;
+            laws::check_taking_back(&AdmissionTakenBack::of(compare, before, &self.site.buffers().table)?)?;
         }
         Ok(answer)
     }
@@ -120,10 +120,10 @@ impl<'a> Retirer<'a> {
         self.just_admitted = false;
     }
 
-    fn coming(&self, bytes: &[u8]) -> Coming {
-        let ledger = &self.kept.ledger;
+    fn block_history(&self, bytes: &[u8]) -> BlockHistory {
+        let ledger = &self.site.ledger;
         let (digest, references) = (sha256(bytes), block::references(bytes));
-        Coming {
+        BlockHistory {
             has_left: ledger.is_gone(&digest),
             was_taken_back: ledger.was_taken_back(&digest),
             refers_to_lost: references.iter().any(|reference| ledger.is_gone(reference)),
@@ -133,36 +133,36 @@ impl<'a> Retirer<'a> {
 
     fn interpret(&mut self, compare: &mut Compare, place: usize) -> Result<(), Difference> {
         self.calls.extend(interpretation(place));
-        let digest = (place < self.kept.ledger.count()).then(|| self.kept.ledger.at(place).digest);
-        let again = digest.is_some_and(|digest| self.kept.parts.contains_key(&digest));
-        let answer = self.kept.interpret(compare, place)?;
-        compare.counts.retirings.interpreted(answer, again);
+        let digest = (place < self.site.ledger.count()).then(|| self.site.ledger.at(place).digest);
+        let again = digest.is_some_and(|digest| self.site.parts.contains_key(&digest));
+        let answer = self.site.interpret(compare, place)?;
+        compare.counts.retirings.interpretation(answer, again);
         self.note(answer);
         Ok(())
     }
 
     fn retire(&mut self, compare: &mut Compare) -> Result<(), Difference> {
         self.calls.extend(retiring());
-        let before = Table::from_bytes(&self.kept.left().table);
-        let answer = self.kept.retire(compare)?;
-        compare.counts.retirings.asked(&before, self.kept.left().records.len(), answer);
+        let before = Table::from_bytes(&self.site.buffers().table);
+        let answer = self.site.retire(compare)?;
+        compare.counts.retirings.answer(&before, self.site.buffers().records.len(), answer);
         self.note(answer);
         Ok(())
     }
 
     fn take_back(&mut self, compare: &mut Compare) -> Result<(), Difference> {
         self.calls.extend(taking_back());
-        let going = self.going();
-        let answer = self.kept.take_back(compare)?;
-        compare.counts.takings_back.taken(answer, &going);
+        let history = self.last_block_history();
+        let answer = self.site.take_back(compare)?;
+        compare.counts.takings_back.taking_back(answer, &history);
         self.note(answer);
         Ok(())
     }
 
-    fn going(&self) -> Going {
-        let ledger = &self.kept.ledger;
+    fn last_block_history(&self) -> LastBlockHistory {
+        let ledger = &self.site.ledger;
         let last = ledger.count().checked_sub(1).map(|place| ledger.at(place));
-        Going {
+        LastBlockHistory {
             just_admitted: self.just_admitted,
             has_returned: last.is_some_and(|last| ledger.has_returned(&last.digest)),
             is_twin: last.is_some_and(|last| ledger.counting().any(|other| other.is_twin_of(last))),
@@ -172,7 +172,7 @@ impl<'a> Retirer<'a> {
     // ---- Which call comes next
 
     fn next_call(&mut self, random: &Random, compare: &mut Compare, habits: &Habits) -> Result<(), Difference> {
-        let can = self.kept.ledger.count() >= habits.from && self.kept.ledger.may_retire();
+        let can = self.site.ledger.count() >= habits.from && self.site.ledger.may_retire();
         if can && random.one_in(habits.retires_one_in) || random.one_in(8 * habits.retires_one_in) {
             return self.retire(compare);
         }
@@ -185,11 +185,12 @@ impl<'a> Retirer<'a> {
         if random.one_in(habits.refused_one_in) {
             return self.odd_call(random, compare);
         }
-        let open = if self.kept.left().records.len() == BUFFER_NUMBERS { self.kept.ledger.open() } else { Vec::new() };
+        let open =
+            if self.site.buffers().records.len() == BUFFER_NUMBERS { self.site.ledger.open() } else { Vec::new() };
         if !open.is_empty() && random.one_in(habits.interprets_one_in) {
             return self.interpret(compare, random.pick(&open));
         }
-        let (ready, gone) = (self.ready(), self.gone());
+        let (ready, gone) = (self.ready(), self.retired_blocks());
         let again = !gone.is_empty() && random.one_in(habits.again_one_in);
         let block = match (ready.is_empty() || again, gone.is_empty()) {
             (false, _) => random.pick(&[ready[0], random.pick(&ready)]),
@@ -203,7 +204,7 @@ impl<'a> Retirer<'a> {
 
     /// The campaign's blocks that were never admitted, or were taken back, and whose references are all held.
     fn ready(&self) -> Vec<usize> {
-        let ledger = &self.kept.ledger;
+        let ledger = &self.site.ledger;
         let new = |block: usize| {
             let digest = &self.campaign.blocks[block].digest;
             ledger.place_of(digest).is_none() && !ledger.is_gone(digest)
@@ -215,8 +216,8 @@ impl<'a> Retirer<'a> {
     }
 
     /// The campaign's blocks that have left.
-    fn gone(&self) -> Vec<usize> {
-        let has_left = |block: &usize| self.kept.ledger.is_gone(&self.campaign.blocks[*block].digest);
+    fn retired_blocks(&self) -> Vec<usize> {
+        let has_left = |block: &usize| self.site.ledger.is_gone(&self.campaign.blocks[*block].digest);
         (0..self.campaign.blocks.len()).filter(has_left).collect()
     }
 
@@ -225,7 +226,7 @@ impl<'a> Retirer<'a> {
     fn load_wrong_file(&mut self, random: &Random, compare: &mut Compare) -> Result<(), Difference> {
         let mut admitted = 0;
         for _ in 0..random.between(1, 3) {
-            let held = Table::from_bytes(&self.kept.left().table);
+            let held = Table::from_bytes(&self.site.buffers().table);
             let answer = self.admit(compare, &good(random, &held).block, 1)?;
             admitted += usize::from(answer.refusal == 0);
         }
@@ -239,12 +240,12 @@ impl<'a> Retirer<'a> {
     fn odd_call(&mut self, random: &Random, compare: &mut Compare) -> Result<(), Difference> {
         let campaign = self.campaign;
         match random.below(6) {
-            0 | 1 => self.interpret(compare, any_target(random, self.kept.ledger.count())),
+            0 | 1 => self.interpret(compare, any_target(random, self.site.ledger.count())),
             2 => {
                 // A fork often, where it is admitted.
-                let held = Table::from_bytes(&self.kept.left().table);
-                let sent = any(random, &held, &[]);
-                self.admit(compare, &sent.block, sent.verdict).map(|_| ())
+                let held = Table::from_bytes(&self.site.buffers().table);
+                let arrival = any(random, &held, &[]);
+                self.admit(compare, &arrival.block, arrival.verdict).map(|_| ())
             }
             _ => {
                 let block = &campaign.blocks[random.below(campaign.blocks.len())];

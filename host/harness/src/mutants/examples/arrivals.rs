@@ -38,15 +38,15 @@ struct Follower<'a> {
     room: usize,
 }
 
-/// Refusal, value and what is listed.
-type Answered = (u8, usize, Vec<(u64, u64)>);
+/// Refusal, value and the outcomes that are listed.
+type ArrivalReply = (u8, usize, Vec<(u64, u64)>);
 
-fn refused(number: u8, value: usize) -> Answered {
+fn refused(number: u8, value: usize) -> ArrivalReply {
     (number, value, Vec::new())
 }
 
 /// At a place, with others let in at these.
-fn let_in(place: usize, others: std::ops::Range<u64>) -> Answered {
+fn let_in(place: usize, others: std::ops::Range<u64>) -> ArrivalReply {
     (0, place, others.map(|place| (0, place)).collect())
 }
 
@@ -58,7 +58,7 @@ impl<'a> Follower<'a> {
         Follower { calls, tables, shelf: vec![0; SHELF_BYTES], room: 20 }
     }
 
-    fn arrive(&mut self, campaign: u8, block: &[u8]) -> Answered {
+    fn arrive(&mut self, campaign: u8, block: &[u8]) -> ArrivalReply {
         let table = &mut self.tables[usize::from(campaign) % CAMPAIGNS];
         let mut outcomes = vec![99; self.room];
         let arrival = self.calls.arrive(table, &mut self.shelf, campaign, &mut block.to_vec(), 1, &mut outcomes);

@@ -7,7 +7,7 @@ use crate::model::sha256::{sha256, Digest};
 use crate::model::sizes::{BUFFER_NUMBERS, SLOTS, TABLE_BYTES};
 use crate::model::table::Table;
 
-/// Site 0 owns all slots.
+/// A table, its records and the blocks held. Site 0 owns all slots.
 pub struct Holder<'a> {
     pub calls: &'a dyn Calls,
     pub table: Vec<u8>,
@@ -23,7 +23,7 @@ impl<'a> Holder<'a> {
         Holder { calls, table, records: vec![0; BUFFER_NUMBERS], blocks: Vec::new() }
     }
 
-    /// For n 4, with thirteen blocks.
+    /// A holder for n 4, with thirteen blocks.
     pub fn with_thirteen_blocks(calls: &'a dyn Calls) -> Holder<'a> {
         let mut holder = Holder::new(calls, 4);
         holder.thirteen_blocks();
@@ -40,7 +40,7 @@ impl<'a> Holder<'a> {
         (answer.refusal, answer.value)
     }
 
-    /// With a change that no call makes.
+    /// The holder with a change that no call makes.
     pub fn changed(self, change: fn(&mut Table)) -> Holder<'a> {
         let mut table = Table::from_bytes(&self.table);
         change(&mut table);

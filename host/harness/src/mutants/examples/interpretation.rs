@@ -19,17 +19,17 @@ pub fn all(calls: &dyn Calls) -> Vec<(&'static str, bool)> {
 }
 
 /// What is made in slot 0 of a block: SEND, ECHO, READY, delivery.
-type Made = [u16; ACTS.len()];
-const NOTHING: Made = [0; ACTS.len()];
+type ActNumbers = [u16; ACTS.len()];
+const NOTHING: ActNumbers = [0; ACTS.len()];
 
 impl Holder<'_> {
-    fn made(&self, place: usize) -> Made {
+    fn made(&self, place: usize) -> ActNumbers {
         let record = record_at(&self.records, place, 0);
         ACTS.map(|act| record[act.made()])
     }
 
     /// A block with no request, and what it makes.
-    fn made_by(&mut self, site: u8, sequence: u16, places: &[usize]) -> Made {
+    fn made_by(&mut self, site: u8, sequence: u16, places: &[usize]) -> ActNumbers {
         let place = self.block(site, sequence, places, None);
         self.made(place)
     }
@@ -45,7 +45,7 @@ fn chain(mut holder: Holder) -> bool {
 
 fn thirteen_blocks(holder: &mut Holder) -> bool {
     let [first, echoes, readies, deliveries] = holder.thirteen_blocks();
-    let all = |places: &[usize], made: Made| places.iter().all(|&place| holder.made(place) == made);
+    let all = |places: &[usize], made: ActNumbers| places.iter().all(|&place| holder.made(place) == made);
     all(&first, [42, 0, 0, 0])
         && all(&echoes, [0, 42, 0, 0])
         && all(&readies, [0, 0, 42, 0])

@@ -4,7 +4,7 @@ use super::holder::Holder;
 use super::{chain_from, requesting};
 use crate::model::calls::Calls;
 use crate::model::exit::Exit;
-use crate::model::listing::arrival;
+use crate::model::listing::arrival_bytes;
 
 /// Setups for n 1 and n 4.
 const ONE: [u8; 9] = [1, 0, 0, 0, 0, 0, 0, 0, 0];
@@ -18,7 +18,7 @@ pub fn all(calls: &dyn Calls) -> Vec<(&'static str, bool)> {
     let one = |arrivals: &[u8]| [&ONE[..], arrivals].concat();
     let chain = arrivals(&chain_from(requesting(&[(0, 7)]), 4));
     let first = arrivals(&[requesting(&[(0, 7)])]);
-    let [longer, longer_still] = [542, 65535].map(|length| arrival(0, &vec![0; length]));
+    let [longer, longer_still] = [542, 65535].map(|length| arrival_bytes(0, &vec![0; length]));
     let two_slots = arrivals(&chain_from(requesting(&[(5, 7), (2, 9)]), 5));
     let thirteen = [&FOUR[..], &arrivals(&Holder::with_thirteen_blocks(calls).blocks)].concat();
     vec![
@@ -50,7 +50,7 @@ pub fn all(calls: &dyn Calls) -> Vec<(&'static str, bool)> {
 
 /// Each with verdict 1.
 fn arrivals(blocks: &[Vec<u8>]) -> Vec<u8> {
-    blocks.iter().flat_map(|block| arrival(1, block)).collect()
+    blocks.iter().flat_map(|block| arrival_bytes(1, block)).collect()
 }
 
 /// Whether a program that ended well wrote the names and these lines.

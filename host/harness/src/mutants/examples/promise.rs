@@ -4,7 +4,7 @@
 
 use super::holder::Holder;
 use crate::model::calls::Calls;
-use crate::model::promise::Held;
+use crate::model::promise::HeldBlocks;
 use crate::model::table::Table;
 
 pub fn all(calls: &dyn Calls) -> Vec<(&'static str, bool)> {
@@ -39,15 +39,15 @@ pub fn all(calls: &dyn Calls) -> Vec<(&'static str, bool)> {
 }
 
 /// A number of slot 0, and the set of the places by which it must be delivered.
-type Promised = Option<(u16, u64)>;
-const NOTHING: Promised = None;
+type SlotPromise = Option<(u16, u64)>;
+const NOTHING: SlotPromise = None;
 
-fn by(places: &[usize]) -> Promised {
+fn by(places: &[usize]) -> SlotPromise {
     Some((42, places.iter().fold(0, |set, place| set | 1 << place)))
 }
 
-fn promised(holder: &Holder) -> Promised {
-    let promise = Held::of(Table::from_bytes(&holder.table)).promise(0)?;
+fn promised(holder: &Holder) -> SlotPromise {
+    let promise = HeldBlocks::of(Table::from_bytes(&holder.table)).promise(0)?;
     Some((promise.number, promise.lasts))
 }
 
@@ -68,7 +68,7 @@ fn rounds<'a>(mut holder: Holder<'a>, sites: &[u8], count: usize) -> Holder<'a> 
     holder
 }
 
-fn third_stays_out(holder: Holder) -> Promised {
+fn third_stays_out(holder: Holder) -> SlotPromise {
     let mut holder = rounds(holder, &[0, 1, 2], 1);
     let seconds = round(&mut holder, &[0, 1], &[1, 2, 3]);
     rounds_on(&mut holder, &[0, 1], seconds, 3);
@@ -76,7 +76,7 @@ fn third_stays_out(holder: Holder) -> Promised {
 }
 
 /// That of the owner is at place 1. The others refer to their own first blocks, and site 1 to the second ones.
-fn first_unseen(holder: Holder) -> Promised {
+fn first_unseen(holder: Holder) -> SlotPromise {
     let mut holder = rounds(holder, &[0, 1, 2, 3], 1);
     let seconds = round(&mut holder, &[1, 2, 3], &[2, 3, 4]);
     round(&mut holder, &[1], &seconds);
@@ -84,14 +84,14 @@ fn first_unseen(holder: Holder) -> Promised {
 }
 
 /// Two rounds of three sites, and a block of the fourth that refers to these places.
-fn fourth(holder: Holder, places: &[usize]) -> Promised {
+fn fourth(holder: Holder, places: &[usize]) -> SlotPromise {
     let mut holder = rounds(holder, &[0, 1, 2], 2);
     round(&mut holder, &[3], places);
     promised(&holder)
 }
 
 /// Three rounds of three sites, and two more blocks of a site, of sequence 0.
-fn twice(holder: Holder, site: u8) -> Promised {
+fn twice(holder: Holder, site: u8) -> SlotPromise {
     let mut holder = rounds(holder, &[0, 1, 2], 3);
     for number in [43, 44] {
         holder.block(site, 0, &[], Some(number));
@@ -100,21 +100,21 @@ fn twice(holder: Holder, site: u8) -> Promised {
 }
 
 /// So many blocks of site 3, all of sequence 0. The owner's first block refers to one of them, and nobody else does.
-fn overlooked(mut holder: Holder, count: u16) -> Promised {
+fn overlooked(mut holder: Holder, count: u16) -> SlotPromise {
     let others: Vec<usize> = (43..43 + count).map(|number| holder.block(3, 0, &[], Some(number))).collect();
     let first = holder.block(0, 0, &others[..1], Some(42));
     rounds_on(&mut holder, &[0, 1, 2], vec![first], 3);
     promised(&holder)
 }
 
-fn second_request(holder: Holder) -> Promised {
+fn second_request(holder: Holder) -> SlotPromise {
     let mut holder = rounds(holder, &[1, 2], 1);
     let second = holder.block(0, 1, &[0], Some(43));
     rounds_on(&mut holder, &[0, 1, 2], vec![1, 2, second], 2);
     promised(&holder)
 }
 
-fn other_request(mut holder: Holder) -> Promised {
+fn other_request(mut holder: Holder) -> SlotPromise {
     let other = holder.block(1, 0, &[], Some(43));
     let first = holder.block(0, 0, &[], Some(42));
     rounds_on(&mut holder, &[0, 1, 2], vec![other, first], 3);

@@ -1,7 +1,7 @@
 //! Mistakes in admission: in its checks, in their order, in what it writes and in what it leaves.
 
-use super::{value_beside, Mistake, Mutant};
-use crate::model::admission::{put, row, Arrival, CHECKS};
+use super::{flip_last, neighbours_swapped, value_beside, Mistake, Mutant};
+use crate::model::admission::{put, row, AdmissionInput, CHECKS};
 use crate::model::block;
 use crate::model::sha256::{sha256, Digest};
 use crate::model::sizes::{DIGEST_BYTES, MAX_REFERENCES, PLACES, SLOTS};
@@ -22,12 +22,7 @@ pub fn checks_exchanged() -> Vec<Mutant> {
             m.after_admission(move |answer, _, _| value_beside(number, answer, 0));
         }));
     }
-    for first in 0..CHECKS.len() - 1 {
-        let (earlier, later) = (CHECKS[first].number, CHECKS[first + 1].number);
-        mutants.push(Mutant::with(format!("admission: checks {earlier} and {later} swapped"), |m| {
-            m.model.admission.swap(first, first + 1);
-        }));
-    }
+    mutants.extend(neighbours_swapped("admission", |model| &mut model.admission));
     mutants
 }
 
@@ -39,192 +34,192 @@ pub const MISTAKES: &[Mistake] = &[
     ("admission: 11 before all but 2", |m| m.model.admission[1..10].rotate_right(1)),
     // Single checks
     ("admission: a site may be n", |m| {
-        m.admission(4, |asked| (block::site(&asked.block) > asked.table.sites).then_some(0))
+        m.admission(4, |input| (block::site(&input.block) > input.table.sites).then_some(0))
     }),
     ("admission: sites are compared with 16", |m| {
-        m.admission(4, |asked| (block::site(&asked.block) >= 16).then_some(0))
+        m.admission(4, |input| (block::site(&input.block) >= 16).then_some(0))
     }),
-    ("admission: verdict 2 passes", |m| m.admission(5, |asked| (![1, 2].contains(&asked.verdict)).then_some(0))),
-    ("admission: verdict 0 passes", |m| m.admission(5, |asked| (asked.verdict > 1).then_some(0))),
-    ("admission: every verdict but 0 passes", |m| m.admission(5, |asked| (asked.verdict == 0).then_some(0))),
-    ("admission: the verdict's low bit decides", |m| m.admission(5, |asked| (asked.verdict % 2 == 0).then_some(0))),
+    ("admission: verdict 2 passes", |m| m.admission(5, |input| (![1, 2].contains(&input.verdict)).then_some(0))),
+    ("admission: verdict 0 passes", |m| m.admission(5, |input| (input.verdict > 1).then_some(0))),
+    ("admission: every verdict but 0 passes", |m| m.admission(5, |input| (input.verdict == 0).then_some(0))),
+    ("admission: the verdict's low bit decides", |m| m.admission(5, |input| (input.verdict % 2 == 0).then_some(0))),
     ("admission: slot 8 passes", |m| {
-        m.admission(6, |asked| {
-            let requests = block::requests(&asked.block);
+        m.admission(6, |input| {
+            let requests = block::requests(&input.block);
             requests.iter().position(|request| usize::from(request.slot) > SLOTS || request.number == 0)
         })
     }),
     ("admission: number 0 passes", |m| {
-        m.admission(6, |asked| {
-            let requests = block::requests(&asked.block);
+        m.admission(6, |input| {
+            let requests = block::requests(&input.block);
             requests.iter().position(|request| usize::from(request.slot) >= SLOTS)
         })
     }),
     ("admission: a number of low byte 0 is refused", |m| {
-        m.admission(6, |asked| {
-            let requests = block::requests(&asked.block);
+        m.admission(6, |input| {
+            let requests = block::requests(&input.block);
             requests.iter().position(|request| usize::from(request.slot) >= SLOTS || request.number % 256 == 0)
         })
     }),
     ("admission: the last bad request is named", |m| {
-        m.admission(6, |asked| {
-            let requests = block::requests(&asked.block);
+        m.admission(6, |input| {
+            let requests = block::requests(&input.block);
             requests.iter().rposition(|request| usize::from(request.slot) >= SLOTS || request.number == 0)
         })
     }),
     ("admission: only neighbouring references are compared", |m| {
-        m.admission(7, |asked| {
-            let references = block::references(&asked.block);
+        m.admission(7, |input| {
+            let references = block::references(&input.block);
             (1..references.len()).find(|&index| references[index] == references[index - 1])
         })
     }),
     ("admission: 7 names the earlier reference", |m| {
-        m.admission(7, |asked| {
-            let references = block::references(&asked.block);
+        m.admission(7, |input| {
+            let references = block::references(&input.block);
             (0..references.len()).find(|&index| references[index + 1..].contains(&references[index]))
         })
     }),
     ("admission: 8 doesn't look at the last place", |m| {
-        m.admission(8, |asked| {
-            let place = asked.table.place_of(&asked.digest)?;
-            (place + 1 < asked.table.count).then_some(place)
+        m.admission(8, |input| {
+            let place = input.table.place_of(&input.digest)?;
+            (place + 1 < input.table.count).then_some(place)
         })
     }),
     ("admission: 8 doesn't look at place 0", |m| {
-        m.admission(8, |asked| asked.table.place_of(&asked.digest).filter(|&place| place > 0))
+        m.admission(8, |input| input.table.place_of(&input.digest).filter(|&place| place > 0))
     }),
     ("admission: 8 leaves out the digest's last byte", |m| {
-        m.admission(8, |asked| place_of_part(&asked.table, &asked.digest))
+        m.admission(8, |input| place_of_part(&input.table, &input.digest))
     }),
     ("admission: 9 leaves out the digest's last byte", |m| {
-        m.admission(9, |asked| {
-            let missing = |reference: &Digest| place_of_part(&asked.table, reference).is_none();
-            block::references(&asked.block).iter().position(missing)
+        m.admission(9, |input| {
+            let missing = |reference: &Digest| place_of_part(&input.table, reference).is_none();
+            block::references(&input.block).iter().position(missing)
         })
     }),
     ("admission: references are looked for from the count on too", |m| {
-        m.admission(9, |asked| {
-            let found = |digest: &Digest| asked.table.rows.iter().any(|row| row.digest == *digest);
-            block::references(&asked.block).iter().position(|reference| !found(reference))
+        m.admission(9, |input| {
+            let found = |digest: &Digest| input.table.rows.iter().any(|row| row.digest == *digest);
+            block::references(&input.block).iter().position(|reference| !found(reference))
         })
     }),
     ("admission: the last missing reference is named", |m| {
-        m.admission(9, |asked| {
-            let missing = |reference: &Digest| asked.table.place_of(reference).is_none();
-            block::references(&asked.block).iter().rposition(missing)
+        m.admission(9, |input| {
+            let missing = |reference: &Digest| input.table.place_of(reference).is_none();
+            block::references(&input.block).iter().rposition(missing)
         })
     }),
     ("admission: the 16th reference isn't looked for", |m| {
-        m.admission(9, |asked| {
-            let missing = |reference: &Digest| asked.table.place_of(reference).is_none();
-            block::references(&asked.block).iter().take(MAX_REFERENCES - 1).position(missing)
+        m.admission(9, |input| {
+            let missing = |reference: &Digest| input.table.place_of(reference).is_none();
+            block::references(&input.block).iter().take(MAX_REFERENCES - 1).position(missing)
         })
     }),
     ("admission: two parents pass", |m| {
-        m.admission(10, |asked| parents(asked, |row, count| row.sequence == 0 || count >= 1))
+        m.admission(10, |input| parents(input, |row, count| row.sequence == 0 || count >= 1))
     }),
     ("admission: no parent passes", |m| {
-        m.admission(10, |asked| parents(asked, |row, count| row.sequence == 0 || count <= 1))
+        m.admission(10, |input| parents(input, |row, count| row.sequence == 0 || count <= 1))
     }),
     ("admission: a sequence number of low byte 0 needs no parent", |m| {
-        m.admission(10, |asked| parents(asked, |row, count| row.sequence % 256 == 0 || count == 1))
+        m.admission(10, |input| parents(input, |row, count| row.sequence % 256 == 0 || count == 1))
     }),
     ("admission: the parent's low byte decides", |m| {
-        m.admission(10, |asked| {
-            let new = row(asked);
-            let old = |place: usize| &asked.table.rows[place];
+        m.admission(10, |input| {
+            let new = row(input);
+            let old = |place: usize| &input.table.rows[place];
             let before = |old: &Row| old.site == new.site && old.sequence % 256 + 1 == new.sequence % 256;
             let count = places(new.references).filter(|&place| before(old(place))).count();
             (new.sequence != 0 && count != 1).then_some(0)
         })
     }),
     ("admission: sequence 0 may not refer to its own site", |m| {
-        m.admission(10, |asked| {
-            let new = row(asked);
-            let rule = asked.table.parent_rule(new.site, new.sequence, new.references);
-            (!rule || new.sequence == 0 && own(asked, &new) > 0).then_some(0)
+        m.admission(10, |input| {
+            let new = row(input);
+            let rule = input.table.parent_rule(new.site, new.sequence, new.references);
+            (!rule || new.sequence == 0 && own(input, &new) > 0).then_some(0)
         })
     }),
     ("admission: no own block but the parent may be referred to", |m| {
-        m.admission(10, |asked| {
-            let new = row(asked);
-            let rule = asked.table.parent_rule(new.site, new.sequence, new.references);
-            (!rule || new.sequence > 0 && own(asked, &new) > 1).then_some(0)
+        m.admission(10, |input| {
+            let new = row(input);
+            let rule = input.table.parent_rule(new.site, new.sequence, new.references);
+            (!rule || new.sequence > 0 && own(input, &new) > 1).then_some(0)
         })
     }),
     ("admission: any own block is a parent", |m| {
-        m.admission(10, |asked| {
-            let new = row(asked);
-            (new.sequence > 0 && own(asked, &new) == 0).then_some(0)
+        m.admission(10, |input| {
+            let new = row(input);
+            (new.sequence > 0 && own(input, &new) == 0).then_some(0)
         })
     }),
     ("admission: a fork is refused", |m| {
-        m.admission(10, |asked| {
-            let new = row(asked);
-            let rule = asked.table.parent_rule(new.site, new.sequence, new.references);
+        m.admission(10, |input| {
+            let new = row(input);
+            let rule = input.table.parent_rule(new.site, new.sequence, new.references);
             let twin = |old: &Row| old.site == new.site && old.sequence == new.sequence;
-            (!rule || asked.table.held().iter().any(twin)).then_some(0)
+            (!rule || input.table.held().iter().any(twin)).then_some(0)
         })
     }),
-    ("admission: 63 places are full", |m| m.admission(11, |asked| (asked.table.count >= PLACES - 1).then_some(0))),
+    ("admission: 63 places are full", |m| m.admission(11, |input| (input.table.count >= PLACES - 1).then_some(0))),
     // What is written
-    ("admission: the row is marked", |m| m.model.row = |asked| Row { mark: 1, ..row(asked) }),
+    ("admission: the row is marked", |m| m.model.row = |input| Row { mark: 1, ..row(input) }),
     ("admission: the last request of a slot counts", |m| {
-        m.model.row = |asked| {
+        m.model.row = |input| {
             let mut requests = [0; SLOTS];
-            for request in block::requests(&asked.block) {
+            for request in block::requests(&input.block) {
                 requests[usize::from(request.slot)] = request.number;
             }
-            Row { requests, ..row(asked) }
+            Row { requests, ..row(input) }
         }
     }),
     ("admission: the greatest request of a slot counts", |m| {
-        m.model.row = |asked| {
+        m.model.row = |input| {
             let mut requests = [0; SLOTS];
-            for request in block::requests(&asked.block) {
+            for request in block::requests(&input.block) {
                 let slot = usize::from(request.slot);
                 requests[slot] = request.number.max(requests[slot]);
             }
-            Row { requests, ..row(asked) }
+            Row { requests, ..row(input) }
         }
     }),
     ("admission: slots in reverse", |m| {
-        m.model.row = |asked| {
-            let mut new = row(asked);
+        m.model.row = |input| {
+            let mut new = row(input);
             new.requests.reverse();
             new
         }
     }),
     ("admission: request numbers low byte first", |m| {
-        m.model.row = |asked| Row { requests: row(asked).requests.map(u16::swap_bytes), ..row(asked) }
+        m.model.row = |input| Row { requests: row(input).requests.map(u16::swap_bytes), ..row(input) }
     }),
-    ("admission: no requests", |m| m.model.row = |asked| Row { requests: [0; SLOTS], ..row(asked) }),
+    ("admission: no requests", |m| m.model.row = |input| Row { requests: [0; SLOTS], ..row(input) }),
     ("admission: sequence number low byte first", |m| {
-        m.model.row = |asked| Row { sequence: row(asked).sequence.swap_bytes(), ..row(asked) }
+        m.model.row = |input| Row { sequence: row(input).sequence.swap_bytes(), ..row(input) }
     }),
     ("admission: the set's bytes in reverse", |m| {
-        m.model.row = |asked| Row { references: row(asked).references.swap_bytes(), ..row(asked) }
+        m.model.row = |input| Row { references: row(input).references.swap_bytes(), ..row(input) }
     }),
     ("admission: the bits of the set's bytes in reverse", |m| {
-        m.model.row = |asked| Row { references: row(asked).references.reverse_bits().swap_bytes(), ..row(asked) }
+        m.model.row = |input| Row { references: row(input).references.reverse_bits().swap_bytes(), ..row(input) }
     }),
     ("admission: the set has 32 places", |m| {
-        m.model.row = |asked| Row { references: row(asked).references & 0xffff_ffff, ..row(asked) }
+        m.model.row = |input| Row { references: row(input).references & 0xffff_ffff, ..row(input) }
     }),
     ("admission: the parent isn't in the set", |m| {
-        m.model.row = |asked| {
-            let new = row(asked);
+        m.model.row = |input| {
+            let new = row(input);
             let parent = |place: usize| {
-                let old = &asked.table.rows[place];
+                let old = &input.table.rows[place];
                 old.site == new.site && old.sequence.checked_add(1) == Some(new.sequence)
             };
             let others = places(new.references).filter(|&place| !parent(place));
             Row { references: others.fold(0, |set, place| set | 1 << place), ..new }
         }
     }),
-    ("admission: no site", |m| m.model.row = |asked| Row { site: 0, ..row(asked) }),
+    ("admission: no site", |m| m.model.row = |input| Row { site: 0, ..row(input) }),
     ("admission: the digest leaves the last byte out", |m| {
-        m.model.row = |asked| Row { digest: sha256(&asked.block[..asked.block.len() - 1]), ..row(asked) }
+        m.model.row = |input| Row { digest: sha256(&input.block[..input.block.len() - 1]), ..row(input) }
     }),
     ("admission: the count isn't raised", |m| {
         m.model.put = |table, row| {
@@ -260,8 +255,8 @@ pub const MISTAKES: &[Mistake] = &[
     ("admission: a success answers 0", |m| m.after_admission(|answer, _, _| value_beside(0, answer, 0))),
     ("admission: a refusal writes the table's last byte", |m| {
         m.after_admission(|answer, table, _| {
-            if let Some(last) = table.last_mut().filter(|_| answer.refusal != 0) {
-                *last ^= 1;
+            if answer.refusal != 0 {
+                flip_last(table);
             }
             answer
         })
@@ -280,9 +275,7 @@ pub const MISTAKES: &[Mistake] = &[
     }),
     ("admission: the block is written", |m| {
         m.after_admission(|answer, _, block| {
-            if let Some(last) = block.last_mut() {
-                *last ^= 1;
-            }
+            flip_last(block);
             answer
         })
     }),
@@ -295,13 +288,13 @@ fn place_of_part(table: &Table, digest: &Digest) -> Option<usize> {
 }
 
 /// Check 10 by a rule about the number of parents.
-fn parents(asked: &Arrival, passes: fn(&Row, usize) -> bool) -> Option<usize> {
-    let new = row(asked);
-    let count = if new.sequence == 0 { 0 } else { asked.table.parents(new.site, new.sequence, new.references) };
+fn parents(input: &AdmissionInput, passes: fn(&Row, usize) -> bool) -> Option<usize> {
+    let new = row(input);
+    let count = if new.sequence == 0 { 0 } else { input.table.parents(new.site, new.sequence, new.references) };
     (!passes(&new, count)).then_some(0)
 }
 
 /// How many own blocks a row refers to.
-fn own(asked: &Arrival, row: &Row) -> usize {
-    places(row.references).filter(|&place| asked.table.rows[place].site == row.site).count()
+fn own(input: &AdmissionInput, row: &Row) -> usize {
+    places(row.references).filter(|&place| input.table.rows[place].site == row.site).count()
 }

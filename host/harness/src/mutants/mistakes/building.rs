@@ -1,9 +1,10 @@
 //! Mistakes in building: in its checks and their order, in what the block says, in what is answered and left.
 
-use super::{value_beside, Building, Mistake, Mutant};
+use super::{flip_last, neighbours_swapped, value_beside, BuildingBuffers, Mistake, Mutant};
 use crate::model::block::{list_of, Request};
 use crate::model::building::{
-    self, cut, greatest, long_or_cut, others, own_rows, past_last_sequence, sequence, shared_sequence, Task, CHECKS,
+    self, cut, greatest, long_or_cut, others, own_rows, past_last_sequence, sequence, shared_sequence, BuildingInput,
+    CHECKS,
 };
 use crate::model::sizes::{HEADER_BYTES, MAX_BLOCK_BYTES, MAX_REFERENCES, MAX_REQUESTS, REQUEST_BYTES, SLOTS};
 use crate::model::table::{Row, Table, COUNT};
@@ -23,12 +24,7 @@ pub fn checks_exchanged() -> Vec<Mutant> {
             m.after_building(move |answer, _| value_beside(number, answer, 0));
         }));
     }
-    for first in 0..CHECKS.len() - 1 {
-        let (earlier, later) = (CHECKS[first].number, CHECKS[first + 1].number);
-        mutants.push(Mutant::with(format!("building: checks {earlier} and {later} swapped"), |m| {
-            m.model.building.checks.swap(first, first + 1);
-        }));
-    }
+    mutants.extend(neighbours_swapped("building", |model| &mut model.building.checks));
     mutants
 }
 
@@ -44,142 +40,146 @@ pub const MISTAKES: &[Mistake] = &[
     ("building: 3 and 6 before 4", |m| m.model.building.checks[1..4].rotate_left(1)),
     ("building: 2 after the requests", |m| m.model.building.checks[..4].rotate_left(1)),
     // Site and requests
-    ("building: a site may be n", |m| m.building(4, |task| (task.site > task.table.sites).then_some(0))),
-    ("building: sites are compared with 16", |m| m.building(4, |task| (task.site >= 16).then_some(0))),
-    ("building: 27 bytes of requests pass", |m| m.building(3, |task| most(task, MAX_REQUESTS + 1))),
-    ("building: 24 bytes of requests don't pass", |m| m.building(3, |task| most(task, MAX_REQUESTS - 1))),
+    ("building: a site may be n", |m| m.building(4, |input| (input.site > input.table.sites).then_some(0))),
+    ("building: sites are compared with 16", |m| m.building(4, |input| (input.site >= 16).then_some(0))),
+    ("building: 27 bytes of requests pass", |m| m.building(3, |input| most(input, MAX_REQUESTS + 1))),
+    ("building: 24 bytes of requests don't pass", |m| m.building(3, |input| most(input, MAX_REQUESTS - 1))),
     ("building: no bytes of requests don't pass", |m| {
-        m.building(3, |task| (task.requests.is_empty() || long_or_cut(&task.requests)).then_some(0))
+        m.building(3, |input| (input.requests.is_empty() || long_or_cut(&input.requests)).then_some(0))
     }),
     ("building: a cut list passes", |m| {
-        m.building(3, |task| (task.requests.len() > REQUEST_BYTES * MAX_REQUESTS).then_some(0))
+        m.building(3, |input| (input.requests.len() > REQUEST_BYTES * MAX_REQUESTS).then_some(0))
     }),
-    ("building: a list of any length passes", |m| m.building(3, |task| cut(&task.requests).then_some(0))),
+    ("building: a list of any length passes", |m| m.building(3, |input| cut(&input.requests).then_some(0))),
     ("building: only the low byte of the list's length is looked at", |m| {
-        m.building(3, |task| long_or_cut(&task.requests[..task.requests.len() % 256]).then_some(0))
+        m.building(3, |input| long_or_cut(&input.requests[..input.requests.len() % 256]).then_some(0))
     }),
     ("building: only the low byte of the requests' count is looked at", |m| {
-        m.building(3, |task| {
-            (cut(&task.requests) || task.requests.len() / REQUEST_BYTES % 256 > MAX_REQUESTS).then_some(0)
+        m.building(3, |input| {
+            (cut(&input.requests) || input.requests.len() / REQUEST_BYTES % 256 > MAX_REQUESTS).then_some(0)
         })
     }),
     ("building: slot 8 passes", |m| {
-        m.building(6, |task| first(task, |request| usize::from(request.slot) > SLOTS || request.number == 0))
+        m.building(6, |input| first(input, |request| usize::from(request.slot) > SLOTS || request.number == 0))
     }),
-    ("building: number 0 passes", |m| m.building(6, |task| first(task, |request| usize::from(request.slot) >= SLOTS))),
+    ("building: number 0 passes", |m| {
+        m.building(6, |input| first(input, |request| usize::from(request.slot) >= SLOTS))
+    }),
     ("building: a number of low byte 0 is refused", |m| {
-        m.building(6, |task| first(task, |request| request.bad() || request.number % 256 == 0))
+        m.building(6, |input| first(input, |request| request.bad() || request.number % 256 == 0))
     }),
     ("building: the last bad request is named", |m| {
-        m.building(6, |task| list_of(&task.requests).iter().rposition(Request::bad))
+        m.building(6, |input| list_of(&input.requests).iter().rposition(Request::bad))
     }),
     ("building: 6 names the byte", |m| {
-        m.building(6, |task| first(task, Request::bad).map(|index| REQUEST_BYTES * index))
+        m.building(6, |input| first(input, Request::bad).map(|index| REQUEST_BYTES * index))
     }),
     ("building: the last request isn't looked at", |m| {
-        m.building(6, |task| {
-            first(task, Request::bad).filter(|index| REQUEST_BYTES * (index + 1) < task.requests.len())
+        m.building(6, |input| {
+            first(input, Request::bad).filter(|index| REQUEST_BYTES * (index + 1) < input.requests.len())
         })
     }),
     ("building: a slot requested twice is refused", |m| {
-        m.building(6, |task| {
-            let requests = list_of(&task.requests);
+        m.building(6, |input| {
+            let requests = list_of(&input.requests);
             let twice = |index: usize| requests[..index].iter().any(|earlier| earlier.slot == requests[index].slot);
             (0..requests.len()).find(|&index| requests[index].bad() || twice(index))
         })
     }),
     ("building: a slot of another owner is refused", |m| {
-        m.building(6, |task| {
-            let foreign = |slot: u8| task.table.owners.get(usize::from(slot)) != Some(&task.site);
-            list_of(&task.requests).iter().position(|request| request.bad() || foreign(request.slot))
+        m.building(6, |input| {
+            let foreign = |slot: u8| input.table.owners.get(usize::from(slot)) != Some(&input.site);
+            list_of(&input.requests).iter().position(|request| request.bad() || foreign(request.slot))
         })
     }),
     // Forks
     (GREATEST_TWINS_ALONE, |m| {
-        m.building(16, |task| {
-            let most = own_rows(&task.table, task.site).map(|row| row.sequence).max();
-            let greatest = own_rows(&task.table, task.site).filter(|row| Some(row.sequence) == most);
+        m.building(16, |input| {
+            let most = own_rows(&input.table, input.site).map(|row| row.sequence).max();
+            let greatest = own_rows(&input.table, input.site).filter(|row| Some(row.sequence) == most);
             (greatest.count() > 1).then_some(0)
         })
     }),
     ("building: 16 for a fork of sequence 0 alone", |m| {
-        m.building(16, |task| {
-            let first = own_rows(&task.table, task.site).filter(|row| row.sequence == 0);
+        m.building(16, |input| {
+            let first = own_rows(&input.table, input.site).filter(|row| row.sequence == 0);
             (first.count() > 1).then_some(0)
         })
     }),
     ("building: 16 doesn't see a fork of sequence 0", |m| {
-        m.building(16, |task| {
-            let mut later = task.table.clone();
+        m.building(16, |input| {
+            let mut later = input.table.clone();
             // Sequence 0 becomes a number of its own for each block.
             later.rows.iter_mut().enumerate().filter(|(_, row)| row.sequence == 0).for_each(|(place, row)| {
                 row.sequence = 1000 + place as u16;
             });
-            shared_sequence(&later, task.site).then_some(0)
+            shared_sequence(&later, input.site).then_some(0)
         })
     }),
     ("building: 16 if any site forked", |m| {
-        m.building(16, |task| (0..task.table.sites).any(|site| shared_sequence(&task.table, site)).then_some(0))
+        m.building(16, |input| (0..input.table.sites).any(|site| shared_sequence(&input.table, site)).then_some(0))
     }),
     ("building: 16 if another site forked", |m| {
-        m.building(16, |task| {
-            let other = |site: &u8| *site != task.site;
-            (0..task.table.sites).filter(other).any(|site| shared_sequence(&task.table, site)).then_some(0)
+        m.building(16, |input| {
+            let other = |site: &u8| *site != input.site;
+            (0..input.table.sites).filter(other).any(|site| shared_sequence(&input.table, site)).then_some(0)
         })
     }),
     ("building: 16 if the site has two blocks", |m| {
-        m.building(16, |task| (own_rows(&task.table, task.site).count() > 1).then_some(0))
+        m.building(16, |input| (own_rows(&input.table, input.site).count() > 1).then_some(0))
     }),
     ("building: 16 for interpreted forks alone", |m| {
-        m.building(16, |task| {
-            let mut marked = task.table.clone();
+        m.building(16, |input| {
+            let mut marked = input.table.clone();
             marked.rows.iter_mut().filter(|row| row.mark == 0).for_each(|row| row.site = u8::MAX);
-            shared_sequence(&marked, task.site).then_some(0)
+            shared_sequence(&marked, input.site).then_some(0)
         })
     }),
     // The last sequence number
     ("building: 30 at 65,534 already", |m| {
-        m.building(30, |task| own_rows(&task.table, task.site).any(|row| row.sequence >= u16::MAX - 1).then_some(0))
+        m.building(30, |input| own_rows(&input.table, input.site).any(|row| row.sequence >= u16::MAX - 1).then_some(0))
     }),
     ("building: the number after 65,535 is 65,535", |m| {
         m.building(30, |_| None);
         m.model.building.sequence = |greatest| greatest.map_or(0, |sequence| sequence.saturating_add(1));
     }),
     ("building: 30 for any number of low byte 255", |m| {
-        m.building(30, |task| own_rows(&task.table, task.site).any(|row| row.sequence % 256 == 255).then_some(0))
+        m.building(30, |input| own_rows(&input.table, input.site).any(|row| row.sequence % 256 == 255).then_some(0))
     }),
     ("building: 30 if any site is at 65,535", |m| {
-        m.building(30, |task| (0..task.table.sites).any(|site| past_last_sequence(&task.table, site)).then_some(0))
+        m.building(30, |input| (0..input.table.sites).any(|site| past_last_sequence(&input.table, site)).then_some(0))
     }),
     ("building: 30 for an interpreted block alone", |m| {
-        m.building(30, |task| {
-            own_rows(&task.table, task.site).any(|row| row.sequence == u16::MAX && row.mark == 1).then_some(0)
+        m.building(30, |input| {
+            own_rows(&input.table, input.site).any(|row| row.sequence == u16::MAX && row.mark == 1).then_some(0)
         })
     }),
     ("building: 30 for the site's highest place alone", |m| {
-        m.building(30, |task| own_rows(&task.table, task.site).last().filter(|row| row.sequence == u16::MAX).map(|_| 0))
+        m.building(30, |input| {
+            own_rows(&input.table, input.site).last().filter(|row| row.sequence == u16::MAX).map(|_| 0)
+        })
     }),
     ("building: 30 with the number that would come", |m| {
-        m.building(30, |task| past_last_sequence(&task.table, task.site).then_some(1 << 16))
+        m.building(30, |input| past_last_sequence(&input.table, input.site).then_some(1 << 16))
     }),
     // The output
     ("building: an output of the block's length is refused", |m| {
-        m.building(17, |task| (task.room <= task.block.len()).then_some(task.block.len()))
+        m.building(17, |input| (input.room <= input.block.len()).then_some(input.block.len()))
     }),
     ("building: an output too short by one passes", |m| {
-        m.building(17, |task| (task.room + 1 < task.block.len()).then_some(task.block.len()))
+        m.building(17, |input| (input.room + 1 < input.block.len()).then_some(input.block.len()))
     }),
     ("building: an output needs room for the longest block", |m| {
-        m.building(17, |task| (task.room < MAX_BLOCK_BYTES).then_some(task.block.len()))
+        m.building(17, |input| (input.room < MAX_BLOCK_BYTES).then_some(input.block.len()))
     }),
     ("building: 17 names the longest block's length", |m| {
-        m.building(17, |task| (task.room < task.block.len()).then_some(MAX_BLOCK_BYTES))
+        m.building(17, |input| (input.room < input.block.len()).then_some(MAX_BLOCK_BYTES))
     }),
     ("building: 17 names the bytes that lack", |m| {
-        m.building(17, |task| task.block.len().checked_sub(task.room).filter(|&lack| lack > 0))
+        m.building(17, |input| input.block.len().checked_sub(input.room).filter(|&lack| lack > 0))
     }),
     ("building: 17 names the output's length", |m| {
-        m.building(17, |task| (task.room < task.block.len()).then_some(task.room))
+        m.building(17, |input| (input.room < input.block.len()).then_some(input.room))
     }),
     // Site and sequence number
     (SEQUENCE_OF_GREATEST, |m| m.model.building.sequence = |greatest| greatest.unwrap_or(0)),
@@ -410,26 +410,26 @@ pub const MISTAKES: &[Mistake] = &[
     // What is answered and left
     ("building: a success answers 0", |m| m.after_building(|answer, _| value_beside(0, answer, 0))),
     ("building: a success answers the output's length", |m| {
-        m.after_building(|answer, asked| value_beside(0, answer, asked.output.len()))
+        m.after_building(|answer, buffers| value_beside(0, answer, buffers.output.len()))
     }),
     ("building: a success answers one byte more", |m| {
         m.after_building(|answer, _| value_beside(0, answer, answer.value + 1))
     }),
     ("building: 17 writes what there is room for", |m| {
-        m.after_building(|answer, asked| {
+        m.after_building(|answer, buffers| {
             if answer.refusal == 17 {
-                let block = document_block(&asked);
-                let room = asked.output.len();
-                asked.output.copy_from_slice(&block[..room]);
+                let block = document_block(&buffers);
+                let room = buffers.output.len();
+                buffers.output.copy_from_slice(&block[..room]);
             }
             answer
         })
     }),
     ("building: 16 writes the block", |m| {
-        m.after_building(|answer, asked| {
+        m.after_building(|answer, buffers| {
             if answer.refusal == 16 {
-                let block = document_block(&asked);
-                if let Some(front) = asked.output.get_mut(..block.len()) {
+                let block = document_block(&buffers);
+                if let Some(front) = buffers.output.get_mut(..block.len()) {
                     front.copy_from_slice(&block);
                 }
             }
@@ -437,10 +437,10 @@ pub const MISTAKES: &[Mistake] = &[
         })
     }),
     ("building: 6 leaves the header written", |m| {
-        m.after_building(|answer, asked| {
+        m.after_building(|answer, buffers| {
             if answer.refusal == 6 {
-                let block = document_block(&asked);
-                if let Some(front) = asked.output.get_mut(..HEADER_BYTES) {
+                let block = document_block(&buffers);
+                if let Some(front) = buffers.output.get_mut(..HEADER_BYTES) {
                     front.copy_from_slice(&block[..HEADER_BYTES]);
                 }
             }
@@ -448,32 +448,30 @@ pub const MISTAKES: &[Mistake] = &[
         })
     }),
     ("building: a refusal clears the output", |m| {
-        m.after_building(|answer, asked| {
+        m.after_building(|answer, buffers| {
             if answer.refusal != 0 {
-                asked.output.fill(0);
+                buffers.output.fill(0);
             }
             answer
         })
     }),
     ("building: the table is written", |m| {
-        m.after_building(|answer, asked| {
-            if let Some(last) = asked.table.last_mut() {
-                *last ^= 1;
-            }
+        m.after_building(|answer, buffers| {
+            flip_last(buffers.table);
             answer
         })
     }),
     ("building: the block is put into the table", |m| {
-        m.after_building(|answer, asked| {
-            if let Some(count) = asked.table.get_mut(COUNT).filter(|_| answer.refusal == 0) {
+        m.after_building(|answer, buffers| {
+            if let Some(count) = buffers.table.get_mut(COUNT).filter(|_| answer.refusal == 0) {
                 *count += 1;
             }
             answer
         })
     }),
     ("building: the requests are written", |m| {
-        m.after_building(|answer, asked| {
-            asked.requests.fill(0);
+        m.after_building(|answer, buffers| {
+            buffers.requests.fill(0);
             answer
         })
     }),
@@ -498,13 +496,13 @@ pub const ONE_BLOCK_OF_A_SITE: &str = "building: only the greatest block of anot
 pub const PLACE_0_LEFT_OUT: &str = "building: place 0 isn't picked";
 
 /// Check 3 with another limit.
-fn most(task: &Task, requests: usize) -> Option<usize> {
-    (cut(&task.requests) || task.requests.len() > REQUEST_BYTES * requests).then_some(0)
+fn most(input: &BuildingInput, requests: usize) -> Option<usize> {
+    (cut(&input.requests) || input.requests.len() > REQUEST_BYTES * requests).then_some(0)
 }
 
 /// Check 6 with another cause.
-fn first(task: &Task, bad: fn(&Request) -> bool) -> Option<usize> {
-    list_of(&task.requests).iter().position(bad)
+fn first(input: &BuildingInput, bad: fn(&Request) -> bool) -> Option<usize> {
+    list_of(&input.requests).iter().position(bad)
 }
 
 /// The others of which something holds.
@@ -515,6 +513,6 @@ fn picked(table: &Table, site: u8, referred: u64, picks: fn(&Table, &Row) -> boo
 }
 
 /// The block that the document gives.
-fn document_block(asked: &Building) -> Vec<u8> {
-    building::Building::document().block(&Table::from_bytes(asked.table), asked.site, asked.requests)
+fn document_block(buffers: &BuildingBuffers) -> Vec<u8> {
+    building::Building::document().block(&Table::from_bytes(buffers.table), buffers.site, buffers.requests)
 }

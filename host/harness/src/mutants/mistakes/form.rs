@@ -1,6 +1,6 @@
 //! Mistakes in form.
 
-use super::{Mistake, Mutant};
+use super::{flip_last, Mistake, Mutant};
 use crate::model::form::*;
 use crate::model::setup::owners_lawful;
 use crate::model::sizes::{DIGEST_BYTES, MAX_REFERENCES, PLACES, SITE_COUNTS, TABLE_BYTES};
@@ -209,9 +209,7 @@ pub const MISTAKES: &[Mistake] = &[
     }),
     ("gt_in_form writes", |m| {
         m.after_form(|answer, table| {
-            if let Some(last) = table.last_mut() {
-                *last ^= 1;
-            }
+            flip_last(table);
             answer
         })
     }),

@@ -8,40 +8,40 @@ pub const MISTAKES: &[Mistake] = &[
     ("gt_fresh without check 1", |m| m.fresh(1, |_| None)),
     ("gt_fresh without check 2", |m| m.fresh(2, |_| None)),
     ("gt_fresh: checks 1 and 2 swapped", |m| m.model.fresh.swap(0, 1)),
-    ("gt_fresh: a longer table passes", |m| m.fresh(2, |wanted| unless(wanted.length >= TABLE_BYTES))),
-    ("gt_fresh: a shorter table passes", |m| m.fresh(2, |wanted| unless(wanted.length <= TABLE_BYTES))),
+    ("gt_fresh: a longer table passes", |m| m.fresh(2, |input| unless(input.length >= TABLE_BYTES))),
+    ("gt_fresh: a shorter table passes", |m| m.fresh(2, |input| unless(input.length <= TABLE_BYTES))),
     ("gt_fresh: every n from 1 to 16 passes", |m| {
-        m.fresh(1, |wanted| unless((1..=16).contains(&wanted.sites) && eight_below(wanted.sites, &wanted.owners)))
+        m.fresh(1, |input| unless((1..=16).contains(&input.sites) && eight_below(input.sites, &input.owners)))
     }),
     ("gt_fresh: n 19 passes", |m| {
-        m.fresh(1, |wanted| {
-            let sites_pass = wanted.sites == 19 || site_count_lawful(wanted.sites);
-            unless(sites_pass && eight_below(wanted.sites, &wanted.owners))
+        m.fresh(1, |input| {
+            let sites_pass = input.sites == 19 || site_count_lawful(input.sites);
+            unless(sites_pass && eight_below(input.sites, &input.owners))
         })
     }),
     ("gt_fresh: n 16 doesn't pass", |m| {
-        m.fresh(1, |wanted| unless(wanted.sites < 16 && lawful(wanted.sites, &wanted.owners)))
+        m.fresh(1, |input| unless(input.sites < 16 && lawful(input.sites, &input.owners)))
     }),
     ("gt_fresh: an owner may be n", |m| {
-        m.fresh(1, |wanted| unless(site_count_lawful(wanted.sites) && eight_below(wanted.sites + 1, &wanted.owners)))
+        m.fresh(1, |input| unless(site_count_lawful(input.sites) && eight_below(input.sites + 1, &input.owners)))
     }),
     ("gt_fresh: the last owner isn't looked at", |m| {
-        m.fresh(1, |wanted| {
-            let looked_at = wanted.owners.get(..SLOTS - 1).unwrap_or(&[]);
-            let owners_pass = wanted.owners.len() == SLOTS && owners_lawful(wanted.sites, looked_at);
-            unless(site_count_lawful(wanted.sites) && owners_pass)
+        m.fresh(1, |input| {
+            let looked_at = input.owners.get(..SLOTS - 1).unwrap_or(&[]);
+            let owners_pass = input.owners.len() == SLOTS && owners_lawful(input.sites, looked_at);
+            unless(site_count_lawful(input.sites) && owners_pass)
         })
     }),
     ("gt_fresh: more than eight owners pass", |m| {
-        m.fresh(1, |wanted| {
-            let owners_pass = wanted.owners.len() >= SLOTS && owners_lawful(wanted.sites, &wanted.owners);
-            unless(site_count_lawful(wanted.sites) && owners_pass)
+        m.fresh(1, |input| {
+            let owners_pass = input.owners.len() >= SLOTS && owners_lawful(input.sites, &input.owners);
+            unless(site_count_lawful(input.sites) && owners_pass)
         })
     }),
     ("gt_fresh: fewer than eight owners pass", |m| {
-        m.fresh(1, |wanted| {
-            let owners_pass = wanted.owners.len() <= SLOTS && owners_lawful(wanted.sites, &wanted.owners);
-            unless(site_count_lawful(wanted.sites) && owners_pass)
+        m.fresh(1, |input| {
+            let owners_pass = input.owners.len() <= SLOTS && owners_lawful(input.sites, &input.owners);
+            unless(site_count_lawful(input.sites) && owners_pass)
         })
     }),
     ("gt_fresh: value 1 beside 1", |m| m.after_fresh(|answer, _, _| value_beside(1, answer, 1))),

@@ -1,7 +1,7 @@
 //! Mistakes in interpreting a place: in its checks, in what is written and in what is left.
 
-use super::{value_beside, Mistake, Mutant};
-use crate::model::interpretation::{not_interpreted, parent, write, Asked, CHECKS};
+use super::{flip_last, neighbours_swapped, value_beside, Mistake, Mutant};
+use crate::model::interpretation::{not_interpreted, parent, write, InterpretationInput, CHECKS};
 use crate::model::record::{part_of, record_at, Part, MADE};
 use crate::model::sizes::{BUFFER_NUMBERS, PART_NUMBERS, PLACES, RECORD_NUMBERS, SLOTS};
 use crate::model::table::{places, Row, Table};
@@ -20,12 +20,8 @@ pub fn checks_exchanged() -> Vec<Mutant> {
             m.after_interpretation(move |answer, _, _, _| value_beside(number, answer, answer.value + 1));
         }));
     }
-    for first in [0, 1] {
-        let (earlier, later) = (CHECKS[first].number, CHECKS[first + 1].number);
-        mutants.push(Mutant::with(format!("interpretation: checks {earlier} and {later} swapped"), |m| {
-            m.model.interpretation.checks.swap(first, first + 1);
-        }));
-    }
+    let swapped = neighbours_swapped("interpretation", |model| &mut model.interpretation.checks);
+    mutants.extend(swapped.into_iter().take(2));
     mutants
 }
 
@@ -35,58 +31,58 @@ pub const MISTAKES: &[Mistake] = &[
     ("interpretation: 15 before 12", |m| m.model.interpretation.checks[1..5].rotate_right(1)),
     ("interpretation: 15 before 2", |m| m.model.interpretation.checks.rotate_right(1)),
     ("interpretation: a longer buffer passes", |m| {
-        m.interpretation(12, |asked| (asked.numbers < BUFFER_NUMBERS).then_some(0))
+        m.interpretation(12, |input| (input.numbers < BUFFER_NUMBERS).then_some(0))
     }),
     ("interpretation: a shorter buffer passes", |m| {
-        m.interpretation(12, |asked| (asked.numbers > BUFFER_NUMBERS).then_some(0))
+        m.interpretation(12, |input| (input.numbers > BUFFER_NUMBERS).then_some(0))
     }),
     ("interpretation: a buffer that reaches to the place passes", |m| {
-        m.interpretation(12, |asked| {
-            let end = part_of(asked.place).map_or(usize::MAX, |part| part.end);
-            (asked.numbers < end).then_some(0)
+        m.interpretation(12, |input| {
+            let end = part_of(input.place).map_or(usize::MAX, |part| part.end);
+            (input.numbers < end).then_some(0)
         })
     }),
     ("interpretation: a buffer that reaches to the count passes", |m| {
-        m.interpretation(12, |asked| (asked.numbers < PART_NUMBERS * asked.table.count).then_some(0))
+        m.interpretation(12, |input| (input.numbers < PART_NUMBERS * input.table.count).then_some(0))
     }),
     ("interpretation: the buffer's length is taken in bytes", |m| {
-        m.interpretation(12, |asked| (2 * asked.numbers != BUFFER_NUMBERS).then_some(0))
+        m.interpretation(12, |input| (2 * input.numbers != BUFFER_NUMBERS).then_some(0))
     }),
     ("interpretation: the place may be the count", |m| {
-        m.interpretation(13, |asked| (asked.place > asked.table.count).then_some(0))
+        m.interpretation(13, |input| (input.place > input.table.count).then_some(0))
     }),
     ("interpretation: the last place is refused", |m| {
-        m.interpretation(13, |asked| (asked.place >= asked.table.count.saturating_sub(1)).then_some(0))
+        m.interpretation(13, |input| (input.place >= input.table.count.saturating_sub(1)).then_some(0))
     }),
     ("interpretation: places are compared with 64", |m| {
-        m.interpretation(13, |asked| (asked.place >= PLACES).then_some(0))
+        m.interpretation(13, |input| (input.place >= PLACES).then_some(0))
     }),
     ("interpretation: the place's low byte decides", |m| {
-        m.interpretation(13, |asked| (asked.place % 256 >= asked.table.count).then_some(0))
+        m.interpretation(13, |input| (input.place % 256 >= input.table.count).then_some(0))
     }),
     ("interpretation: the place's low half decides", |m| {
-        m.interpretation(13, |asked| (asked.place as u32 as usize >= asked.table.count).then_some(0))
+        m.interpretation(13, |input| (input.place as u32 as usize >= input.table.count).then_some(0))
     }),
-    ("interpretation: 15 names the highest place", |m| m.interpretation(15, |asked| not_interpreted(asked).last())),
+    ("interpretation: 15 names the highest place", |m| m.interpretation(15, |input| not_interpreted(input).last())),
     ("interpretation: 15 names the lowest reference", |m| {
-        m.interpretation(15, |asked| {
-            let lowest = places(asked.row()?.references).next();
-            not_interpreted(asked).next().and(lowest)
+        m.interpretation(15, |input| {
+            let lowest = places(input.row()?.references).next();
+            not_interpreted(input).next().and(lowest)
         })
     }),
     ("interpretation: 15 looks at all ancestors", |m| {
-        m.interpretation(15, |asked| {
-            places(asked.table.ancestors(asked.place)).find(|&place| asked.table.rows[place].mark == 0)
+        m.interpretation(15, |input| {
+            places(input.table.ancestors(input.place)).find(|&place| input.table.rows[place].mark == 0)
         })
     }),
     ("interpretation: 15 looks at the parent only", |m| m.interpretation(15, parent_not_interpreted)),
     ("interpretation: 15 doesn't look at the parent", |m| {
-        m.interpretation(15, |asked| {
-            not_interpreted(asked).find(|&place| parent(&asked.table, asked.place) != Some(place))
+        m.interpretation(15, |input| {
+            not_interpreted(input).find(|&place| parent(&input.table, input.place) != Some(place))
         })
     }),
     ("interpretation: 15 looks at all lower places", |m| {
-        m.interpretation(15, |asked| asked.table.rows.iter().take(asked.place).position(|row| row.mark == 0))
+        m.interpretation(15, |input| input.table.rows.iter().take(input.place).position(|row| row.mark == 0))
     }),
     // What is written
     ("interpretation: zeros are written", |m| {
@@ -182,8 +178,8 @@ pub const MISTAKES: &[Mistake] = &[
     ("interpretation: value 0 beside 15", |m| m.after_interpretation(|answer, _, _, _| value_beside(15, answer, 0))),
     ("interpretation: a refusal writes the table's last byte", |m| {
         m.after_interpretation(|answer, table, _, _| {
-            if let Some(last) = table.last_mut().filter(|_| answer.refusal != 0) {
-                *last ^= 1;
+            if answer.refusal != 0 {
+                flip_last(table);
             }
             answer
         })
@@ -216,9 +212,9 @@ pub const MISTAKES: &[Mistake] = &[
     }),
 ];
 
-fn parent_not_interpreted(asked: &Asked) -> Option<usize> {
-    asked.row()?;
-    parent(&asked.table, asked.place).filter(|&place| asked.table.rows[place].mark == 0)
+fn parent_not_interpreted(input: &InterpretationInput) -> Option<usize> {
+    input.row()?;
+    parent(&input.table, input.place).filter(|&place| input.table.rows[place].mark == 0)
 }
 
 fn write_by_slots(records: &mut [u16], place: usize, part: &Part) {

@@ -5,8 +5,8 @@ use crate::model::answer::Answer;
 use crate::model::exit::Exit;
 use crate::model::interpretation::parent;
 use crate::model::listing::{
-    delivered, deliveries, deliveries_by, first, first_of_length, refused, setup, text, Arrived, First, Line, Setup,
-    BEFORE_BLOCK, LENGTH_BYTES, NAMES, SETUP_BYTES,
+    deliveries, deliveries_by, delivery_line, first, first_of_length, refusal_line, setup, text, FirstArrival, Line,
+    Setup, StreamArrival, BEFORE_BLOCK, LENGTH_BYTES, NAMES, SETUP_BYTES,
 };
 use crate::model::record::Act;
 use crate::model::sizes::{MAX_BLOCK_BYTES, SLOTS};
@@ -21,10 +21,10 @@ pub const MISTAKES: &[Mistake] = &[
         }
     }),
     ("listing: a short setup has no line", |m| {
-        m.after_listing(|ended, input| if input.len() < SETUP_BYTES { Exit::well(NAMES.into()) } else { ended })
+        m.after_listing(|exit, input| if input.len() < SETUP_BYTES { Exit::well(NAMES.into()) } else { exit })
     }),
     ("listing: an input of no bytes has no names", |m| {
-        m.after_listing(|ended, input| if input.is_empty() { Exit::well(Vec::new()) } else { ended })
+        m.after_listing(|exit, input| if input.is_empty() { Exit::well(Vec::new()) } else { exit })
     }),
     ("listing: owners in reverse", |m| {
         m.model.listing.setup = |input| {
@@ -50,23 +50,23 @@ pub const MISTAKES: &[Mistake] = &[
         m.model.listing.first = |input| first(input).filter(|_| input.len() != LENGTH_BYTES)
     }),
     ("listing: a cut arrival has no line", |m| {
-        m.model.listing.first = |input| first(input).filter(|(arrived, _)| !matches!(arrived, Arrived::Cut))
+        m.model.listing.first = |input| first(input).filter(|(arrival, _)| !matches!(arrival, StreamArrival::Cut))
     }),
     ("listing: a cut arrival that is over-long has no line", |m| {
         m.model.listing.first =
-            |input| first(input).filter(|(arrived, _)| !matches!(arrived, Arrived::Cut) || !over_long(input))
+            |input| first(input).filter(|(arrival, _)| !matches!(arrival, StreamArrival::Cut) || !over_long(input))
     }),
     ("listing: a cut block is admitted with the bytes that are left", |m| {
         m.model.listing.first = |input| match first(input)? {
-            (Arrived::Cut, rest) if input.len() >= BEFORE_BLOCK && !over_long(input) => {
-                Some((Arrived::Block { verdict: input[LENGTH_BYTES], block: &input[BEFORE_BLOCK..] }, rest))
+            (StreamArrival::Cut, rest) if input.len() >= BEFORE_BLOCK && !over_long(input) => {
+                Some((StreamArrival::Block { verdict: input[LENGTH_BYTES], block: &input[BEFORE_BLOCK..] }, rest))
             }
             other => Some(other),
         }
     }),
     ("listing: an arrival that ends the input is taken as cut", |m| {
         m.model.listing.first = |input| match first(input)? {
-            (Arrived::Block { .. }, []) => Some((Arrived::Cut, &[])),
+            (StreamArrival::Block { .. }, []) => Some((StreamArrival::Cut, &[])),
             other => Some(other),
         }
     }),
@@ -82,7 +82,7 @@ pub const MISTAKES: &[Mistake] = &[
     ("listing: the verdict before the length", |m| m.model.listing.first = verdict_first),
     ("listing: the verdict isn't looked at", |m| {
         m.model.listing.first = |input| match first(input)? {
-            (Arrived::Block { block, .. }, rest) => Some((Arrived::Block { verdict: 1, block }, rest)),
+            (StreamArrival::Block { block, .. }, rest) => Some((StreamArrival::Block { verdict: 1, block }, rest)),
             other => Some(other),
         }
     }),
@@ -98,19 +98,21 @@ pub const MISTAKES: &[Mistake] = &[
     }),
     ("listing: an over-long arrival is the end", |m| {
         m.model.listing.first = |input| match first(input)? {
-            (Arrived::OverLong, _) => Some((Arrived::OverLong, &[])),
+            (StreamArrival::OverLong, _) => Some((StreamArrival::OverLong, &[])),
             other => Some(other),
         }
     }),
     ("listing: a length from 32,768 on is the end", |m| {
         m.model.listing.first = |input| match first(input)? {
-            (Arrived::OverLong, _) if input[0] >= 128 => Some((Arrived::OverLong, &[])),
+            (StreamArrival::OverLong, _) if input[0] >= 128 => Some((StreamArrival::OverLong, &[])),
             other => Some(other),
         }
     }),
     ("listing: a length of 541 is over-long", |m| {
         m.model.listing.first = |input| match first(input)? {
-            (Arrived::Block { block, .. }, rest) if block.len() == MAX_BLOCK_BYTES => Some((Arrived::OverLong, rest)),
+            (StreamArrival::Block { block, .. }, rest) if block.len() == MAX_BLOCK_BYTES => {
+                Some((StreamArrival::OverLong, rest))
+            }
             other => Some(other),
         }
     }),
@@ -130,17 +132,17 @@ pub const MISTAKES: &[Mistake] = &[
     ("listing: arrivals count from 1", |m| m.model.listing.text = |line| counted(line, |arrival| arrival + 1)),
     ("listing: arrivals count in one byte", |m| m.model.listing.text = |line| counted(line, |arrival| arrival % 256)),
     ("listing: over-long arrivals don't count", |m| {
-        m.model.listing.next = |arrival, arrived, _| arrival + usize::from(!matches!(arrived, Arrived::OverLong))
+        m.model.listing.next = |number, arrival, _| number + usize::from(!matches!(arrival, StreamArrival::OverLong))
     }),
     ("listing: arrivals of no bytes don't count", |m| {
         m.model.listing.next =
-            |arrival, arrived, _| arrival + usize::from(!matches!(arrived, Arrived::Block { block: [], .. }))
+            |number, arrival, _| number + usize::from(!matches!(arrival, StreamArrival::Block { block: [], .. }))
     }),
     ("listing: refused arrivals don't count", |m| {
-        m.model.listing.next = |arrival, _, refusal| arrival + usize::from(refusal == 0)
+        m.model.listing.next = |number, _, refusal| number + usize::from(refusal == 0)
     }),
     ("listing: admitted arrivals don't count", |m| {
-        m.model.listing.next = |arrival, _, refusal| arrival + usize::from(refusal != 0)
+        m.model.listing.next = |number, _, refusal| number + usize::from(refusal != 0)
     }),
     // What is interpreted
     ("listing: blocks of a second site aren't interpreted", |m| {
@@ -172,19 +174,19 @@ pub const MISTAKES: &[Mistake] = &[
         m.model.listing.text = |line| text(&Line { number: line.number.map(|number| number & 255), ..*line })
     }),
     ("listing: the parent's place", |m| {
-        m.model.listing.delivered =
-            |table, place, delivery| Line { place: parent(table, place), ..delivered(table, place, delivery) }
+        m.model.listing.delivery_line =
+            |table, place, delivery| Line { place: parent(table, place), ..delivery_line(table, place, delivery) }
     }),
     ("listing: the parent's sequence number", |m| {
-        m.model.listing.delivered = |table, place, delivery| Line {
+        m.model.listing.delivery_line = |table, place, delivery| Line {
             sequence: parent(table, place).map(|parent| table.rows[parent].sequence),
-            ..delivered(table, place, delivery)
+            ..delivery_line(table, place, delivery)
         }
     }),
     ("listing: the owner in place of the site", |m| {
-        m.model.listing.delivered = |table, place, delivery| Line {
+        m.model.listing.delivery_line = |table, place, delivery| Line {
             site: Some(table.owners[delivery.slot]),
-            ..delivered(table, place, delivery)
+            ..delivery_line(table, place, delivery)
         }
     }),
     ("listing: the arrival's number in place of the place", |m| {
@@ -192,51 +194,49 @@ pub const MISTAKES: &[Mistake] = &[
     }),
     // The lines of refused arrivals
     ("listing: a refused arrival's line has its site", |m| {
-        m.model.listing.refused = |table, arrived, answer| {
-            let site = match arrived {
-                Arrived::Block { block, .. } => block.first().copied(),
-                Arrived::OverLong | Arrived::Cut => None,
+        m.model.listing.refusal_line = |table, arrival, answer| {
+            let site = match arrival {
+                StreamArrival::Block { block, .. } => block.first().copied(),
+                StreamArrival::OverLong | StreamArrival::Cut => None,
             };
-            Line { site, ..refused(table, arrived, answer) }
+            Line { site, ..refusal_line(table, arrival, answer) }
         }
     }),
     ("listing: a refused arrival's line has the place that it would have had", |m| {
-        m.model.listing.refused =
-            |table, arrived, answer| Line { place: Some(table.count), ..refused(table, arrived, answer) }
+        m.model.listing.refusal_line =
+            |table, arrival, answer| Line { place: Some(table.count), ..refusal_line(table, arrival, answer) }
     }),
     ("listing: beside 8 stands the place", |m| {
-        m.model.listing.refused = |table, arrived, answer| {
+        m.model.listing.refusal_line = |table, arrival, answer| {
             let place = (answer.refusal == 8).then_some(answer.value);
-            Line { place, ..refused(table, arrived, answer) }
+            Line { place, ..refusal_line(table, arrival, answer) }
         }
     }),
     ("listing: an over-long arrival is refused with 11 by a full table", |m| {
-        m.model.listing.refused = |table, arrived, answer| {
-            let full = table.held().len() == table.rows.len() && matches!(arrived, Arrived::OverLong);
+        m.model.listing.refusal_line = |table, arrival, answer| {
+            let full = table.held().len() == table.rows.len() && matches!(arrival, StreamArrival::OverLong);
             let refusal = if full { 11 } else { answer.refusal };
-            refused(table, arrived, Answer { refusal, ..answer })
+            refusal_line(table, arrival, Answer { refusal, ..answer })
         }
     }),
     // How it is written, and how it ends
     ("listing: 0 in place of -", |m| m.model.listing.text = |line| text(line).replace('-', "0")),
     ("listing: a space at a line's end", |m| m.model.listing.text = |line| text(line).replace('\n', " \n")),
-    ("listing: no names", |m| {
-        m.after_listing(|ended, _| Exit { output: ended.output[NAMES.len()..].to_vec(), ..ended })
-    }),
+    ("listing: no names", |m| m.after_listing(|exit, _| Exit { output: exit.output[NAMES.len()..].to_vec(), ..exit })),
     ("listing: the last line has no line feed", |m| {
-        m.after_listing(|ended, _| Exit { output: ended.output[..ended.output.len() - 1].to_vec(), ..ended })
+        m.after_listing(|exit, _| Exit { output: exit.output[..exit.output.len() - 1].to_vec(), ..exit })
     }),
     ("listing: status 1 after an unlawful setup", |m| {
-        m.after_listing(|ended, _| {
-            let unlawful = ended.output.ends_with(b"- 1\n");
-            Exit { status: Some(unlawful.into()), ..ended }
+        m.after_listing(|exit, _| {
+            let unlawful = exit.output.ends_with(b"- 1\n");
+            Exit { status: Some(unlawful.into()), ..exit }
         })
     }),
     ("listing: standard error names the last refusal", |m| {
-        m.after_listing(|ended, _| {
-            let last = ended.output.split_inclusive(|&byte| byte == b'\n').next_back().unwrap_or(&[]);
+        m.after_listing(|exit, _| {
+            let last = exit.output.split_inclusive(|&byte| byte == b'\n').next_back().unwrap_or(&[]);
             let errors = if last.ends_with(b" 0\n") { Vec::new() } else { last.to_vec() };
-            Exit { errors, ..ended }
+            Exit { errors, ..exit }
         })
     }),
 ];
@@ -246,30 +246,30 @@ fn over_long(input: &[u8]) -> bool {
     input.first_chunk().is_some_and(|length| usize::from(u16::from_be_bytes(*length)) > MAX_BLOCK_BYTES)
 }
 
-fn verdict_first(input: &[u8]) -> First<'_> {
+fn verdict_first(input: &[u8]) -> FirstArrival<'_> {
     let [verdict, high, low, rest @ ..] = input else { return first(input) };
     let length = u16::from_be_bytes([*high, *low]).into();
     match rest.split_at_checked(length) {
-        None => Some((Arrived::Cut, &[])),
-        Some((_, rest)) if length > MAX_BLOCK_BYTES => Some((Arrived::OverLong, rest)),
-        Some((block, rest)) => Some((Arrived::Block { verdict: *verdict, block }, rest)),
+        None => Some((StreamArrival::Cut, &[])),
+        Some((_, rest)) if length > MAX_BLOCK_BYTES => Some((StreamArrival::OverLong, rest)),
+        Some((block, rest)) => Some((StreamArrival::Block { verdict: *verdict, block }, rest)),
     }
 }
 
 /// The first arrival; one that is over-long takes another number of bytes.
-fn skipping(input: &[u8], bytes: fn(usize) -> usize) -> First<'_> {
+fn skipping(input: &[u8], bytes: fn(usize) -> usize) -> FirstArrival<'_> {
     match first(input)? {
-        (Arrived::OverLong, rest) => Some((Arrived::OverLong, &input[bytes(input.len() - rest.len())..])),
+        (StreamArrival::OverLong, rest) => Some((StreamArrival::OverLong, &input[bytes(input.len() - rest.len())..])),
         other => Some(other),
     }
 }
 
 /// The first arrival; one that is over-long, but has no more bytes than these, is a block of its first 541.
-fn as_far_as_it_fits(input: &[u8], most: usize) -> First<'_> {
+fn as_far_as_it_fits(input: &[u8], most: usize) -> FirstArrival<'_> {
     match first(input)? {
-        (Arrived::OverLong, rest) if input.len() - rest.len() - BEFORE_BLOCK <= most => {
+        (StreamArrival::OverLong, rest) if input.len() - rest.len() - BEFORE_BLOCK <= most => {
             let block = &input[BEFORE_BLOCK..BEFORE_BLOCK + MAX_BLOCK_BYTES];
-            Some((Arrived::Block { verdict: input[LENGTH_BYTES], block }, rest))
+            Some((StreamArrival::Block { verdict: input[LENGTH_BYTES], block }, rest))
         }
         other => Some(other),
     }

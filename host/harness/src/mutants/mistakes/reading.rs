@@ -1,6 +1,6 @@
 //! Mistakes in reading a block and in its digest.
 
-use super::{value_beside, Mistake, Mutant};
+use super::{neighbours_swapped, value_beside, Mistake, Mutant};
 use crate::model::answer::{Fields, Reading};
 use crate::model::block::{fields, reference_count, references, request_count, requests};
 use crate::model::sha256::sha256;
@@ -23,12 +23,7 @@ pub fn checks_exchanged() -> Vec<Mutant> {
             });
         }));
     }
-    for first in 0..checks.len() - 1 {
-        let (earlier, later) = (checks[first].number, checks[first + 1].number);
-        mutants.push(Mutant::with(format!("reading: checks {earlier} and {later} swapped"), |m| {
-            m.model.reading.swap(first, first + 1);
-        }));
-    }
+    mutants.extend(neighbours_swapped("reading", |model| &mut model.reading));
     mutants
 }
 

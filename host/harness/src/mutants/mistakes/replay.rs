@@ -1,7 +1,7 @@
 //! Mistakes in replaying a list of calls.
 
-use super::Mistake;
-use crate::model::replay::{first, note, wide, Call, First, WIDE_BYTES};
+use super::{flip_last, Mistake};
+use crate::model::replay::{first, note, wide, Call, FirstCall, WIDE_BYTES};
 
 pub const MISTAKES: &[Mistake] = &[
     // Reading the list
@@ -255,23 +255,19 @@ pub const MISTAKES: &[Mistake] = &[
     }),
     ("replay: the table's last byte is written", |m| {
         m.after_replay(|ran, table, _, _, _| {
-            if let Some(last) = table.last_mut() {
-                *last ^= 1;
-            }
+            flip_last(table);
             ran
         })
     }),
     ("replay: the records' last number is written", |m| {
         m.after_replay(|ran, _, records, _, _| {
-            if let Some(last) = records.last_mut() {
-                *last ^= 1;
-            }
+            flip_last(records);
             ran
         })
     }),
 ];
 
-fn cut_block_runs(list: &[u8]) -> First<'_> {
+fn cut_block_runs(list: &[u8]) -> FirstCall<'_> {
     match list {
         [0, verdict, rest @ ..] => {
             let (length, rest) = wide(rest)?;
@@ -283,7 +279,7 @@ fn cut_block_runs(list: &[u8]) -> First<'_> {
     }
 }
 
-fn cut_place_runs(list: &[u8]) -> First<'_> {
+fn cut_place_runs(list: &[u8]) -> FirstCall<'_> {
     match list {
         [1, rest @ ..] if rest.len() < WIDE_BYTES => {
             let mut bytes = [0; WIDE_BYTES];
@@ -295,7 +291,7 @@ fn cut_place_runs(list: &[u8]) -> First<'_> {
 }
 
 /// The first call of a list; an interpretation is of a place that is read otherwise.
-fn other_place(list: &[u8], read: fn(u64) -> u64) -> First<'_> {
+fn other_place(list: &[u8], read: fn(u64) -> u64) -> FirstCall<'_> {
     match first(list)? {
         (Call::Interpretation { place }, rest) => {
             Some((Call::Interpretation { place: read(place as u64) as usize }, rest))

@@ -1,10 +1,11 @@
 //! Mistakes in retiring: in its checks and their order, in the table and the records that it leaves, in what is answered.
 
-use super::{value_beside, Mistake, Mutant};
+use super::{flip_last, neighbours_swapped, value_beside, Mistake, Mutant};
 use crate::model::admission::put;
 use crate::model::record::part_of;
 use crate::model::retiring::{
-    all_referring_interpreted, followed, interpreted, may_be_retired, move_part, records, references, Leaving, CHECKS,
+    all_referring_interpreted, followed, interpreted, may_be_retired, move_part, records, references, RetiringInput,
+    CHECKS,
 };
 use crate::model::sizes::{BUFFER_NUMBERS, PART_NUMBERS, PLACES};
 use crate::model::table::{Row, Table, COUNT, RETIRED};
@@ -19,11 +20,7 @@ pub fn checks_exchanged() -> Vec<Mutant> {
             m.after_retiring(move |answer, _, _| value_beside(number, answer, answer.value + 1));
         }));
         mutants.push(Mutant::with(format!("retiring: {number} writes the table's last byte"), |m| {
-            m.after_refused_retiring(number, |table, _| {
-                if let Some(last) = table.last_mut() {
-                    *last ^= 1;
-                }
-            });
+            m.after_refused_retiring(number, |table, _| flip_last(table));
         }));
         mutants.push(Mutant::with(format!("retiring: {number} sets that something was retired"), |m| {
             m.after_refused_retiring(number, |table, _| {
@@ -36,12 +33,7 @@ pub fn checks_exchanged() -> Vec<Mutant> {
             m.after_refused_retiring(number, |_, numbers| move_part(numbers, 0));
         }));
     }
-    for first in 0..CHECKS.len() - 1 {
-        let (earlier, later) = (CHECKS[first].number, CHECKS[first + 1].number);
-        mutants.push(Mutant::with(format!("retiring: checks {earlier} and {later} swapped"), |m| {
-            m.model.retiring.checks.swap(first, first + 1);
-        }));
-    }
+    mutants.extend(neighbours_swapped("retiring", |model| &mut model.retiring.checks));
     mutants
 }
 
@@ -82,70 +74,70 @@ pub const MISTAKES: &[Mistake] = &[
     ("retiring: 29 before 12", |m| m.model.retiring.checks[1..].rotate_right(1)),
     ("retiring: 13 before 2", |m| m.model.retiring.checks[..3].rotate_right(1)),
     // 12 and 13
-    ("retiring: longer records pass", |m| m.retiring(12, |leaving| (leaving.numbers < BUFFER_NUMBERS).then_some(0))),
+    ("retiring: longer records pass", |m| m.retiring(12, |input| (input.numbers < BUFFER_NUMBERS).then_some(0))),
     ("retiring: records that have the table's places pass", |m| {
-        m.retiring(12, |leaving| (leaving.numbers < PART_NUMBERS * leaving.table.count).then_some(0))
+        m.retiring(12, |input| (input.numbers < PART_NUMBERS * input.table.count).then_some(0))
     }),
     ("retiring: 12 only where something is interpreted", |m| {
-        m.retiring(12, |leaving| {
-            let interpreted = leaving.table.held().iter().any(|row| row.mark == 1);
-            (interpreted && leaving.numbers != BUFFER_NUMBERS).then_some(0)
+        m.retiring(12, |input| {
+            let interpreted = input.table.held().iter().any(|row| row.mark == 1);
+            (interpreted && input.numbers != BUFFER_NUMBERS).then_some(0)
         })
     }),
-    ("retiring: 13 for a single block too", |m| m.retiring(13, |leaving| (leaving.table.count <= 1).then_some(0))),
+    ("retiring: 13 for a single block too", |m| m.retiring(13, |input| (input.table.count <= 1).then_some(0))),
     ("retiring: 13 only where nothing was retired", |m| {
-        m.retiring(13, |leaving| (leaving.table.count == 0 && leaving.table.retired == 0).then_some(0))
+        m.retiring(13, |input| (input.table.count == 0 && input.table.retired == 0).then_some(0))
     }),
     ("retiring: only a full table retires", |m| {
-        m.retiring(29, |leaving| kept(leaving.table.count == PLACES && may_be_retired(&leaving.table)))
+        m.retiring(29, |input| kept(input.table.count == PLACES && may_be_retired(&input.table)))
     }),
-    (ONLY_ONCE, |m| m.retiring(29, |leaving| kept(leaving.table.retired == 0 && may_be_retired(&leaving.table)))),
+    (ONLY_ONCE, |m| m.retiring(29, |input| kept(input.table.retired == 0 && may_be_retired(&input.table)))),
     // 29
     (NOT_INTERPRETED, |m| {
-        m.retiring(29, |Leaving { table, .. }| kept(all_referring_interpreted(table) && followed(table)))
+        m.retiring(29, |RetiringInput { table, .. }| kept(all_referring_interpreted(table) && followed(table)))
     }),
-    (REFERRING_OPEN, |m| m.retiring(29, |Leaving { table, .. }| kept(interpreted(table) && followed(table)))),
+    (REFERRING_OPEN, |m| m.retiring(29, |RetiringInput { table, .. }| kept(interpreted(table) && followed(table)))),
     (NOT_FOLLOWED, |m| {
-        m.retiring(29, |Leaving { table, .. }| kept(interpreted(table) && all_referring_interpreted(table)))
+        m.retiring(29, |RetiringInput { table, .. }| kept(interpreted(table) && all_referring_interpreted(table)))
     }),
     ("retiring: every held block must be interpreted", |m| {
-        m.retiring(29, |Leaving { table, .. }| {
+        m.retiring(29, |RetiringInput { table, .. }| {
             kept(may_be_retired(table) && table.held().iter().all(|row| row.mark == 1))
         })
     }),
     ("retiring: one interpreted block that refers to it is enough", |m| {
-        m.retiring(29, |Leaving { table, .. }| {
+        m.retiring(29, |RetiringInput { table, .. }| {
             let mut referring = table.held().iter().filter(|row| row.references & 1 == 1).peekable();
             let some = referring.peek().is_none() || referring.any(|row| row.mark == 1);
             kept(interpreted(table) && some && followed(table))
         })
     }),
     ("retiring: the last place isn't looked at", |m| {
-        m.retiring(29, |Leaving { table, .. }| {
+        m.retiring(29, |RetiringInput { table, .. }| {
             let fewer = Table { count: table.count - 1, ..table.clone() };
             kept(interpreted(table) && all_referring_interpreted(&fewer) && followed(table))
         })
     }),
     ("retiring: a later block at the last place isn't seen", |m| {
-        m.retiring(29, |Leaving { table, .. }| {
+        m.retiring(29, |RetiringInput { table, .. }| {
             let fewer = Table { count: table.count - 1, ..table.clone() };
             kept(interpreted(table) && all_referring_interpreted(table) && followed(&fewer))
         })
     }),
     (NOTHING_REFERS, |m| {
-        m.retiring(29, |Leaving { table, .. }| {
+        m.retiring(29, |RetiringInput { table, .. }| {
             kept(may_be_retired(table) && table.held().iter().all(|row| row.references & 1 == 0))
         })
     }),
     ("retiring: the next block of its site must refer to it", |m| {
-        m.retiring(29, |Leaving { table, .. }| {
+        m.retiring(29, |RetiringInput { table, .. }| {
             let child = |row: &Row| row.references & 1 == 1 && later(table, row);
             kept(may_be_retired(table) && table.held().iter().any(child))
         })
     }),
-    (FOLLOWED_BY_OPEN, |m| m.retiring(29, |Leaving { table, .. }| followed_otherwise(table, later))),
+    (FOLLOWED_BY_OPEN, |m| m.retiring(29, |RetiringInput { table, .. }| followed_otherwise(table, later))),
     (FOLLOWED_BY_TWIN, |m| {
-        m.retiring(29, |Leaving { table, .. }| {
+        m.retiring(29, |RetiringInput { table, .. }| {
             followed_otherwise(table, |table, row| {
                 let first = &table.rows[0];
                 row.site == first.site && row.mark == 1 && row.sequence >= first.sequence && row.digest != first.digest
@@ -153,12 +145,12 @@ pub const MISTAKES: &[Mistake] = &[
         })
     }),
     (FOLLOWED_BY_ANYONE, |m| {
-        m.retiring(29, |Leaving { table, .. }| {
+        m.retiring(29, |RetiringInput { table, .. }| {
             followed_otherwise(table, |table, row| row.mark == 1 && row.sequence > table.rows[0].sequence)
         })
     }),
     ("retiring: any other block of its site is enough", |m| {
-        m.retiring(29, |Leaving { table, .. }| {
+        m.retiring(29, |RetiringInput { table, .. }| {
             followed_otherwise(table, |table, row| {
                 let first = &table.rows[0];
                 row.site == first.site && row.mark == 1 && row.digest != first.digest
@@ -166,7 +158,7 @@ pub const MISTAKES: &[Mistake] = &[
         })
     }),
     ("retiring: the next number must follow", |m| {
-        m.retiring(29, |Leaving { table, .. }| {
+        m.retiring(29, |RetiringInput { table, .. }| {
             followed_otherwise(table, |table, row| {
                 let first = &table.rows[0];
                 row.site == first.site && row.mark == 1 && first.sequence.checked_add(1) == Some(row.sequence)
@@ -174,7 +166,7 @@ pub const MISTAKES: &[Mistake] = &[
         })
     }),
     ("retiring: only low bytes of sequence numbers are compared", |m| {
-        m.retiring(29, |Leaving { table, .. }| {
+        m.retiring(29, |RetiringInput { table, .. }| {
             followed_otherwise(table, |table, row| {
                 let first = &table.rows[0];
                 row.site == first.site && row.mark == 1 && row.sequence % 256 > first.sequence % 256
@@ -182,14 +174,14 @@ pub const MISTAKES: &[Mistake] = &[
         })
     }),
     ("retiring: a site that forked is kept", |m| {
-        m.retiring(29, |Leaving { table, .. }| {
+        m.retiring(29, |RetiringInput { table, .. }| {
             let first = &table.rows[0];
             let twins = table.held().iter().filter(|row| (row.site, row.sequence) == (first.site, first.sequence));
             kept(may_be_retired(table) && twins.count() == 1)
         })
     }),
     ("retiring: 29 with the place of a block that isn't interpreted", |m| {
-        m.retiring(29, |Leaving { table, .. }| {
+        m.retiring(29, |RetiringInput { table, .. }| {
             let open = table.held().iter().position(|row| row.mark == 0).unwrap_or(0);
             kept(may_be_retired(table)).map(|_| open)
         })
@@ -213,7 +205,7 @@ pub const MISTAKES: &[Mistake] = &[
     ("retiring: a second retiring unsets it", |m| m.model.retiring.retired = |before| 1 - before.min(1)),
     (MARKS_LOST, |m| {
         m.model.retiring.table = |retiring, table| {
-            let mut left = retiring.moved(table);
+            let mut left = retiring.without_first(table);
             left.rows.iter_mut().for_each(|row| row.mark = 0);
             left
         };
@@ -229,17 +221,17 @@ pub const MISTAKES: &[Mistake] = &[
     }),
     ("retiring: the last row stays behind", |m| {
         m.model.retiring.table = |retiring, table| {
-            let mut left = retiring.moved(table);
+            let mut left = retiring.without_first(table);
             left.rows[left.count] = table.rows[left.count];
             left
         };
     }),
     ("retiring: the count stays", |m| {
-        m.model.retiring.table = |retiring, table| Table { count: table.count, ..retiring.moved(table) }
+        m.model.retiring.table = |retiring, table| Table { count: table.count, ..retiring.without_first(table) }
     }),
     ("retiring: the requests of the others stay behind", |m| {
         m.model.retiring.table = |retiring, table| {
-            let mut left = retiring.moved(table);
+            let mut left = retiring.without_first(table);
             for place in 0..left.count {
                 left.rows[place].requests = table.rows[place].requests;
             }
@@ -248,7 +240,7 @@ pub const MISTAKES: &[Mistake] = &[
     }),
     ("retiring: a block that lacks its parent now has number 0", |m| {
         m.model.retiring.table = |retiring, table| {
-            let mut left = retiring.moved(table);
+            let mut left = retiring.without_first(table);
             let first = table.rows[0];
             for row in left.rows.iter_mut().filter(|row| row.site == first.site) {
                 if first.sequence.checked_add(1) == Some(row.sequence) {
@@ -260,9 +252,9 @@ pub const MISTAKES: &[Mistake] = &[
     }),
     ("retiring: two blocks leave where they can", |m| {
         m.model.retiring.table = |retiring, table| {
-            let left = retiring.moved(table);
+            let left = retiring.without_first(table);
             if left.count > 0 && may_be_retired(&left) {
-                retiring.moved(&left)
+                retiring.without_first(&left)
             } else {
                 left
             }

@@ -1,6 +1,6 @@
 //! Mistakes in a shelf's form.
 
-use super::{Mistake, Mutant};
+use super::{flip_last, Mistake, Mutant};
 use crate::model::block;
 use crate::model::form::Condition;
 use crate::model::shelf::{Entry, Shelf, NOTHING};
@@ -180,9 +180,7 @@ pub const MISTAKES: &[Mistake] = &[
     }),
     ("gt_shelf_in_form writes", |m| {
         m.after_shelf_form(|answer, shelf| {
-            if let Some(last) = shelf.last_mut() {
-                *last ^= 1;
-            }
+            flip_last(shelf);
             answer
         })
     }),

@@ -1,13 +1,13 @@
 //! Mistakes in taking back: in its checks and their order, in the table that it leaves, in what is answered, and in
 //! which blocks count after it.
 
-use super::{value_beside, Mistake, Mutant};
+use super::{flip_last, value_beside, Mistake, Mutant};
 use crate::model::form::{self, in_form};
 use crate::model::record::part_of;
 use crate::model::retiring;
 use crate::model::sizes::{DIGEST_BYTES, PLACES, SLOTS, TABLE_BYTES};
 use crate::model::table::{places, Row, Table, COUNT, RETIRED};
-use crate::model::taking_back::{last_interpreted, Taken, TakingBack, CHECKS};
+use crate::model::taking_back::{last_interpreted, TakingBack, TakingBackInput, CHECKS};
 
 /// Each check left out; another value beside each refusal, and something written by it.
 pub fn checks_exchanged() -> Vec<Mutant> {
@@ -19,11 +19,7 @@ pub fn checks_exchanged() -> Vec<Mutant> {
             m.after_taking_back(move |answer, _| value_beside(number, answer, answer.value + 1));
         }));
         mutants.push(Mutant::with(format!("taking back: {number} writes the table's last byte"), |m| {
-            m.after_refused_taking_back(number, |table| {
-                if let Some(last) = table.last_mut() {
-                    *last ^= 1;
-                }
-            });
+            m.after_refused_taking_back(number, flip_last);
         }));
         mutants.push(Mutant::with(format!("taking back: {number} clears that something was retired"), |m| {
             m.after_refused_taking_back(number, |table| {
@@ -75,64 +71,66 @@ pub const MISTAKES: &[Mistake] = &[
     ("taking back: 14 for an interpreted place", |m| m.model.taking_back.checks[2].number = 14),
     // 2
     ("taking back: 2 only for another length", |m| {
-        m.taking_back(2, |taken| (taken.table.length != TABLE_BYTES).then_some(0))
+        m.taking_back(2, |input| (input.table.length != TABLE_BYTES).then_some(0))
     }),
     ("taking back: only the places that stay need to be in form", |m| {
-        m.taking_back(2, |Taken { table, .. }| {
+        m.taking_back(2, |TakingBackInput { table, .. }| {
             (!in_form(&form::DOCUMENT, &TakingBack::document().without_last(table))).then_some(0)
         })
     }),
     ("taking back: only the last place's mark needs to be in form", |m| {
-        m.taking_back(2, |Taken { table, .. }| {
+        m.taking_back(2, |TakingBackInput { table, .. }| {
             let mark = table.held().last().map_or(0, |row| row.mark);
             (table.length != TABLE_BYTES || table.count > PLACES || mark > 1).then_some(0)
         })
     }),
     // 32
-    ("taking back: 32 for a single block too", |m| m.taking_back(32, |taken| (taken.table.count <= 1).then_some(0))),
+    ("taking back: 32 for a single block too", |m| m.taking_back(32, |input| (input.table.count <= 1).then_some(0))),
     ("taking back: 32 only where nothing was retired", |m| {
-        m.taking_back(32, |Taken { table, .. }| (table.count == 0 && table.retired == 0).then_some(0))
+        m.taking_back(32, |TakingBackInput { table, .. }| (table.count == 0 && table.retired == 0).then_some(0))
     }),
     ("taking back: 32 for a full table too", |m| {
-        m.taking_back(32, |Taken { table, .. }| (table.count == 0 || table.count == PLACES).then_some(0))
+        m.taking_back(32, |TakingBackInput { table, .. }| (table.count == 0 || table.count == PLACES).then_some(0))
     }),
     // 33
-    (OF_FIRST, |m| m.taking_back(33, |taken| (taken.table.rows[0].mark == 1).then_some(0))),
+    (OF_FIRST, |m| m.taking_back(33, |input| (input.table.rows[0].mark == 1).then_some(0))),
     (AT_COUNT, |m| {
-        m.taking_back(33, |Taken { table, .. }| {
+        m.taking_back(33, |TakingBackInput { table, .. }| {
             table.rows.get(table.count).is_some_and(|row| row.mark == 1).then_some(0)
         })
     }),
     ("taking back: 33 where the place before the last is interpreted", |m| {
-        m.taking_back(33, |Taken { table, .. }| {
+        m.taking_back(33, |TakingBackInput { table, .. }| {
             let before = table.held().iter().rev().nth(1);
             before.is_some_and(|row| row.mark == 1).then_some(0)
         })
     }),
-    (ALL_OPEN, |m| m.taking_back(33, |Taken { table, .. }| table.held().iter().any(|row| row.mark == 1).then_some(0))),
+    (ALL_OPEN, |m| {
+        m.taking_back(33, |TakingBackInput { table, .. }| table.held().iter().any(|row| row.mark == 1).then_some(0))
+    }),
     ("taking back: 33 only where every place is interpreted", |m| {
-        m.taking_back(33, |Taken { table, .. }| table.held().iter().all(|row| row.mark == 1).then_some(0))
+        m.taking_back(33, |TakingBackInput { table, .. }| table.held().iter().all(|row| row.mark == 1).then_some(0))
     }),
     ("taking back: 33 where the last place is not interpreted", |m| {
-        m.taking_back(33, |Taken { table, .. }| (!last_interpreted(table)).then_some(0))
+        m.taking_back(33, |TakingBackInput { table, .. }| (!last_interpreted(table)).then_some(0))
     }),
     ("taking back: 33 where the last place could be interpreted", |m| {
-        m.taking_back(33, |Taken { table, .. }| {
+        m.taking_back(33, |TakingBackInput { table, .. }| {
             let open = |row: &Row| places(row.references).all(|lower| table.rows[lower].mark == 1);
             table.held().last().is_some_and(open).then_some(0)
         })
     }),
     ("taking back: 33 where the last place's site has an interpreted block", |m| {
-        m.taking_back(33, |Taken { table, .. }| {
+        m.taking_back(33, |TakingBackInput { table, .. }| {
             let own = |site: u8| table.own(site).any(|place| table.rows[place].mark == 1);
             table.held().last().is_some_and(|row| own(row.site)).then_some(0)
         })
     }),
     ("taking back: 33 with the last place", |m| {
-        m.taking_back(33, |Taken { table, .. }| last_interpreted(table).then(|| table.count - 1))
+        m.taking_back(33, |TakingBackInput { table, .. }| last_interpreted(table).then(|| table.count - 1))
     }),
     ("taking back: in place of 33 the last open place leaves", |m| {
-        m.taking_back(33, |Taken { table, .. }| table.held().iter().all(|row| row.mark == 1).then_some(0));
+        m.taking_back(33, |TakingBackInput { table, .. }| table.held().iter().all(|row| row.mark == 1).then_some(0));
         m.model.taking_back.table = |_, table| {
             let mut left = table.clone();
             let open = table.held().iter().rposition(|row| row.mark == 0).unwrap_or(0);

@@ -2,7 +2,7 @@
 //! listed.
 
 use super::arrival::change_row;
-use super::{Arriving, Mistake};
+use super::{ArrivalBuffers, Mistake};
 use crate::model::answer::{Answer, ArrivalAnswer};
 use crate::model::block;
 use crate::model::shelf::{Entry, Shelf, NOTHING};
@@ -26,13 +26,13 @@ pub const MISTAKES: &[Mistake] = &[
     }),
     // Passes. One more after a pass that lets none in would find all as it was.
     (ONE_PASS, |m| m.model.shelving.another = |_| false),
-    ("tries: two passes at most", |m| m.model.shelving.another = |passes| passes.let_in > 0 && passes.made < 2),
-    ("tries: three passes at most", |m| m.model.shelving.another = |passes| passes.let_in > 0 && passes.made < 3),
-    ("tries: nine passes at most", |m| m.model.shelving.another = |passes| passes.let_in > 0 && passes.made < 9),
+    ("tries: two passes at most", |m| m.model.shelving.another = |pass| pass.let_in > 0 && pass.number < 2),
+    ("tries: three passes at most", |m| m.model.shelving.another = |pass| pass.let_in > 0 && pass.number < 3),
+    ("tries: nine passes at most", |m| m.model.shelving.another = |pass| pass.let_in > 0 && pass.number < 9),
     ("tries: a pass that drops is the last", |m| {
-        m.model.shelving.another = |passes| passes.let_in > 0 && passes.dropped == 0
+        m.model.shelving.another = |pass| pass.let_in > 0 && pass.dropped == 0
     }),
-    ("tries: a pass that lets only one in is the last", |m| m.model.shelving.another = |passes| passes.let_in > 1),
+    ("tries: a pass that lets only one in is the last", |m| m.model.shelving.another = |pass| pass.let_in > 1),
     ("tries: a pass ends with the first that is let in", |m| m.model.shelving.ends_pass = |answer| answer.refusal == 0),
     ("tries: a pass ends with the first that is dropped", |m| {
         m.model.shelving.ends_pass = |answer| ![0, 9].contains(&answer.refusal)
@@ -119,20 +119,20 @@ pub const MISTAKES: &[Mistake] = &[
         m.model.shelving.outcome = |answer| outcome(answer).map(|ended| Outcome { place: answer.value, ..ended })
     }),
     ("tries: the rows of those let in are marked", |m| {
-        m.after_arrival(|answered, lent| {
-            for_each_let_in(&answered, lent, |row| row.mark = 1);
+        m.after_arrival(|answered, buffers| {
+            for_each_let_in(&answered, buffers, |row| row.mark = 1);
             answered
         })
     }),
     ("tries: those let in lose their requests", |m| {
-        m.after_arrival(|answered, lent| {
-            for_each_let_in(&answered, lent, |row| row.requests = [0; SLOTS]);
+        m.after_arrival(|answered, buffers| {
+            for_each_let_in(&answered, buffers, |row| row.requests = [0; SLOTS]);
             answered
         })
     }),
     ("tries: those let in aren't held", |m| {
-        m.after_arrival(|answered, lent| {
-            for_each_let_in(&answered, lent, |row| *row = Row::default());
+        m.after_arrival(|answered, buffers| {
+            for_each_let_in(&answered, buffers, |row| *row = Row::default());
             answered
         })
     }),
@@ -251,12 +251,12 @@ pub const MISTAKES: &[Mistake] = &[
         }
     }),
     ("tries: the arrival is listed too", |m| {
-        m.after_arrival(|answered, lent| {
+        m.after_arrival(|answered, buffers| {
             if answered.answer.refusal != 0 {
                 return answered;
             }
             let ended = answered.ended + 1;
-            if let Some(pairs) = lent.outcomes.get_mut(..2 * ended) {
+            if let Some(pairs) = buffers.outcomes.get_mut(..2 * ended) {
                 pairs.rotate_right(2);
                 pairs[..2].copy_from_slice(&[0, answered.answer.value as u64]);
             }
@@ -264,40 +264,40 @@ pub const MISTAKES: &[Mistake] = &[
         })
     }),
     ("tries: the outcomes after the last are zeroed", |m| {
-        m.after_arrival(|answered, lent| {
-            if let Some(rest) = lent.outcomes.get_mut(2 * answered.ended..) {
+        m.after_arrival(|answered, buffers| {
+            if let Some(rest) = buffers.outcomes.get_mut(2 * answered.ended..) {
                 rest.fill(0);
             }
             answered
         })
     }),
     ("tries: the number after the last outcome is written", |m| {
-        m.after_arrival(|answered, lent| {
-            if let Some(next) = lent.outcomes.get_mut(2 * answered.ended).filter(|_| answered.answer.refusal == 0) {
+        m.after_arrival(|answered, buffers| {
+            if let Some(next) = buffers.outcomes.get_mut(2 * answered.ended).filter(|_| answered.answer.refusal == 0) {
                 *next ^= 1;
             }
             answered
         })
     }),
     ("tries: the numbers from 20 on are zeroed", |m| {
-        m.after_arrival(|answered, lent| {
-            if let Some(rest) = lent.outcomes.get_mut(2 * MOST_HELD..) {
+        m.after_arrival(|answered, buffers| {
+            if let Some(rest) = buffers.outcomes.get_mut(2 * MOST_HELD..) {
                 rest.fill(0);
             }
             answered
         })
     }),
     ("tries: a refusal clears the outcomes", |m| {
-        m.after_arrival(|answered, lent| {
+        m.after_arrival(|answered, buffers| {
             if answered.answer.refusal != 0 {
-                lent.outcomes.fill(0);
+                buffers.outcomes.fill(0);
             }
             answered
         })
     }),
     ("tries: 17 writes what there is room for", |m| {
-        m.after_arrival(|answered, lent| {
-            if let Some(first) = lent.outcomes.first_mut().filter(|_| answered.answer.refusal == 17) {
+        m.after_arrival(|answered, buffers| {
+            if let Some(first) = buffers.outcomes.first_mut().filter(|_| answered.answer.refusal == 17) {
                 *first ^= 1;
             }
             answered
@@ -316,14 +316,14 @@ pub const MISTAKES: &[Mistake] = &[
     }),
     ("tries: none is counted", |m| m.after_arrival(|answered, _| counted(answered, 0))),
     ("tries: only those let in are counted", |m| {
-        m.after_arrival(|answered, lent| {
-            let listed = lent.outcomes.chunks_exact(2).take(answered.ended);
+        m.after_arrival(|answered, buffers| {
+            let listed = buffers.outcomes.chunks_exact(2).take(answered.ended);
             counted(answered, listed.filter(|pair| pair[0] == 0).count())
         })
     }),
     ("tries: only those dropped are counted", |m| {
-        m.after_arrival(|answered, lent| {
-            let listed = lent.outcomes.chunks_exact(2).take(answered.ended);
+        m.after_arrival(|answered, buffers| {
+            let listed = buffers.outcomes.chunks_exact(2).take(answered.ended);
             counted(answered, listed.filter(|pair| pair[0] != 0).count())
         })
     }),
@@ -357,10 +357,10 @@ fn unless(answer: Answer, number: u8) -> Option<Outcome> {
 }
 
 /// Changes what the table holds for each block that is listed as let in.
-fn for_each_let_in(answered: &ArrivalAnswer, lent: Arriving, change: fn(&mut Row)) {
-    for listed in lent.outcomes.chunks_exact(2).take(answered.ended) {
+fn for_each_let_in(answered: &ArrivalAnswer, buffers: ArrivalBuffers, change: fn(&mut Row)) {
+    for listed in buffers.outcomes.chunks_exact(2).take(answered.ended) {
         if listed[0] == 0 {
-            change_row(lent.table, listed[1] as usize, change);
+            change_row(buffers.table, listed[1] as usize, change);
         }
     }
 }

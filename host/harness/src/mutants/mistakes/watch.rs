@@ -1,6 +1,6 @@
 //! Mistakes in the watch: in whom it names, in the ancestors, in the counts and in what stands beside a refusal.
 
-use super::{Mistake, Mutant};
+use super::{flip_last, Mistake, Mutant};
 use crate::model::answer::{AncestorPlaces, ForkedSites};
 use crate::model::setup::faults;
 use crate::model::sizes::{MAX_SITES, PLACES};
@@ -169,7 +169,7 @@ pub const FORK_MISTAKES: &[Mistake] = &[
     }),
     ("forks: the table is written", |m| {
         m.after_forks(|answer, table| {
-            write_last(table);
+            flip_last(table);
             answer
         })
     }),
@@ -239,17 +239,17 @@ pub const ANCESTOR_MISTAKES: &[Mistake] = &[
     ("ancestors: none", |m| m.model.watch.ancestors = |_, _| 0),
     // The place
     ("ancestors: the place may be the count", |m| {
-        m.ancestors(13, |asked| (asked.place > asked.table.count).then_some(0))
+        m.ancestors(13, |input| (input.place > input.table.count).then_some(0))
     }),
     ("ancestors: the last place is refused", |m| {
-        m.ancestors(13, |asked| (asked.place >= asked.table.count.saturating_sub(1)).then_some(0))
+        m.ancestors(13, |input| (input.place >= input.table.count.saturating_sub(1)).then_some(0))
     }),
-    ("ancestors: places are compared with 64", |m| m.ancestors(13, |asked| (asked.place >= PLACES).then_some(0))),
+    ("ancestors: places are compared with 64", |m| m.ancestors(13, |input| (input.place >= PLACES).then_some(0))),
     ("ancestors: the place's low byte decides", |m| {
-        m.ancestors(13, |asked| (asked.place % 256 >= asked.table.count).then_some(0))
+        m.ancestors(13, |input| (input.place % 256 >= input.table.count).then_some(0))
     }),
     ("ancestors: the place's low half decides", |m| {
-        m.ancestors(13, |asked| (asked.place as u32 as usize >= asked.table.count).then_some(0))
+        m.ancestors(13, |input| (input.place as u32 as usize >= input.table.count).then_some(0))
     }),
     // The count, what stands beside a refusal, and what is left
     ("ancestors: the references are counted", |m| {
@@ -291,7 +291,7 @@ pub const ANCESTOR_MISTAKES: &[Mistake] = &[
     }),
     ("ancestors: the table is written", |m| {
         m.after_ancestors(|answer, table, _| {
-            write_last(table);
+            flip_last(table);
             answer
         })
     }),
@@ -354,10 +354,4 @@ fn kept(table: &Table, place: usize, keeps: fn(bool, &Row) -> bool) -> u64 {
         keeps(row.site == site, row)
     };
     set(places(table.ancestors(place)).filter(keeps))
-}
-
-fn write_last(table: &mut [u8]) {
-    if let Some(last) = table.last_mut() {
-        *last ^= 1;
-    }
 }

@@ -1,25 +1,25 @@
 //! What must hold of all calls of one campaign, from a start with an empty shelf.
 
 use super::Law;
-use crate::comparing::facts::story::{Call, Reply, Story};
+use crate::comparing::facts::campaign_run::{Call, CampaignRun, Reply};
 use crate::model::sha256::{sha256, Digest};
 use crate::model::table::Table;
 
-/// A campaign among others, and the same alone.
-pub struct Told<'a> {
-    pub among_others: &'a Story,
-    pub alone: &'a Story,
+/// A campaign's calls made among those of other campaigns, and made once more alone.
+pub struct SharedAndAlone<'a> {
+    pub among_others: &'a CampaignRun,
+    pub alone: &'a CampaignRun,
 }
 
 pub const INDEPENDENT: &str = "law: a campaign alone comes to the same, told which of its blocks the shelf took";
 pub const ANSWERED_9: &str = "law: what was answered 9 waits or ended as listed, and nothing else did";
 
-pub fn laws<'a>() -> [Law<Told<'a>>; 2] {
+pub fn laws<'a>() -> [Law<SharedAndAlone<'a>>; 2] {
     [Law { name: INDEPENDENT, broken: depends_on_others }, Law { name: ANSWERED_9, broken: lost_or_invented }]
 }
 
-fn depends_on_others(told: &Told) -> Option<String> {
-    let Told { among_others, alone } = told;
+fn depends_on_others(runs: &SharedAndAlone) -> Option<String> {
+    let SharedAndAlone { among_others, alone } = runs;
     let calls = 0..among_others.replies.len();
     if let Some(call) = calls.clone().find(|&call| among_others.replies[call] != alone.replies[call]) {
         return Some(format!(
@@ -37,10 +37,10 @@ fn depends_on_others(told: &Told) -> Option<String> {
 
 /// As many ended or wait as got 9; those that wait did get it, and so did those that were let in and are still held, by
 /// their digests.
-fn lost_or_invented(told: &Told) -> Option<String> {
-    let Story { calls, replies, table, waiting, .. } = told.among_others;
+fn lost_or_invented(runs: &SharedAndAlone) -> Option<String> {
+    let CampaignRun { calls, replies, table, waiting, .. } = runs.among_others;
     let answered_9 = calls.iter().zip(replies).filter_map(|(call, reply)| match call {
-        Call::Arrival(sent, _) if reply.answer.refusal == 9 => Some(sent.block.clone()),
+        Call::Arrival(arrival, _) if reply.answer.refusal == 9 => Some(arrival.block.clone()),
         _ => None,
     });
     let answered_9: Vec<Vec<u8>> = answered_9.collect();
@@ -50,16 +50,16 @@ fn lost_or_invented(told: &Told) -> Option<String> {
     let known = |place: usize| held.held().get(place).is_some_and(|row| digests.contains(&row.digest));
     let lawful = answered_9.len() == waiting.len() + listed.len()
         && waiting.iter().all(|block| answered_9.contains(block))
-        && let_in(told.among_others).into_iter().all(known);
+        && let_in(runs.among_others).into_iter().all(known);
     (!lawful).then(|| format!("{} got 9, {} wait, {listed:?} ended", answered_9.len(), waiting.len()))
 }
 
 /// The places at which blocks that were let in from the shelf stand at the end.
-fn let_in(story: &Story) -> Vec<usize> {
+fn let_in(run: &CampaignRun) -> Vec<usize> {
     let mut standing: Vec<usize> = Vec::new();
     // How many blocks are held: admissions tell it, and none was let in before the first one.
     let mut count = 0;
-    let passed = story.calls.iter().zip(&story.replies).filter(|(_, reply)| reply.answer.refusal == 0);
+    let passed = run.calls.iter().zip(&run.replies).filter(|(_, reply)| reply.answer.refusal == 0);
     for (call, Reply { answer, listed }) in passed {
         match call {
             Call::Arrival(..) | Call::Admission(_) => {
