@@ -1,6 +1,6 @@
 // The core, for C programs that keep a campaign. Each call is the one function that its body calls, with the same contract.
 use answer::Answer;
-use campaigns::Arrival;
+use campaigns::ArrivalAnswer;
 use watch::AncestorPlaces;
 use watch::ForkedSites;
 ghost use mathlib.Core.Path.{_≡_};
@@ -135,7 +135,7 @@ pub extern "C" fn gt_arrive(
     block: &[u8],
     verdict: u8,
     outcomes: &mut [u64],
-) -> Arrival
+) -> ArrivalAnswer
     ensures { λ r. ⌜ r .answer ≡ arrival sha256 (now (table .entry)) (now (shelf .entry)) campaign (now (block .entry)) verdict (length (now (outcomes .entry))) .answer ⌝ }
     ensures { λ r. ⌜ r .ended ≡ length (listed (arrival sha256 (now (table .entry)) (now (shelf .entry)) campaign (now (block .entry)) verdict (length (now (outcomes .entry))))) ⌝ }
     ensures { λ _. ⌜ now (table .exit) ≡ arrival sha256 (now (table .entry)) (now (shelf .entry)) campaign (now (block .entry)) verdict (length (now (outcomes .entry))) .table ⌝ }

@@ -20,7 +20,7 @@ pub const OUTCOMES_SIZE: usize = 2 * MAX_SHARE;
 
 // An arrival's own answer, and how many blocks that waited were let in or dropped by it.
 #[repr(C)]
-pub struct Arrival {
+pub struct ArrivalAnswer {
     pub answer: Answer,
     pub ended: usize,
 }
@@ -34,10 +34,10 @@ pub struct Pass {
 }
 
 // The answer of an arrival by which no waiting block has ended.
-fn plain(refusal: u8, value: usize) -> Arrival
+fn plain(refusal: u8, value: usize) -> ArrivalAnswer
     ensures { λ r. ⌜ r ≡ record { answer = record { refusal = refusal; value = value }; ended = 0 } ⌝ }
 {
-    Arrival {
+    ArrivalAnswer {
         answer: answer::refused(refusal, value),
         ended: 0,
     }
@@ -88,7 +88,7 @@ pub fn arrive(
     block: &[u8],
     verdict: u8,
     outcomes: &mut [u64],
-) -> Arrival
+) -> ArrivalAnswer
     ensures { λ r. ⌜ r .answer ≡ arrival sha256 (now (table .entry)) (now (shelf .entry)) campaign (now (block .entry)) verdict (length (now (outcomes .entry))) .answer ⌝ }
     ensures { λ r. ⌜ r .ended ≡ length (listed (arrival sha256 (now (table .entry)) (now (shelf .entry)) campaign (now (block .entry)) verdict (length (now (outcomes .entry))))) ⌝ }
     ensures { λ _. ⌜ now (table .exit) ≡ arrival sha256 (now (table .entry)) (now (shelf .entry)) campaign (now (block .entry)) verdict (length (now (outcomes .entry))) .table ⌝ }
@@ -113,5 +113,5 @@ pub fn arrive(
         return plain(answer.refusal, answer.value);
     }
     let ended = settle(table, shelf, campaign, outcomes);
-    Arrival { answer, ended }
+    ArrivalAnswer { answer, ended }
 }

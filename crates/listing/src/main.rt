@@ -7,7 +7,7 @@ use libc::STDERR_FILENO;
 use libc::STDIN_FILENO;
 use libc::STDOUT_FILENO;
 use records::BUFFER_SIZE;
-use report::State;
+use report::ListingState;
 use table::TABLE_SIZE;
 ghost use mathlib.Core.Path.{_≡_};
 ghost use mathlib.Core.Bool.{true};
@@ -98,8 +98,8 @@ fn write_front(output: &[u8], count: usize) -> bool
 
 // How far the program has come, between two turns: the state, how many bytes at the front of the input buffer are unread, whether no more will come,
 // and whether the program is done, since the listing is at its end or reading or writing failed.
-struct Progress {
-    state: State,
+struct ProgramState {
+    state: ListingState,
     count: usize,
     is_ended: bool,
     is_done: bool,
@@ -107,19 +107,19 @@ struct Progress {
 
 // Writes the lines of a turn, and reads on unless the listing is at its end.
 fn write_and_read(
-    state: State,
+    state: ListingState,
     input: &mut [u8],
     count: usize,
     is_ended: bool,
     output: &[u8],
     length: usize,
-) -> Progress
+) -> ProgramState
     requires { ⌜ (count ≤ ListN·length (now input)) × (pieceSize ≤ ListN·length (now input)) × (length ≤ ListN·length (now output)) ⌝ }
     ensures { λ r. ⌜ (r .state ≡ state) × (count ≤ r .count) × (r .count ≤ ListN·length (now (input .exit))) × (r .«is_ended» ≡ true → r .count ≡ count) × («is_ended» ≡ true → r .«is_ended» ≡ true) × (Framing·wanted state ≤ count → r .count ≡ count) ⌝ }
     ensures { λ _. ⌜ take count (now (input .exit)) ≡ take count (now (input .entry)) ⌝ }
 {
     if write_front(output, length) {
-        return Progress {
+        return ProgramState {
             state,
             count,
             is_ended,
@@ -128,7 +128,7 @@ fn write_and_read(
     }
     let wanted = report::wanted(state);
     if wanted == 0 {
-        return Progress {
+        return ProgramState {
             state,
             count,
             is_ended,
@@ -136,7 +136,7 @@ fn write_and_read(
         };
     }
     let read = read_on(input, count, is_ended, wanted);
-    Progress {
+    ProgramState {
         state,
         count: read.count,
         is_ended: read.is_ended,
@@ -148,12 +148,12 @@ fn write_and_read(
 // `turn` in report/specs/Gathering.antt, for the bytes that came. No bytes came if the input is at its end, where it then stays, or if the bytes that
 // the next step wants were there already.
 fn turn(
-    before: Progress,
+    before: ProgramState,
     table: &mut [u8],
     records: &mut [u16],
     input: &mut [u8],
     output: &mut [u8],
-) -> Progress
+) -> ProgramState
     requires { ⌜ (before .count ≤ length (now input)) × (pieceSize ≤ length (now input)) × (linesSize ≤ length (now output)) ⌝ }
     ensures { λ r. ⌜ ((came : Bytes) × (lines : Bytes) × (progress (r .state) (now (table .exit)) (now (records .exit)) (take (r .count) (now (input .exit))) lines ≡ Gathering·turn sha256 (length (now (output .entry))) (before .«is_ended») (progress (before .state) (now (table .entry)) (now (records .entry)) (take (before .count) (now (input .entry))) []) came) × (now (output .exit) ≡ splice (now (output .entry)) 0 lines) × (r .«is_ended» ≡ true → came ≡ []) × (Framing·wanted (r .state) + length came ≤ r .count → came ≡ [])) ⌝ }
     ensures { λ r. ⌜ (r .count ≤ length (now (input .exit))) × (before .«is_ended» ≡ true → r .«is_ended» ≡ true) ⌝ }
@@ -185,7 +185,7 @@ fn list(table: &mut [u8], records: &mut [u16], input: &mut [u8], output: &mut [u
     requires { ⌜ (pieceSize ≤ length (now input)) × (linesSize ≤ length (now output)) ⌝ }
 {
     let state = report::start();
-    let mut progress = Progress {
+    let mut progress = ProgramState {
         state,
         count: 0,
         is_ended: false,

@@ -16,7 +16,7 @@ use Rattle.report.specs.Arrivals.{lengthSize, verdictSize, blockLength, 
 use Rattle.report.specs.Listing.{siteArrived}
 use Rattle.report.specs.Framing.{wantedBy, countLimit, following, expecting, outcomeOf, stepBy, siteBy}
 use Rattle.report.specs.declared.Expected.the-variants.{Length, Block, Skip}
-use Rattle.report.specs.declared.State.{State}
+use Rattle.report.specs.declared.ListingState.{ListingState}
 use Rattle.report.proofs.Ways.{length-cut, length-over, length-fits}
 use Rattle.report.proofs.Frames.{behind-shorter, listingIn, nothing-listed, overlong-listed, cut-listed, whole-listed}
 use Rattle.report.proofs.EnoughTurns.{Writes, stops, goes-on, nothing-left}
@@ -46,7 +46,7 @@ module _ (digest : Bytes → Bytes) where
     abbrev size : ℕ
     size = blockLength b
 
-    abbrev length-next : State
+    abbrev length-next : ListingState
     length-next = expecting Length arrival
 
     some : 1 ≤ length b

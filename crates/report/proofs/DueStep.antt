@@ -9,9 +9,9 @@ use borrow.Author.Tests.{ltb-true, ltb-false, leb-true, leb-false, lt-ltb, le-lt
 use Rattle.base.proofs.Tests.{by-test, and-left, and-right, or-cases, or-left, or-right, or-true}
 use Rattle.report.specs.Framing.{wanted, linesSize}
 use Rattle.report.specs.Gathering.{isDue}
-use Rattle.report.specs.declared.State.{State}
+use Rattle.report.specs.declared.ListingState.{ListingState}
 
-module _ (isEnded : Bool) (s : State) (left room : ℕ) where
+module _ (isEnded : Bool) (s : ListingState) (left room : ℕ) where
   -- ---- each way to the answer
 
   pub nothing-wanted : wanted s ≡ 0 → isDue isEnded s left room ≡ false

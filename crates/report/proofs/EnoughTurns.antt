@@ -9,12 +9,12 @@ use Rattle.base.specs.Bytes.{Bytes}
 use Rattle.run.specs.Run.{Site}
 use Rattle.report.specs.Framing.{wantedBy, wanted, expecting, Outcome, outcomeOf, stepBy, stepped, siteBy, siteStepped, run}
 use Rattle.report.specs.declared.Expected.the-variants.{Length, End}
-use Rattle.report.specs.declared.State.{State}
+use Rattle.report.specs.declared.ListingState.{ListingState}
 use Rattle.report.proofs.Ways.{length-none}
 
 module _ (digest : Bytes → Bytes) where
   -- one turn more than there are bytes is enough
-  abbrev pub Writes : State → Site → Bytes → Bytes → Type 0
+  abbrev pub Writes : ListingState → Site → Bytes → Bytes → Type 0
   Writes s x input text = (turns : ℕ) → length input < turns → run digest turns s x input ≡ text
 
   -- nothing is written after the end
@@ -23,7 +23,7 @@ module _ (digest : Bytes → Bytes) where
   ended zero arrival x input = refl
   ended (suc turns) arrival x input = ended turns arrival x input
 
-  module _ (s : State) (x : Site) (input : Bytes) where
+  module _ (s : ListingState) (x : Site) (input : Bytes) where
     pub stops : (arrival : ℕ) (lines : Bytes) → stepped digest s x (take (wanted s) input) ≡ outcomeOf End arrival lines → Writes s x input lines
     unfolding run
     stops arrival lines e zero h = absurd (omega arith)

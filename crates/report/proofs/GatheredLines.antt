@@ -14,7 +14,7 @@ use Rattle.run.specs.Run.{Site}
 use Rattle.report.specs.Framing.{wanted, stepped, siteStepped, run}
 use Rattle.report.specs.Gathering.{Gathering, pieceAt, due, oneMore, gathering}
 use Rattle.report.specs.Promises.{Stopped}
-use Rattle.report.specs.declared.State.{State}
+use Rattle.report.specs.declared.ListingState.{ListingState}
 use Rattle.report.proofs.DueStep.{is-due, is-not-due}
 use Rattle.report.proofs.Termination.{next-within, gathered-all, kept}
 
@@ -25,17 +25,17 @@ drop-taken (suc n) [] = refl
 drop-taken (suc n) (x ∷ l) = drop-taken n l
 
 module _ (digest : Bytes → Bytes) (unread : Bytes) (isEnded : Bool) (size : ℕ) where
-  pub within : (s : State) (x : Site) → gathering digest unread isEnded size s x .used ≤ length unread
+  pub within : (s : ListingState) (x : Site) → gathering digest unread isEnded size s x .used ≤ length unread
   within s x = kept digest unread isEnded size (λ (g : Gathering). g .used ≤ length unread) (λ g d w. next-within digest unread isEnded size g w) s x (omega arith)
 
-  pub stopped : (s : State) (x : Site) → Stopped unread isEnded size (gathering digest unread isEnded size s x)
+  pub stopped : (s : ListingState) (x : Site) → Stopped unread isEnded size (gathering digest unread isEnded size s x)
   stopped s x =
       let g : Gathering = gathering digest unread isEnded size s x in
       is-not-due isEnded (g .state) (length unread - g .used) (size - length (g .lines)) (gathered-all digest unread isEnded size s x)
 
   -- ---- the lines in their order, and the bytes that are left
 
-  module _ (more : Bytes) (none : isEnded ≡ true → more ≡ []) (s : State) (x : Site) where
+  module _ (more : Bytes) (none : isEnded ≡ true → more ≡ []) (s : ListingState) (x : Site) where
     -- a run writes the lines so far, and then what a run writes from there
     abbrev Written : Gathering → Type 0
     Written g = (g .used ≤ length unread) × ((turns : ℕ) → run digest (g .steps + turns) s x (unread ++ more) ≡ g .lines ++ run digest turns (g .state) (g .site) (drop (g .used) unread ++ more))

@@ -15,7 +15,7 @@ use Rattle.run.specs.Run.{Site}
 use Rattle.report.specs.Framing.{wanted, Outcome, stepped, linesSize, linesOf, handed}
 use Rattle.report.specs.Gathering.{lentSite, Gathering, noSteps, isDue, pieceAt, outcomeAt, siteSteppedAt, due, oneMore, gatherOn, gathering}
 use Rattle.report.specs.Steps.{advanced}
-use Rattle.report.specs.declared.State.{State}
+use Rattle.report.specs.declared.ListingState.{ListingState}
 use Rattle.report.specs.declared.Gathered.{Gathered}
 use Rattle.report.specs.declared.Stepped.{Stepped}
 use Rattle.report.proofs.Appending.{Put, put-nothing, put-behind, put-keeps}
@@ -24,7 +24,7 @@ use Rattle.report.proofs.DueStep.{is-due}
 use Rattle.report.proofs.Termination.{work, length-piece, less-work, next-within, none-due, one-due, enough}
 
 -- a piece as the code cuts it
-pub piece-cut : (s : State) (used end : ℕ) (unread : Bytes) → end ≡ used + min (wanted s) (length unread - used)
+pub piece-cut : (s : ListingState) (used end : ℕ) (unread : Bytes) → end ≡ used + min (wanted s) (length unread - used)
     → take (end - used) (drop used unread) ≡ pieceAt s used unread
 piece-cut s used end unread e = by-test (leb (wanted s) (length unread - used))
     (λ there.
@@ -36,12 +36,12 @@ piece-cut s used end unread e = by-test (leb (wanted s) (length unread - used))
     let l : length (drop used unread) ≡ length unread - used = length-drop used unread in
     take-all (end - used) (drop used unread) (omega arith) ∙ sym (take-all (wanted s) (drop used unread) (omega arith)))
 
-pub piece-ends : (s : State) (used end : ℕ) (unread : Bytes) → end ≡ used + min (wanted s) (length unread - used)
+pub piece-ends : (s : ListingState) (used end : ℕ) (unread : Bytes) → end ≡ used + min (wanted s) (length unread - used)
     → end ≡ used + length (pieceAt s used unread)
 piece-ends s used end unread e = omega (arith, e, length-piece s used unread)
 
 -- what the step gives, on that piece
-module _ (s : State) (x : Site) (used end : ℕ) (unread : Bytes) (q : Stepped) (e : end ≡ used + min (wanted s) (length unread - used))
+module _ (s : ListingState) (x : Site) (used end : ℕ) (unread : Bytes) (q : Stepped) (e : end ≡ used + min (wanted s) (length unread - used))
     (h : q ≡ handed (stepped sha256 s x (take (end - used) (drop used unread)))) where
   abbrev o : Outcome
   o = outcomeAt sha256 s x used unread
@@ -63,7 +63,7 @@ soFar table records done lines steps =
     record { state = done .state; site = lentSite table records; used = done .used; lines = lines; steps = steps }
 
 -- ---- the loop: the bytes that came, whether more may come, the output before, and the state and the site before
-module _ (unread : Bytes) (isEnded : Bool) (output : Bytes) (s : State) (x : Site) where
+module _ (unread : Bytes) (isEnded : Bool) (output : Bytes) (s : ListingState) (x : Site) where
   abbrev size : ℕ
   size = length output
 

@@ -16,7 +16,7 @@ use Rattle.report.specs.Framing.{wantedBy, wanted, expecting, start, run
 use Rattle.report.specs.Gathering.{Gathering, noSteps, due, gathering, Progress, nothingRead, turn, turns, lastTurns}
 use Rattle.report.specs.declared.Expected.{Expected}
 use Rattle.report.specs.declared.Expected.the-variants.{End}
-use Rattle.report.specs.declared.State.{State}
+use Rattle.report.specs.declared.ListingState.{ListingState}
 use Rattle.report.proofs.DueStep.{nothing-wanted, none-to-come}
 use Rattle.report.proofs.ListingEnd.{step-proper}
 use Rattle.report.proofs.Termination.{work, kept, nothing-due, some-due}
@@ -75,7 +75,7 @@ module _ (digest : Bytes → Bytes) (size : ℕ) where
         let n : ℕ = suc (length whole) in
         let end : p .state ≡ expecting End (p .state .arrivals) = ap (λ (w : Expected). expecting w (p .state .arrivals)) (g .proper e) in
         sym (append-nil (p .lines))
-        ∙ ap (λ (t : Bytes). p .lines ++ t) (sym (ap (λ (s : State). run digest n s (p .site) (p .unread ++ [])) end ∙ ended digest n (p .state .arrivals) (p .site) (p .unread ++ [])))
+        ∙ ap (λ (t : Bytes). p .lines ++ t) (sym (ap (λ (s : ListingState). run digest n s (p .site) (p .unread ++ [])) end ∙ ended digest n (p .state .arrivals) (p .site) (p .unread ++ [])))
         ∙ sym (g .writes n) ∙ law (g .steps + n) (omega arith)
 
   pub listed-in-parts : (parts : List Bytes) (x : Site) (last : ℕ) (text : Bytes)

@@ -13,7 +13,7 @@ use Rattle.report.specs.Arrivals.{setupIn, lengthSize, verdictSize, over
 use Rattle.report.specs.Framing.{pieceSize, wantedBy, wanted, Outcome, setupStep, lengthStep, skipStep, blockStep, stepBy, stepped}
 use Rattle.report.specs.declared.Expected.{Expected}
 use Rattle.report.specs.declared.Expected.the-variants.{Length, Block, Skip, End}
-use Rattle.report.specs.declared.State.{State}
+use Rattle.report.specs.declared.ListingState.{ListingState}
 use Rattle.report.proofs.Setups.{short-unlawful, unlawful-refused}
 
 abbrev pub AtEnd : Outcome → Type 0
@@ -57,7 +57,7 @@ module _ (digest : Bytes → Bytes) (arrival : ℕ) (x : Site) (piece : Bytes) w
       (λ _. cond-gives Proper (leb left pieceSize) _ _ (λ _ z. absurd (omega arith)) (λ f z. absurd (omega (arith, leb-false left pieceSize f))))
   proper-by End = λ _. refl
 
-module _ (digest : Bytes → Bytes) (s : State) (x : Site) (piece : Bytes) where
+module _ (digest : Bytes → Bytes) (s : ListingState) (x : Site) (piece : Bytes) where
   pub short-ends : length piece < wanted s → AtEnd (stepped digest s x piece)
   short-ends = short-by digest (s .arrivals) x piece (s .expected)
 
@@ -65,6 +65,6 @@ module _ (digest : Bytes → Bytes) (s : State) (x : Site) (piece : Bytes) where
   step-proper = proper-by digest (s .arrivals) x piece (s .expected)
 
 -- a listing at its end wants nothing
-pub end-wants-nothing : (s : State) → s .expected ≡ End → wanted s ≡ 0
+pub end-wants-nothing : (s : ListingState) → s .expected ≡ End → wanted s ≡ 0
 unfolding wantedBy
 end-wants-nothing s e = rw e

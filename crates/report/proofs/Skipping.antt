@@ -13,15 +13,15 @@ use Rattle.base.proofs.Tests.{by-test}
 use Rattle.run.specs.Run.{Site}
 use Rattle.report.specs.Framing.{pieceSize, wantedBy, expecting, outcomeOf, stepBy, siteBy, run}
 use Rattle.report.specs.declared.Expected.the-variants.{Length, Skip}
-use Rattle.report.specs.declared.State.{State}
+use Rattle.report.specs.declared.ListingState.{ListingState}
 use Rattle.report.proofs.Ways.{skip-cut, skip-last, skip-more}
 use Rattle.report.proofs.EnoughTurns.{Writes, stops, goes-on, nothing-left}
 
 module _ (digest : Bytes → Bytes) (arrival : ℕ) (x : Site) where
-  abbrev length-next : State
+  abbrev length-next : ListingState
   length-next = expecting Length arrival
 
-  abbrev skipping : ℕ → State
+  abbrev skipping : ℕ → ListingState
   skipping left = expecting (Skip left) arrival
 
   -- one step

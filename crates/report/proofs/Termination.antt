@@ -12,15 +12,15 @@ use Rattle.base.proofs.Tests.{by-test}
 use Rattle.run.specs.Run.{Site}
 use Rattle.report.specs.Framing.{wanted}
 use Rattle.report.specs.Gathering.{Gathering, noSteps, pieceAt, due, oneMore, gatherOn, gathering}
-use Rattle.report.specs.declared.State.{State}
+use Rattle.report.specs.declared.ListingState.{ListingState}
 use Rattle.report.proofs.DueStep.{is-due}
 use Rattle.report.proofs.ListingEnd.{short-ends, end-wants-nothing}
 
 -- the bytes that are left, and one more unless the listing is at its end
-abbrev pub work : ℕ → State → ℕ → ℕ
+abbrev pub work : ℕ → ListingState → ℕ → ℕ
 work count s used = (count - used) + min 1 (wanted s)
 
-pub length-piece : (s : State) (used : ℕ) (unread : Bytes) → length (pieceAt s used unread) ≡ min (wanted s) (length unread - used)
+pub length-piece : (s : ListingState) (used : ℕ) (unread : Bytes) → length (pieceAt s used unread) ≡ min (wanted s) (length unread - used)
 length-piece s used unread = length-take (wanted s) (drop used unread) ∙ ap (λ (n : ℕ). min (wanted s) n) (length-drop used unread)
 
 module _ (digest : Bytes → Bytes) (unread : Bytes) (isEnded : Bool) (size : ℕ) where
@@ -89,7 +89,7 @@ module _ (digest : Bytes → Bytes) (unread : Bytes) (isEnded : Bool) (size : �
       (λ d. ap is-due-at (one-due n g d) ∙ settled n (next g) (next-within g w) (omega (arith, less-work g w d)))
       (λ d. ap is-due-at (none-due (suc n) g d) ∙ d)
 
-  pub gathered-all : (s : State) (x : Site) → due digest unread isEnded size (gathering digest unread isEnded size s x) ≡ false
+  pub gathered-all : (s : ListingState) (x : Site) → due digest unread isEnded size (gathering digest unread isEnded size s x) ≡ false
   unfolding gathering
   gathered-all s x = settled (suc (length unread)) (noSteps s x) (omega arith) (omega arith)
 
@@ -103,17 +103,17 @@ module _ (digest : Bytes → Bytes) (unread : Bytes) (isEnded : Bool) (size : �
       (λ d. subst P (sym (none-due (suc n) g d)) p)
 
   pub kept : (P : Gathering → Type 0) → ((g : Gathering) → due digest unread isEnded size g ≡ true → P g → P (oneMore digest unread isEnded size g))
-      → (s : State) (x : Site) → P (noSteps s x) → P (gathering digest unread isEnded size s x)
+      → (s : ListingState) (x : Site) → P (noSteps s x) → P (gathering digest unread isEnded size s x)
   unfolding gathering
   kept P keep s x p = kept-on P keep (suc (length unread)) (noSteps s x) p
 
   -- ---- the first step
 
-  pub nothing-due : (s : State) (x : Site) → due digest unread isEnded size (noSteps s x) ≡ false → gathering digest unread isEnded size s x ≡ noSteps s x
+  pub nothing-due : (s : ListingState) (x : Site) → due digest unread isEnded size (noSteps s x) ≡ false → gathering digest unread isEnded size s x ≡ noSteps s x
   unfolding gathering
   nothing-due s x d = none-due (suc (length unread)) (noSteps s x) d
 
-  pub some-due : (s : State) (x : Site) → due digest unread isEnded size (noSteps s x) ≡ true
+  pub some-due : (s : ListingState) (x : Site) → due digest unread isEnded size (noSteps s x) ≡ true
       → work (length unread) (gathering digest unread isEnded size s x .state) (gathering digest unread isEnded size s x .used) < work (length unread) s 0
   unfolding gathering
   some-due s x d =

@@ -14,12 +14,12 @@ use Rattle.report.specs.Arrivals.{verdictSize}
 use Rattle.report.specs.Listing.{siteArrived, arrivalLines}
 use Rattle.report.specs.Framing.{wantedBy, following, expecting, outcomeOf, stepBy}
 use Rattle.report.specs.declared.Expected.the-variants.{Length, Block}
-use Rattle.report.specs.declared.State.{State}
+use Rattle.report.specs.declared.ListingState.{ListingState}
 use Rattle.report.proofs.Ways.{block-cut, block-whole, site-whole}
 use Rattle.report.proofs.EnoughTurns.{Writes, stops, goes-on}
 
 module _ (digest : Bytes → Bytes) (arrival : ℕ) (x : Site) (size : ℕ) (input : Bytes) (fits : size ≤ maxBlockSize) where
-  abbrev state : State
+  abbrev state : ListingState
   state = expecting (Block size) arrival
 
   abbrev piece : Bytes

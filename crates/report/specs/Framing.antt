@@ -15,7 +15,7 @@ use Rattle.report.specs.Arrivals.{setupSize, setupIn, lengthSize, verdic
 use Rattle.report.specs.Listing.{siteArrived, arrivalLines}
 use Rattle.report.specs.declared.Expected.{Expected}
 use Rattle.report.specs.declared.Expected.the-variants.{Setup, Length, Block, Skip, End}
-use Rattle.report.specs.declared.State.{State}
+use Rattle.report.specs.declared.ListingState.{ListingState}
 use Rattle.report.specs.declared.Lines.{Lines}
 use Rattle.report.specs.declared.Stepped.{Stepped}
 
@@ -31,7 +31,7 @@ wantedBy (Block size) = min (verdictSize + size) pieceSize
 wantedBy (Skip left) = min left pieceSize
 wantedBy End = 0
 
-abbrev pub wanted : State → ℕ
+abbrev pub wanted : ListingState → ℕ
 wanted s = wantedBy (s .expected)
 
 -- ---- the next state, and the lines
@@ -44,16 +44,16 @@ abbrev pub following : ℕ → ℕ
 following arrival = suc arrival % countLimit
 
 -- the state that expects this next, and in which the next arrival has this number
-abbrev pub expecting : Expected → ℕ → State
+abbrev pub expecting : Expected → ℕ → ListingState
 expecting expected arrival = record { expected = expected; arrivals = arrival }
 
 -- the state before the first byte
-abbrev pub start : State
+abbrev pub start : ListingState
 start = expecting Setup 0
 
 -- what a step gives: the next state, and its lines
 pub record Outcome : Type 0 where
-  pub state : State
+  pub state : ListingState
   pub lines : Bytes
 
 abbrev pub outcomeOf : Expected → ℕ → Bytes → Outcome
@@ -96,7 +96,7 @@ module _ (digest : Bytes → Bytes) where
   stepBy (Skip left) arrival x piece = skipStep left arrival piece
   stepBy End arrival x piece = outcomeOf End arrival []
 
-  abbrev pub stepped : State → Site → Bytes → Outcome
+  abbrev pub stepped : ListingState → Site → Bytes → Outcome
   stepped s x piece = stepBy (s .expected) (s .arrivals) x piece
 
   -- ---- what a step leaves of the site
@@ -108,13 +108,13 @@ module _ (digest : Bytes → Bytes) where
   siteBy (Skip left) x piece = x
   siteBy End x piece = x
 
-  abbrev pub siteStepped : State → Site → Bytes → Site
+  abbrev pub siteStepped : ListingState → Site → Bytes → Site
   siteStepped s x piece = siteBy (s .expected) x piece
 
   -- ---- the lines of several steps, joined
 
   -- the lines of so many steps on an input, from the state s and the site x on
-  unfoldable pub run : ℕ → State → Site → Bytes → Bytes
+  unfoldable pub run : ℕ → ListingState → Site → Bytes → Bytes
   run zero s x input = []
   run (suc turns) s x input =
       stepped s x (take (wanted s) input) .lines

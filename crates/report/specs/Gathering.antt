@@ -8,7 +8,7 @@ use lib.ListN.{length, take, drop}
 use Rattle.base.specs.Bytes.{Bytes}
 use Rattle.run.specs.Run.{Site}
 use Rattle.report.specs.Framing.{wanted, Outcome, start, stepped, siteStepped, linesSize}
-use Rattle.report.specs.declared.State.{State}
+use Rattle.report.specs.declared.ListingState.{ListingState}
 use Rattle.report.specs.declared.Gathered.{Gathered}
 
 -- a site, by its lent table and records
@@ -17,34 +17,34 @@ lentSite table records = record { table = table; records = records }
 
 -- what the steps so far came to: the next state, the site, how many of the unread bytes they used, their lines, and how many they were
 pub record Gathering : Type 0 where
-  pub state : State
+  pub state : ListingState
   pub site : Site
   pub used : ℕ
   pub lines : Bytes
   pub steps : ℕ
 
 -- before the first step
-abbrev pub noSteps : State → Site → Gathering
+abbrev pub noSteps : ListingState → Site → Gathering
 noSteps s x = record { state = s; site = x; used = 0; lines = []; steps = 0 }
 
 -- whether the next step is due, where `left` bytes are unread and the output has room for `room` more: the listing is not at its end; the bytes that
 -- the step wants are there, or no more will come; and there is room for a step's lines
-unfoldable pub isDue : Bool → State → ℕ → ℕ → Bool
+unfoldable pub isDue : Bool → ListingState → ℕ → ℕ → Bool
 isDue isEnded s left room = ltb 0 (wanted s) && ((leb (wanted s) left || isEnded) && leb linesSize room)
 
 -- the piece that the next step gets, where `used` of the unread bytes have been used
-abbrev pub pieceAt : State → ℕ → Bytes → Bytes
+abbrev pub pieceAt : ListingState → ℕ → Bytes → Bytes
 pieceAt s used unread = take (wanted s) (drop used unread)
 
 -- how far a listing has come, between two turns: the state, the site, the bytes that no step got yet, and all lines so far
 pub record Progress : Type 0 where
-  pub state : State
+  pub state : ListingState
   pub site : Site
   pub unread : Bytes
   pub lines : Bytes
 
 -- how far a listing has come, with the site by its table and records
-abbrev pub progress : State → Bytes → List ℕ → Bytes → Bytes → Progress
+abbrev pub progress : ListingState → Bytes → List ℕ → Bytes → Bytes → Progress
 progress s table records unread lines = record { state = s; site = lentSite table records; unread = unread; lines = lines }
 
 -- how far a listing has come before the first byte
@@ -53,10 +53,10 @@ nothingRead x = record { state = start; site = x; unread = []; lines = [] }
 
 module _ (digest : Bytes → Bytes) where
   -- the outcome of the next step, and the site after it, where `used` of the unread bytes have been used
-  abbrev pub outcomeAt : State → Site → ℕ → Bytes → Outcome
+  abbrev pub outcomeAt : ListingState → Site → ℕ → Bytes → Outcome
   outcomeAt s x used unread = stepped digest s x (pieceAt s used unread)
 
-  abbrev pub siteSteppedAt : State → Site → ℕ → Bytes → Site
+  abbrev pub siteSteppedAt : ListingState → Site → ℕ → Bytes → Site
   siteSteppedAt s x used unread = siteStepped digest s x (pieceAt s used unread)
 
   -- where these bytes are unread, `isEnded` says whether no more will come, and the output has this size
@@ -82,7 +82,7 @@ module _ (digest : Bytes → Bytes) where
 
     -- all steps that are due from the state s on. Every step takes at least one byte, or gets fewer than it wants and so is the last: one step more
     -- than there are bytes is enough
-    unfoldable pub gathering : State → Site → Gathering
+    unfoldable pub gathering : ListingState → Site → Gathering
     gathering s x = gatherOn (suc (length unread)) (noSteps s x)
 
   -- ---- an input that comes in parts

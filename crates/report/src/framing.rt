@@ -2,9 +2,9 @@
 use crate::Expected;
 use crate::LENGTH_SIZE;
 use crate::Lines;
+use crate::ListingState;
 use crate::PIECE_SIZE;
 use crate::SETUP_SIZE;
-use crate::State;
 use crate::Stepped;
 use crate::VERDICT_SIZE;
 use crate::arrival;
@@ -34,7 +34,7 @@ fn stepped(expected: Expected, arrivals: u64, lines: Lines) -> Stepped
     ensures { λ r. ⌜ r ≡ record { state = record { expected = expected; arrivals = arrivals }; lines = lines } ⌝ }
 {
     Stepped {
-        state: State { expected, arrivals },
+        state: ListingState { expected, arrivals },
         lines,
     }
 }

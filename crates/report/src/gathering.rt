@@ -1,7 +1,7 @@
 // All steps that are due on the bytes that came, with their lines one behind the other in the output.
 use crate::Gathered;
 use crate::LINES_SIZE;
-use crate::State;
+use crate::ListingState;
 ghost use mathlib.Core.Path.{_≡_};
 ghost use Prim.Native.Nat.{_+_, _-_, _≤_, min};
 ghost use lib.ListN.{length};
@@ -75,7 +75,7 @@ fn advance(
 // Makes steps on the unread bytes, one after the other, as long as the next step is due: the listing is not at its end, the bytes that the step wants
 // are there or no more will come, and the output has room for a step's lines.
 pub fn gather(
-    state: State,
+    state: ListingState,
     table: &mut [u8],
     records: &mut [u16],
     unread: &[u8],

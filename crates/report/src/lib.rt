@@ -62,7 +62,7 @@ pub enum Expected {
 }
 
 // The state between two steps: what is expected next, and how many arrivals there were.
-pub struct State {
+pub struct ListingState {
     pub expected: Expected,
     pub arrivals: u64,
 }
@@ -75,30 +75,30 @@ pub struct Lines {
 
 // What a step gives: the next state, and the lines to write.
 pub struct Stepped {
-    pub state: State,
+    pub state: ListingState,
     pub lines: Lines,
 }
 
 // What the steps of one gathering came to: the next state, how many of the unread bytes were used, and how many bytes of lines stand at the front of
 // the output.
 pub struct Gathered {
-    pub state: State,
+    pub state: ListingState,
     pub used: usize,
     pub length: usize,
 }
 
 // The state before the first byte.
-pub fn start() -> State
+pub fn start() -> ListingState
     ensures { λ r. ⌜ r ≡ Framing·start ⌝ }
 {
-    State {
+    ListingState {
         expected: Expected::Setup,
         arrivals: 0,
     }
 }
 
 // How many bytes of the input the next step gets; fewer mean that the input is at its end.
-pub fn wanted(state: State) -> usize
+pub fn wanted(state: ListingState) -> usize
     ensures { λ r. ⌜ (r ≡ Framing·wanted state) × (r ≤ pieceSize) ⌝ }
 {
     let expected = state.expected;
@@ -119,7 +119,7 @@ pub fn wanted(state: State) -> usize
 
 // Makes one step on a piece of the input, which has as many bytes as `wanted` says, or fewer where the input ends. Gives the next state and the lines
 // to write.
-pub fn step(state: State, table: &mut [u8], records: &mut [u16], piece: &[u8]) -> Stepped
+pub fn step(state: ListingState, table: &mut [u8], records: &mut [u16], piece: &[u8]) -> Stepped
     ensures { λ r. ⌜ r ≡ handed (stepped sha256 state (record { table = now (table .entry); records = now (records .entry) }) (now (piece .entry))) ⌝ }
     ensures { λ _. ⌜ now (table .exit) ≡ siteStepped sha256 state (record { table = now (table .entry); records = now (records .entry) }) (now (piece .entry)) .table ⌝ }
     ensures { λ _. ⌜ now (records .exit) ≡ siteStepped sha256 state (record { table = now (table .entry); records = now (records .entry) }) (now (piece .entry)) .records ⌝ }

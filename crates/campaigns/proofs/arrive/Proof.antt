@@ -24,13 +24,13 @@ use Rattle.admission.proofs.Effect.{refused-table}
 use Rattle.campaigns.specs.Passes.{Try, outcomesOf, settled}
 use Rattle.campaigns.specs.Arriving.{Arrived, Called, outcomesSize, listed, arrived, arrival}
 use Rattle.campaigns.specs.Steps.{shelvedAt}
-use Rattle.campaigns.specs.declared.Arrival.{Arrival}
+use Rattle.campaigns.specs.declared.ArrivalAnswer.{ArrivalAnswer}
 use Rattle.campaigns.proofs.MissingReference.{withTable, shelved-any, shelved-tries, nine-short}
 use Rattle.campaigns.proofs.arrive.Statement.{statement}
 use Rattle.campaigns.proofs.arrive.Tie as tie
 
 -- an answer by which nothing has ended
-abbrev plain : Answer → Arrival
+abbrev plain : Answer → ArrivalAnswer
 plain a = record { answer = a; ended = 0 }
 
 module _ (t s : Bytes) (c : ℕ) (b : Bytes) (verdict : ℕ) (o : List ℕ) where
@@ -38,12 +38,12 @@ module _ (t s : Bytes) (c : ℕ) (b : Bytes) (verdict : ℕ) (o : List ℕ) wher
   called = arrival sha256 t s c b verdict (length o)
 
   -- what a call promises
-  abbrev Promised : Arrival → Bytes → Bytes → List ℕ → Type 0
+  abbrev Promised : ArrivalAnswer → Bytes → Bytes → List ℕ → Type 0
   Promised r t′ s′ o′ =
       (r .answer ≡ called .answer) × ((r .ended ≡ length (listed called)) × ((t′ ≡ called .table) × ((s′ ≡ called .shelf) × (o′ ≡ putAnswers o 0 (listed called)))))
 
   -- where all of what a call leaves is given
-  promised : (x : Called) → called ≡ x → (r : Arrival) (t′ s′ : Bytes) (o′ : List ℕ) → r .answer ≡ x .answer → r .ended ≡ length (outcomesOf (x .tries))
+  promised : (x : Called) → called ≡ x → (r : ArrivalAnswer) (t′ s′ : Bytes) (o′ : List ℕ) → r .answer ≡ x .answer → r .ended ≡ length (outcomesOf (x .tries))
       → t′ ≡ x .table → s′ ≡ x .shelf → o′ ≡ putAnswers o 0 (outcomesOf (x .tries)) → Promised r t′ s′ o′
   promised x e r t′ s′ o′ ra re et es eo = (
     ra ∙ ap (λ (y : Called). y .answer) (sym e),
@@ -57,12 +57,12 @@ module _ (t s : Bytes) (c : ℕ) (b : Bytes) (verdict : ℕ) (o : List ℕ) wher
   )
 
   -- a check before admission's does not hold: nothing is changed
-  way-first : (a : Answer) → called ≡ record { answer = a; table = t; shelf = s; tries = [] } → (r : Arrival) → r ≡ plain a → Promised r t s o
+  way-first : (a : Answer) → called ≡ record { answer = a; table = t; shelf = s; tries = [] } → (r : ArrivalAnswer) → r ≡ plain a → Promised r t s o
   unfolding outcomesOf putAnswers
   way-first a e r q =
-      promised (record { answer = a; table = t; shelf = s; tries = [] }) e r t s o (ap (λ (x : Arrival). x .answer) q) (ap (λ (x : Arrival). x .ended) q) refl refl refl
+      promised (record { answer = a; table = t; shelf = s; tries = [] }) e r t s o (ap (λ (x : ArrivalAnswer). x .answer) q) (ap (λ (x : ArrivalAnswer). x .ended) q) refl refl refl
 
-  way21 : campaignCount ≤ c → (r : Arrival) → r ≡ plain (refused 21 0) → Promised r t s o
+  way21 : campaignCount ≤ c → (r : ArrivalAnswer) → r ≡ plain (refused 21 0) → Promised r t s o
   unfolding arrival answerTo
   way21 h = way-first (refused 21 0) (rw (lt-leb c maxCampaign (omega arith)))
 
@@ -70,7 +70,7 @@ module _ (t s : Bytes) (c : ℕ) (b : Bytes) (verdict : ℕ) (o : List ℕ) wher
     up-to : leb c maxCampaign ≡ true
     up-to = le-leb c maxCampaign (omega arith)
 
-    way17 : length o < outcomesSize → (r : Arrival) → r ≡ plain (refused 17 outcomesSize) → Promised r t s o
+    way17 : length o < outcomesSize → (r : ArrivalAnswer) → r ≡ plain (refused 17 outcomesSize) → Promised r t s o
     unfolding arrival answerTo
     way17 h = way-first (refused 17 outcomesSize) (rw (up-to, lt-leb outcomesSize (length o) h))
 
@@ -78,7 +78,7 @@ module _ (t s : Bytes) (c : ℕ) (b : Bytes) (verdict : ℕ) (o : List ℕ) wher
       room : leb outcomesSize (length o) ≡ true
       room = le-leb outcomesSize (length o) long
 
-      way2 : shelfInForm s ≡ false → (r : Arrival) → r ≡ plain (refused 2 0) → Promised r t s o
+      way2 : shelfInForm s ≡ false → (r : ArrivalAnswer) → r ≡ plain (refused 2 0) → Promised r t s o
       unfolding arrival answerTo
       way2 n = way-first (refused 2 0) (rw (up-to, room, n))
 
@@ -90,14 +90,14 @@ module _ (t s : Bytes) (c : ℕ) (b : Bytes) (verdict : ℕ) (o : List ℕ) wher
         all = arrived sha256 (hasPlace c ws) t ws c b verdict
 
         -- over what waits
-        by-list : (x : Arrived) → all ≡ x → (r : Arrival) (t″ s″ : Bytes) (o″ : List ℕ) → r .answer ≡ x .answer → r .ended ≡ length (outcomesOf (x .tries))
+        by-list : (x : Arrived) → all ≡ x → (r : ArrivalAnswer) (t″ s″ : Bytes) (o″ : List ℕ) → r .answer ≡ x .answer → r .ended ≡ length (outcomesOf (x .tries))
             → t″ ≡ x .table → s″ ≡ shelfBytes (x .waiting) → o″ ≡ putAnswers o 0 (outcomesOf (x .tries)) → Promised r t″ s″ o″
         unfolding arrival answerTo
         by-list x e =
             promised (record { answer = x .answer; table = x .table; shelf = shelfBytes (x .waiting); tries = x .tries })
             (rw (up-to, room, formed) (ap (λ (y : Arrived). record { answer = y .answer; table = y .table; shelf = shelfBytes (y .waiting); tries = y .tries }) e))
 
-        way-shelved : a .refusal ≡ 9 → (x : Answer) (r : Arrival) (s′ : Bytes) → r ≡ plain x → x ≡ shelvedAt a s c b .answer
+        way-shelved : a .refusal ≡ 9 → (x : Answer) (r : ArrivalAnswer) (s′ : Bytes) → r ≡ plain x → x ≡ shelvedAt a s c b .answer
             → s′ ≡ shelfBytes (shelvedAt a s c b .waiting) → Promised r t′ s′ o
         unfolding arrived outcomesOf putAnswers
         way-shelved z x r s′ er ex es =
@@ -105,15 +105,15 @@ module _ (t s : Bytes) (c : ℕ) (b : Bytes) (verdict : ℕ) (o : List ℕ) wher
             let e : all ≡ withTable t (shelvedAt a s c b) =
             rw (eq-eqb (admission sha256 t b verdict .refusal) 9 n, ← ea) (shelved-any (hasPlace c ws) a t ws c b) in
             let none : shelvedAt a s c b .tries ≡ [] = shelved-tries (hasPlace c ws) a [] ws c b in
-            by-list (withTable t (shelvedAt a s c b)) e r t′ s′ o (ap (λ (x : Arrival). x .answer) er ∙ ex)
-            (ap (λ (x : Arrival). x .ended) er ∙ sym (ap (λ (ys : List Try). length (outcomesOf ys)) none))
+            by-list (withTable t (shelvedAt a s c b)) e r t′ s′ o (ap (λ (x : ArrivalAnswer). x .answer) er ∙ ex)
+            (ap (λ (x : ArrivalAnswer). x .ended) er ∙ sym (ap (λ (ys : List Try). length (outcomesOf ys)) none))
             (et ∙ refused-table sha256 t b verdict (λ q. omega arith)) es (sym (ap (λ (ys : List Try). putAnswers o 0 (outcomesOf ys)) none))
 
-        way-refused : a .refusal ≢ 9 → a .refusal ≢ 0 → (r : Arrival) → r ≡ plain a → Promised r t′ s o
+        way-refused : a .refusal ≢ 9 → a .refusal ≢ 0 → (r : ArrivalAnswer) → r ≡ plain a → Promised r t′ s o
         unfolding arrived outcomesOf putAnswers
         way-refused n z r er =
             let e : all ≡ record { answer = a; table = t; waiting = ws; tries = [] } = rw (← ea, ne-eqb (a .refusal) 9 n, ne-eqb (a .refusal) 0 z) in
-            by-list (record { answer = a; table = t; waiting = ws; tries = [] }) e r t′ s o (ap (λ (x : Arrival). x .answer) er) (ap (λ (x : Arrival). x .ended) er)
+            by-list (record { answer = a; table = t; waiting = ws; tries = [] }) e r t′ s o (ap (λ (x : ArrivalAnswer). x .answer) er) (ap (λ (x : ArrivalAnswer). x .ended) er)
             (et ∙ refused-table sha256 t b verdict (rw (← ea) z)) (shelf-form s formed .laid .bytes) refl
 
         way-settled : a .refusal ≡ 0 → (n : ℕ) (t″ s″ : Bytes) (o″ : List ℕ) → n ≡ length (outcomesOf (settled sha256 t′ c ws .tries)) → t″ ≡ settled sha256 t′ c ws .table

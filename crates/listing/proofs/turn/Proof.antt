@@ -11,7 +11,7 @@ use Rattle.base.proofs.Splice.{take-splice}
 use Rattle.sha256.specs.Sha256.{sha256}
 use Rattle.report.specs.Framing.{wanted}
 use Rattle.report.specs.Gathering.{Gathering, gathering, Progress, progress}
-use Rattle.report.specs.declared.State.{State}
+use Rattle.report.specs.declared.ListingState.{ListingState}
 use Rattle.report.specs.declared.Gathered.{Gathered}
 use Rattle.report.proofs.GatheredLines.{within}
 use Rattle.listing.proofs.turn.Statement.{statement}
@@ -49,7 +49,7 @@ module _ (before moved after : Bytes) (used count n : ℕ) (low : used ≤ count
   none-came e = drop-of-length-le (take n after) {i = count - used} (omega (arith, length-take n after))
 
 -- a progress, part by part
-same-progress : (s : State) (table : Bytes) (records : List ℕ) (unread lines : Bytes) (p : Progress)
+same-progress : (s : ListingState) (table : Bytes) (records : List ℕ) (unread lines : Bytes) (p : Progress)
     → s ≡ p .state → table ≡ p .site .table → records ≡ p .site .records → unread ≡ p .unread → lines ≡ p .lines → progress s table records unread lines ≡ p
 same-progress s table records unread lines p e t r u l = rw (e, t, r, u, l)
 
