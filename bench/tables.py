@@ -110,8 +110,8 @@ def with_table(page, first_line, lines):
     old = next(i for i, line in enumerate(rest) if not line.startswith("|"))
     if not found or old != len(lines):
         raise ValueError(f"the table {first_line} has {old} rows, and {len(lines)} were measured")
-    written = ["| " + " | ".join(line).replace("|  |", "| |") + " |" for line in lines]
-    return "\n".join([before, head, rule, *(line.replace("  |", " |") for line in written), *rest[old:]])
+    written = [re.sub(" +[|]", " |", f"| {' | '.join(line)} |") for line in lines]
+    return "\n".join([before, head, rule, *written, *rest[old:]])
 
 
 def main(paths):

@@ -12,7 +12,7 @@
 
 typedef struct {
     uint8_t slot;
-    uint16_t number; /* 0: the block has no request */
+    uint16_t number; /* 0: no request */
 } request;
 
 /* The blocks referred to, in their order: each by its index among the steps, which is its place too. */
@@ -29,7 +29,7 @@ typedef struct {
 typedef struct {
     uint8_t site;
     uint16_t sequence;
-    request request;
+    request requests[2];
     references references;
     making makes;
 } step;
@@ -42,8 +42,9 @@ typedef struct {
 } campaign;
 
 /* clang-format off */
-#define NO_REQUEST {0, 0}
-#define MARKED {1, 5} /* a request in slot 1, which makes another block and is no matter to slot 0 */
+#define REQUESTS(slot, number) {{slot, number}}
+#define NO_REQUEST REQUESTS(0, 0)
+#define MARKED REQUESTS(1, 5) /* a request in slot 1, which makes another block and is no matter to slot 0 */
 #define TO_NOTHING {0, {0}}
 #define TO(...) {sizeof((uint8_t[]){__VA_ARGS__}), {__VA_ARGS__}}
 
@@ -59,12 +60,12 @@ typedef struct {
 
 /* The first four steps of many: the first block, and ECHO 42 of sites 0 to 2. */
 #define ECHOED \
-    [0] = {0, 0, {0, 42}, TO_NOTHING, SENDS(42)}, [1] = {0, 1, NO_REQUEST, TO(0), ECHOES(42)}, \
+    [0] = {0, 0, REQUESTS(0, 42), TO_NOTHING, SENDS(42)}, [1] = {0, 1, NO_REQUEST, TO(0), ECHOES(42)}, \
     [2] = {1, 0, NO_REQUEST, TO(0), ECHOES(42)}, [3] = {2, 0, NO_REQUEST, TO(0), ECHOES(42)}
 
 /* Of seven sites: the first block, and ECHO 42 of sites 1 to 5; and then READY 42 of sites 1 to 3. */
 #define ECHOED_BY_FIVE \
-    [0] = {0, 0, {0, 42}, TO_NOTHING, SENDS(42)}, [1] = {1, 0, NO_REQUEST, TO(0), ECHOES(42)}, \
+    [0] = {0, 0, REQUESTS(0, 42), TO_NOTHING, SENDS(42)}, [1] = {1, 0, NO_REQUEST, TO(0), ECHOES(42)}, \
     [2] = {2, 0, NO_REQUEST, TO(0), ECHOES(42)}, [3] = {3, 0, NO_REQUEST, TO(0), ECHOES(42)}, \
     [4] = {4, 0, NO_REQUEST, TO(0), ECHOES(42)}, [5] = {5, 0, NO_REQUEST, TO(0), ECHOES(42)}
 #define READIED_BY_THREE \
@@ -95,7 +96,10 @@ static block block_of_step(const step *s, const block *before)
 
     for (size_t i = 0; i < s->references.count; i++)
         b = referring_to(b, before[s->references.steps[i]]);
-    return s->request.number > 0 ? with_request(b, s->request.slot, s->request.number) : b;
+    for (size_t i = 0; i < 2; i++)
+        if (s->requests[i].number > 0)
+            b = with_request(b, s->requests[i].slot, s->requests[i].number);
+    return b;
 }
 
 /* Each block is admitted at its place and interpreted. At the end each place's record shows what its block makes. */
@@ -211,12 +215,12 @@ static void check_thresholds(void)
           goes(of_sites(7, OF(readies_of_seven_at_once))));
 }
 
-/* ---- TrapCases and SlotCases. A block of two requests is in core_calls.c. */
+/* ---- TrapCases and SlotCases */
 
 /* clang-format off */
 
 static const step distinct_echoes[] = {
-    [0] = {0, 0, {0, 42}, TO_NOTHING, SENDS(42)},
+    [0] = {0, 0, REQUESTS(0, 42), TO_NOTHING, SENDS(42)},
     [1] = {0, 1, NO_REQUEST, TO(0), ECHOES(42)},
     [2] = {1, 0, NO_REQUEST, TO(0), ECHOES(42)},
     [3] = {1, 0, MARKED, TO(0), ECHOES(42)},
@@ -236,13 +240,13 @@ static const step distinct_readies[] = {
 };
 
 static const step direct_only[] = {
-    [0] = {0, 0, {0, 42}, TO_NOTHING, SENDS(42)},
+    [0] = {0, 0, REQUESTS(0, 42), TO_NOTHING, SENDS(42)},
     [1] = {1, 0, NO_REQUEST, TO(0), ECHOES(42)},
     [2] = {2, 0, NO_REQUEST, TO(1), NOTHING},
 };
 
 static const step parent_only[] = {
-    [0] = {0, 0, {0, 42}, TO_NOTHING, SENDS(42)},
+    [0] = {0, 0, REQUESTS(0, 42), TO_NOTHING, SENDS(42)},
     [1] = {1, 0, MARKED, TO(0), ECHOES(42)},
     [2] = {1, 0, NO_REQUEST, TO_NOTHING, NOTHING},
     [3] = {1, 1, NO_REQUEST, TO(2, 0), ECHOES(42)},
@@ -256,18 +260,18 @@ static const step heard_in_branch[] = {
 };
 
 static const step lower_send_first[] = {
-    [0] = {0, 0, {0, 43}, TO_NOTHING, SENDS(43)},
-    [1] = {0, 0, {0, 42}, TO_NOTHING, SENDS(42)},
+    [0] = {0, 0, REQUESTS(0, 43), TO_NOTHING, SENDS(43)},
+    [1] = {0, 0, REQUESTS(0, 42), TO_NOTHING, SENDS(42)},
     [2] = {1, 0, NO_REQUEST, TO(0, 1), ECHOES(42)},
     [3] = {2, 0, NO_REQUEST, TO(1, 0), ECHOES(42)},
 };
 
 static const step lower_echo_first[] = {
-    [0] = {0, 0, {0, 43}, TO_NOTHING, SENDS(43)},
+    [0] = {0, 0, REQUESTS(0, 43), TO_NOTHING, SENDS(43)},
     [1] = {1, 0, MARKED, TO(0), ECHOES(43)},
     [2] = {0, 1, MARKED, TO(0), ECHOES(43)},
     [3] = {2, 0, MARKED, TO(0), ECHOES(43)},
-    [4] = {0, 0, {0, 42}, TO_NOTHING, SENDS(42)},
+    [4] = {0, 0, REQUESTS(0, 42), TO_NOTHING, SENDS(42)},
     [5] = {1, 0, NO_REQUEST, TO(4), ECHOES(42)},
     [6] = {3, 0, NO_REQUEST, TO(1, 5, 2, 3), NOTHING},
 };
@@ -276,7 +280,7 @@ static const step lower_sender_first[] = {
     ECHOED,
     [4] = {2, 1, NO_REQUEST, TO(1, 2, 3), READIES(42)},
     [5] = {3, 0, NO_REQUEST, TO(1, 2, 3), READIES(42)},
-    [6] = {0, 0, {0, 43}, TO_NOTHING, SENDS(43)},
+    [6] = {0, 0, REQUESTS(0, 43), TO_NOTHING, SENDS(43)},
     [7] = {0, 1, MARKED, TO(6), ECHOES(43)},
     [8] = {1, 0, MARKED, TO(6), ECHOES(43)},
     [9] = {2, 0, MARKED, TO(6), ECHOES(43)},
@@ -286,22 +290,34 @@ static const step lower_sender_first[] = {
 };
 
 static const step echo_before_ready[] = {
-    [0] = {0, 0, {0, 43}, TO_NOTHING, SENDS(43)},
+    [0] = {0, 0, REQUESTS(0, 43), TO_NOTHING, SENDS(43)},
     [1] = {0, 1, MARKED, TO(0), ECHOES(43)},
     [2] = {1, 0, MARKED, TO(0), ECHOES(43)},
     [3] = {2, 0, MARKED, TO(0), ECHOES(43)},
     [4] = {0, 2, MARKED, TO(1, 2, 3), READIES(43)},
     [5] = {1, 1, MARKED, TO(1, 2, 3), READIES(43)},
-    [6] = {0, 0, {0, 42}, TO_NOTHING, SENDS(42)},
+    [6] = {0, 0, REQUESTS(0, 42), TO_NOTHING, SENDS(42)},
     [7] = {0, 1, NO_REQUEST, TO(6), ECHOES(42)},
     [8] = {1, 0, NO_REQUEST, TO(6), ECHOES(42)},
     [9] = {2, 0, NO_REQUEST, TO(6), ECHOES(42)},
     [10] = {3, 0, NO_REQUEST, TO(4, 5, 7, 8, 9), READIES(42)},
 };
 
+static const step two_slots[] = {
+    [0] = {1, 0, {{0, 42}, {1, 43}}, TO_NOTHING, NOTHING},
+};
+
+static const step two_slots_owned[] = {
+    [0] = {1, 0, {{0, 42}, {1, 43}}, TO_NOTHING, SENDS(43)},
+};
+
+static const step first_counts[] = {
+    [0] = {0, 0, {{0, 43}, {0, 42}}, TO_NOTHING, SENDS(43)},
+};
+
 static const step echo_once[] = {
-    [0] = {0, 0, {0, 42}, TO_NOTHING, SENDS(42)},
-    [1] = {0, 0, {0, 43}, TO_NOTHING, SENDS(43)},
+    [0] = {0, 0, REQUESTS(0, 42), TO_NOTHING, SENDS(42)},
+    [1] = {0, 0, REQUESTS(0, 43), TO_NOTHING, SENDS(43)},
     [2] = {1, 0, NO_REQUEST, TO(0), ECHOES(42)},
     [3] = {1, 1, NO_REQUEST, TO(2, 1), NOTHING},
 };
@@ -319,6 +335,9 @@ static void check_traps(void)
     check("of a site's two ECHOs the lower number is taken", goes(of_sites(4, OF(lower_echo_first))));
     check("READYs are taken by sender, the lower first", goes(of_sites(4, OF(lower_sender_first))));
     check("ECHOs are taken before READYs", goes(of_sites(4, OF(echo_before_ready))));
+    check("requests in two slots: nothing in that of another owner", goes((campaign){4, SHARED_OUT, 0, OF(two_slots)}));
+    check("requests in two slots: SEND in the own one", goes((campaign){4, SHARED_OUT, 1, OF(two_slots_owned)}));
+    check("a slot requested twice: the first counts", goes(of_sites(4, OF(first_counts))));
     check("a second SEND brings no second ECHO", goes(of_sites(4, OF(echo_once))));
 }
 
@@ -327,9 +346,9 @@ static void check_traps(void)
 /* clang-format off */
 
 static const step one_forked[] = {
-    [0] = {0, 0, {0, 42}, TO_NOTHING, SENDS(42)},
-    [1] = {3, 0, {1, 1}, TO_NOTHING, NOTHING},
-    [2] = {3, 0, {1, 2}, TO_NOTHING, NOTHING},
+    [0] = {0, 0, REQUESTS(0, 42), TO_NOTHING, SENDS(42)},
+    [1] = {3, 0, REQUESTS(1, 1), TO_NOTHING, NOTHING},
+    [2] = {3, 0, REQUESTS(1, 2), TO_NOTHING, NOTHING},
     [3] = {0, 1, NO_REQUEST, TO(0), ECHOES(42)},
     [4] = {1, 0, NO_REQUEST, TO(0), ECHOES(42)},
     [5] = {2, 0, NO_REQUEST, TO(0, 1), ECHOES(42)},
@@ -341,18 +360,18 @@ static const step one_forked[] = {
 
 static const step owner_outside[] = {
     [0] = {0, 0, NO_REQUEST, TO_NOTHING, NOTHING},
-    [1] = {0, 1, {0, 42}, TO(0), SENDS(42)},
+    [1] = {0, 1, REQUESTS(0, 42), TO(0), SENDS(42)},
     [2] = {1, 0, NO_REQUEST, TO(0, 1), ECHOES(42)},
     [3] = {2, 0, NO_REQUEST, TO(0, 1), ECHOES(42)},
     [4] = {3, 0, NO_REQUEST, TO(0, 1), ECHOES(42)},
     [5] = {1, 1, NO_REQUEST, TO(2, 3, 4), READIES(42)},
     [6] = {2, 1, NO_REQUEST, TO(2, 3, 4), READIES(42)},
     [7] = {3, 1, NO_REQUEST, TO(2, 3, 4), READIES(42)},
-    [8] = {0, 2, {0, 43}, TO(1, 2, 3, 4, 5, 6, 7), {.echo = 42, .ready = 42, .delivery = 42}},
+    [8] = {0, 2, REQUESTS(0, 43), TO(1, 2, 3, 4, 5, 6, 7), {.echo = 42, .ready = 42, .delivery = 42}},
 };
 
 static const step one_site_fewer[] = {
-    [0] = {0, 0, {0, 42}, TO_NOTHING, SENDS(42)},
+    [0] = {0, 0, REQUESTS(0, 42), TO_NOTHING, SENDS(42)},
     [1] = {0, 1, NO_REQUEST, TO(0), ECHOES(42)},
     [2] = {1, 0, NO_REQUEST, TO(0), ECHOES(42)},
     [3] = {0, 2, NO_REQUEST, TO(1, 2), NOTHING},
@@ -384,14 +403,14 @@ static void check_arrivals(void)
 /* clang-format off */
 static const step later_request[] = {
     [0] = {0, 0, NO_REQUEST, TO_NOTHING, NOTHING},
-    [1] = {0, 1, {0, 42}, TO(0), SENDS(42)},
+    [1] = {0, 1, REQUESTS(0, 42), TO(0), SENDS(42)},
 };
 
 static const step request_after_echo[] = {
-    [0] = {0, 0, {0, 43}, TO_NOTHING, SENDS(43)},
+    [0] = {0, 0, REQUESTS(0, 43), TO_NOTHING, SENDS(43)},
     [1] = {0, 0, NO_REQUEST, TO(0), ECHOES(43)},
     [2] = {0, 1, NO_REQUEST, TO(1), NOTHING},
-    [3] = {0, 2, {0, 42}, TO(2), SENDS(42)},
+    [3] = {0, 2, REQUESTS(0, 42), TO(2), SENDS(42)},
 };
 
 static const step echoes_and_ready[] = {
@@ -425,7 +444,7 @@ static const step other_ready[] = {
     ECHOED,
     [4] = {0, 2, NO_REQUEST, TO(1, 2, 3), READIES(42)},
     [5] = {1, 1, NO_REQUEST, TO(1, 2, 3), READIES(42)},
-    [6] = {0, 0, {0, 43}, TO_NOTHING, SENDS(43)},
+    [6] = {0, 0, REQUESTS(0, 43), TO_NOTHING, SENDS(43)},
     [7] = {0, 1, MARKED, TO(6), ECHOES(43)},
     [8] = {1, 0, MARKED, TO(6), ECHOES(43)},
     [9] = {2, 0, MARKED, TO(6), ECHOES(43)},
@@ -438,14 +457,14 @@ static const step other_ready[] = {
 };
 
 static const step ready_and_delivery[] = {
-    [0] = {0, 0, {0, 7}, TO_NOTHING, SENDS(7)},
+    [0] = {0, 0, REQUESTS(0, 7), TO_NOTHING, SENDS(7)},
     [1] = {0, 1, NO_REQUEST, TO(0), ECHOES(7)},
     [2] = {0, 2, NO_REQUEST, TO(1), READIES(7)},
     [3] = {0, 0, MARKED, TO(2), READIES_AND_DELIVERS(7)},
 };
 
 static const step own_other[] = {
-    [0] = {0, 0, {0, 7}, TO_NOTHING, SENDS(7)},
+    [0] = {0, 0, REQUESTS(0, 7), TO_NOTHING, SENDS(7)},
     [1] = {0, 1, NO_REQUEST, TO(0), ECHOES(7)},
     [2] = {0, 0, MARKED, TO_NOTHING, NOTHING},
     [3] = {0, 1, NO_REQUEST, TO(2, 1), READIES(7)},
@@ -453,8 +472,8 @@ static const step own_other[] = {
 };
 
 static const step ready_for_another[] = {
-    [0] = {0, 0, {0, 42}, TO_NOTHING, SENDS(42)},
-    [1] = {0, 0, {0, 43}, TO_NOTHING, SENDS(43)},
+    [0] = {0, 0, REQUESTS(0, 42), TO_NOTHING, SENDS(42)},
+    [1] = {0, 0, REQUESTS(0, 43), TO_NOTHING, SENDS(43)},
     [2] = {0, 1, NO_REQUEST, TO(0), ECHOES(42)},
     [3] = {1, 0, NO_REQUEST, TO(0), ECHOES(42)},
     [4] = {2, 0, NO_REQUEST, TO(0), ECHOES(42)},
@@ -463,8 +482,8 @@ static const step ready_for_another[] = {
 };
 
 static const step delivered_for_another[] = {
-    [0] = {0, 0, {0, 42}, TO_NOTHING, SENDS(42)},
-    [1] = {0, 0, {0, 43}, TO_NOTHING, SENDS(43)},
+    [0] = {0, 0, REQUESTS(0, 42), TO_NOTHING, SENDS(42)},
+    [1] = {0, 0, REQUESTS(0, 43), TO_NOTHING, SENDS(43)},
     [2] = {0, 1, NO_REQUEST, TO(0), ECHOES(42)},
     [3] = {1, 0, NO_REQUEST, TO(0), ECHOES(42)},
     [4] = {2, 0, NO_REQUEST, TO(0), ECHOES(42)},
@@ -476,12 +495,12 @@ static const step delivered_for_another[] = {
 };
 
 static const step other_delivered[] = {
-    [0] = {0, 0, {0, 43}, TO_NOTHING, SENDS(43)},
+    [0] = {0, 0, REQUESTS(0, 43), TO_NOTHING, SENDS(43)},
     [1] = {0, 1, MARKED, TO(0), ECHOES(43)},
     [2] = {1, 0, MARKED, TO(0), ECHOES(43)},
     [3] = {2, 0, MARKED, TO(0), ECHOES(43)},
     [4] = {3, 0, NO_REQUEST, TO(1, 2, 3), READIES(43)},
-    [5] = {0, 0, {0, 42}, TO_NOTHING, SENDS(42)},
+    [5] = {0, 0, REQUESTS(0, 42), TO_NOTHING, SENDS(42)},
     [6] = {0, 1, NO_REQUEST, TO(5), ECHOES(42)},
     [7] = {1, 0, NO_REQUEST, TO(5), ECHOES(42)},
     [8] = {2, 0, NO_REQUEST, TO(5), ECHOES(42)},
@@ -517,15 +536,15 @@ static const step echo_after_echoes[] = {
 
 static const step parent_of_site[] = {
     [0] = {0, 0, NO_REQUEST, TO_NOTHING, NOTHING},
-    [1] = {0, 1, {0, 42}, TO(0), SENDS(42)},
+    [1] = {0, 1, REQUESTS(0, 42), TO(0), SENDS(42)},
     [2] = {2, 0, NO_REQUEST, TO(1), ECHOES(42)},
     [3] = {1, 0, NO_REQUEST, TO_NOTHING, NOTHING},
     [4] = {1, 1, NO_REQUEST, TO(2, 3, 1), ECHOES(42)},
 };
 
 static const step without_parent[] = {
-    [0] = {0, 0, {0, 42}, TO_NOTHING, SENDS(42)},
-    [1] = {0, 0, {0, 43}, TO(0), {.send = 43, .echo = 42}},
+    [0] = {0, 0, REQUESTS(0, 42), TO_NOTHING, SENDS(42)},
+    [1] = {0, 0, REQUESTS(0, 43), TO(0), {.send = 43, .echo = 42}},
     [2] = {1, 0, NO_REQUEST, TO(1), ECHOES(43)},
 };
 
@@ -546,7 +565,7 @@ static const step sent_before[] = {
 };
 
 static const step owner_of_slot[] = {
-    [0] = {1, 0, {1, 43}, TO_NOTHING, SENDS(43)},
+    [0] = {1, 0, REQUESTS(1, 43), TO_NOTHING, SENDS(43)},
     [1] = {2, 0, NO_REQUEST, TO(0), ECHOES(43)},
 };
 /* clang-format on */
@@ -583,7 +602,7 @@ static void check_process(void)
 
 /* clang-format off */
 static const step chain_of_four[] = {
-    [0] = {0, 0, {0, 7}, TO_NOTHING, SENDS(7)},
+    [0] = {0, 0, REQUESTS(0, 7), TO_NOTHING, SENDS(7)},
     [1] = {0, 1, NO_REQUEST, TO(0), ECHOES(7)},
     [2] = {0, 2, NO_REQUEST, TO(1), READIES(7)},
     [3] = {0, 3, NO_REQUEST, TO(2), DELIVERS(7)},
@@ -592,7 +611,7 @@ static const step chain_of_four[] = {
 static const step mixed[] = {
     ECHOED,
     [4] = {2, 1, NO_REQUEST, TO(1, 2, 3), READIES(42)},
-    [5] = {0, 0, {0, 43}, TO_NOTHING, SENDS(43)},
+    [5] = {0, 0, REQUESTS(0, 43), TO_NOTHING, SENDS(43)},
     [6] = {0, 1, MARKED, TO(5), ECHOES(43)},
     [7] = {1, 0, MARKED, TO(5), ECHOES(43)},
     [8] = {2, 0, MARKED, TO(5), ECHOES(43)},
@@ -602,8 +621,8 @@ static const step mixed[] = {
 };
 
 static const step in_slot_five[] = {
-    [0] = {0, 0, {0, 42}, TO_NOTHING, NOTHING},
-    [1] = {1, 0, {5, 45}, TO_NOTHING, SENDS(45)},
+    [0] = {0, 0, REQUESTS(0, 42), TO_NOTHING, NOTHING},
+    [1] = {1, 0, REQUESTS(5, 45), TO_NOTHING, SENDS(45)},
 };
 /* clang-format on */
 

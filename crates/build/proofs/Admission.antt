@@ -17,7 +17,7 @@ use Rattle.block.specs.Codec.{Reads}
 use Rattle.table.specs.View.{maxPlaces, Row, View}
 use Rattle.table.specs.Layout.{countOf, digestAt, viewOf}
 use Rattle.table.specs.Rules.{parentRow, parents, parentRule}
-use Rattle.table.proofs.InForm.{TableForm, table-form}
+use Rattle.table.proofs.InForm.{TableForm, table-form, one-place}
 use Rattle.admission.specs.Admission.{lists, rowFor, admission}
 use Rattle.admission.specs.Promises.{Readable, ReferenceMissing, ParentRule, New, Parented, Causes}
 use Rattle.admission.proofs.Causes.{causes}
@@ -26,7 +26,7 @@ use Rattle.build.specs.Building.{maxSequence, nextSequence, isGreatest, 
 use Rattle.build.specs.Promises.{Asked, Admissible}
 use Rattle.build.proofs.Sequence.{greatest-site, greatest-before, greatest-only}
 use Rattle.build.proofs.PickedPlaces.{pickedAt, picked-held, picked-own, greatest-first}
-use Rattle.build.proofs.NextContent.{one-place, as-many-references, reference-at, next-reads}
+use Rattle.build.proofs.NextContent.{as-many-references, reference-at, next-reads}
 use Rattle.build.proofs.Fields.{next-site, next-numbered}
 use Rattle.build.proofs.ReadBack.{shown-count, shown-reference, listed-reference, reference-listed}
 
@@ -66,7 +66,7 @@ module _ (seen : ℕ → Bool) (t : Bytes) (p : ℕ) (requests : Bytes) (all : A
   listed-picked j h y =
       let w = listed-reference block next reads (digestAt t j) y in
       let l : w .0 < length (picked seen v p) = omega (arith, w .1, as-many-references seen t p requests) in
-      (w .0, l, one-place t form (place (w .0)) j (picked-held seen v p (w .0) l) h (sym (reference-at seen t p requests (w .0) l) ∙ w .2))
+      (w .0, l, one-place t (asked .formed) (place (w .0)) j (picked-held seen v p (w .0) l) h (sym (reference-at seen t p requests (w .0) l) ∙ w .2))
 
   -- ---- what admission checks
 

@@ -18,26 +18,13 @@ use Rattle.block.proofs.RequestCheck.{request-good}
 use Rattle.block.proofs.Causes.{bad-means}
 use Rattle.block.proofs.Encoding.{encode-length}
 use Rattle.block.proofs.RoundTrip.{round-trip}
-use Rattle.table.specs.Layout.{rowStart, setupOf, countOf, digestAt, viewOf}
+use Rattle.table.specs.Layout.{rowStart, digestAt, viewOf}
 use Rattle.table.specs.Form.{inForm}
-use Rattle.table.proofs.Views.{row-form}
-use Rattle.table.proofs.InForm.{TableForm, table-form}
+use Rattle.table.proofs.InForm.{TableForm, table-form, one-place, in-formed}
 use Rattle.build.specs.Building.{maxSequence, nextSequence, picked, nextContent, nextBlock}
 use Rattle.build.specs.Promises.{Asked}
 use Rattle.build.proofs.Digests.{digest-size}
 use Rattle.build.proofs.PickedPlaces.{pickedAt, picked-few, picked-held, picked-different}
-
--- ---- the digests of a table in form
-
-module _ (t : Bytes) (form : TableForm t) where
-  -- "digests all different"
-  pub one-place : (i j : ℕ) → i < countOf t → j < countOf t → digestAt t i ≡ digestAt t j → i ≡ j
-  one-place i j h l e =
-      let notBelow : i < j → ⊥ = λ m. row-form (setupOf t) (viewOf t) j (form .held .rows j l) .new i m e in
-      let notAbove : j < i → ⊥ = λ m. row-form (setupOf t) (viewOf t) i (form .held .rows i h) .new j m (sym e) in
-      omega arith
-
--- ---- the next content
 
 module _ (seen : ℕ → Bool) (t : Bytes) (p : ℕ) (requests : Bytes) where
   abbrev next : Content
@@ -69,7 +56,7 @@ module _ (seen : ℕ → Bool) (t : Bytes) (p : ℕ) (requests : Bytes) where
         let k : i < length (picked seen (viewOf t) p) = omega (arith, as-many-references) in
         let m : j < length (picked seen (viewOf t) p) = omega arith in
         picked-different seen (viewOf t) p i j h k
-        (one-place t form (place j) (place i) (picked-held seen (viewOf t) p j m) (picked-held seen (viewOf t) p i k) (sym (reference-at j m) ∙ e ∙ reference-at i k))
+        (one-place t (in-formed t form) (place j) (place i) (picked-held seen (viewOf t) p j m) (picked-held seen (viewOf t) p i k) (sym (reference-at j m) ∙ e ∙ reference-at i k))
 
   -- the length of the next block, by its counts and by the bytes of the requests
   pub next-length : inForm t ≡ true → length (nextBlock seen (viewOf t) p requests) ≡ blockSize (length (picked seen (viewOf t) p)) (length requests / requestSize)

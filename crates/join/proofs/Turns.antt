@@ -11,12 +11,11 @@ use lib.Bits.{bitOr, or-lt}
 use lib.Dec.{eqb, lit<}
 use lib.ListN.{getD}
 use lib.Pow.{pow-mono, pow-pos}
-use borrow.Author.Tests.{eq-eqb, ne-eqb}
 use Rattle.base.specs.Search.{anyBelow}
 use Rattle.base.specs.Mask.{inMask}
 use Rattle.base.proofs.Tests.{true-not-false, or-assoc, or-false}
-use Rattle.base.proofs.Sets.{mask-or, mask-same, mask-members}
-use Rattle.base.proofs.TopPlace.{not-in, highest-in, lower-in, any-highest, any-no-place}
+use Rattle.base.proofs.Sets.{mask-or, mask-same, mask-members, one-in}
+use Rattle.base.proofs.TopPlace.{not-in, lower-in, any-highest, any-no-place}
 use Rattle.table.specs.View.{maxPlaces}
 use Rattle.join.specs.Steps.{renumberedBy}
 
@@ -47,18 +46,6 @@ marking-ends references places mask a =
     sym (mask-members maxPlaces mask (a .wide))
     ∙ mask-same (inMask mask) (someAt references places) maxPlaces
     (λ p h. sym (ap (λ (t : Bool). inMask mask p || t) (any-no-place (λ k. eqb (getD places k 0) p) maxPlaces) ∙ or-false (inMask mask p)) ∙ a .is p h)
-
--- the mask of one place
-one-in : (q p : ℕ) → inMask (2 ^ q) p ≡ eqb q p
-one-in q p = elim (decLt p q) [
-  | yes l ↦ lower-in (2 ^ q) q (omega arith) (omega (arith, pow-pos q, pow-suc 2 q)) p l
-      ∙ ap (λ (x : ℕ). inMask x p) (let e : 2 ^ q - 2 ^ q ≡ 0 = omega arith in e) ∙ not-in 0 p (pow-pos p) ∙ sym (ne-eqb q p (λ e. omega arith))
-  | no n ↦ elim (decLt q p) [
-    | yes l ↦ not-in (2 ^ q) p (omega (arith, pow-pos q, pow-suc 2 q, pow-mono {i = suc q} {j = p} l)) ∙ sym (ne-eqb q p (λ e. omega arith))
-    | no o ↦ let e : q ≡ p = omega arith in
-        ap (inMask (2 ^ q)) (sym e) ∙ highest-in (2 ^ q) q (omega arith) (omega (arith, pow-pos q, pow-suc 2 q)) ∙ sym (eq-eqb q p e)
-  ]
-]
 
 -- ---- a turn
 

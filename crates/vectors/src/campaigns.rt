@@ -47,7 +47,7 @@ fn number(character: u8) -> u8 {
     if character == b'.' { 0 } else { character }
 }
 
-// Puts the digest of a block that was named as reference i.
+// Puts the digest of block `named` of the campaign as reference i.
 fn put_reference(block: &mut [u8], i: usize, digests: &[u8], named: usize) {
     if block.len() != MAX_BLOCK_SIZE {
         return;
@@ -198,7 +198,7 @@ fn settle(table: &mut [u8], records: &mut [u16], step: u8, block: &[u8]) {
     show_interpreted(table, records, answer.value);
 }
 
-// The block of the entry at the front is brought.
+// Brings the block of the entry at the front.
 fn bring(
     table: &mut [u8],
     records: &mut [u16],
@@ -267,7 +267,7 @@ fn build_front(table: &mut [u8], records: &mut [u16], site: u8, requests: &[u8],
     settle_front(table, records, &room, answer.value);
 }
 
-// The block at the front arrives where it was built.
+// Shows the built block at the front of `room`, and brings it to the table that it was built from.
 fn settle_front(table: &mut [u8], records: &mut [u16], room: &[u8], length: usize) {
     if room.len() < length {
         return;
@@ -305,7 +305,7 @@ fn show_digest(block: &[u8]) {
         .show();
 }
 
-// What the entry at the front does; how many blocks were named then.
+// Does what the entry at the front says, and gives how many blocks the campaign has named by then.
 fn take_step(
     table: &mut [u8],
     records: &mut [u16],

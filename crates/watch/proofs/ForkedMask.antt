@@ -18,10 +18,10 @@ use Rattle.base.proofs.Sets.{mask-has, mask-has-not, ones-members}
 use Rattle.setup.specs.Setup.{faults}
 use Rattle.table.specs.Layout.{setupOf, siteAt, viewOf}
 use Rattle.table.specs.Form.{inForm}
+use Rattle.table.proofs.InForm.{formed-row}
 use Rattle.watch.specs.Forks.{everywhere, forkedIn, forks}
 use Rattle.watch.specs.Promises.{Shares}
 use Rattle.watch.proofs.ForkTest.{forked-shares}
-use Rattle.watch.proofs.InForm.{row-formed}
 use Rattle.watch.proofs.Causes.{forks-reported, forks-refused}
 
 module _ (t : Bytes) where
@@ -35,7 +35,7 @@ module _ (t : Bytes) where
   shares-site : (p : ℕ) → inForm t ≡ true → Shares (viewOf t) everywhere p → p < n
   shares-site p y s =
       let e : siteAt t (s .other) ≡ p = eqb-true _ p (and-right (everywhere (s .other)) (eqb (siteAt t (s .other)) p) (s .otherOf)) in
-      rw e at (row-formed t y (s .other) (s .held) .site)
+      rw e at (formed-row t y (s .other) (s .held) .site)
 
   pub forked-bit : inForm t ≡ true → (p : ℕ) → (inMask (forks t .sites) p ≡ true) ↔ Shares (viewOf t) everywhere p
   forked-bit y p = rw (forks-reported t y) (

@@ -9,8 +9,7 @@ use Rattle.table.specs.View.{maxPlaces}
 use Rattle.table.specs.Layout.{setupOf, countOf, viewOf}
 use Rattle.table.specs.Form.{inForm}
 use Rattle.table.specs.Steps.{Place}
-use Rattle.table.proofs.Views.{RowForm, row-form}
-use Rattle.table.proofs.InForm.{table-form, formed-places}
+use Rattle.table.proofs.InForm.{table-form, formed-places, formed-row}
 use Rattle.watch.specs.Steps.{Watchable}
 use Rattle.watch.proofs.AncestorTest.{RefersLower}
 
@@ -18,11 +17,8 @@ module _ (t : Bytes) (e : inForm t ≡ true) where
   pub places-fit : countOf t ≤ maxPlaces
   places-fit = table-form t e .held .fits
 
-  pub row-formed : (i : ℕ) → i < countOf t → RowForm (setupOf t) (viewOf t) i
-  row-formed i h = row-form (setupOf t) (viewOf t) i (table-form t e .held .rows i h)
-
   pub refers-lower : RefersLower (viewOf t)
-  refers-lower i h = row-formed i h .lower
+  refers-lower i h = formed-row t e i h .lower
 
   pub ready : Watchable t
   ready =
@@ -30,7 +26,7 @@ module _ (t : Bytes) (e : inForm t ≡ true) where
       record {
         sized = formed-places t e;
         few = sites-few (setupOf t .sites) (sites-lawful (setupOf t) (f .held .lawful));
-        sites = λ i h. row-formed i h .site;
+        sites = λ i h. formed-row t e i h .site;
       }
 
   pub held-place : (i : ℕ) → i < countOf t → Place t i
