@@ -18,12 +18,11 @@ use Rattle.block.specs.Limits.{referenceSize}
 use Rattle.block.specs.Layout.{siteOf, sequenceOf, referencesOf}
 use Rattle.table.specs.View.{maxPlaces, View}
 use Rattle.table.specs.Layout.{countOf, digestAt, siteAt, rowAt, viewOf}
-use Rattle.table.proofs.InForm.{table-form}
+use Rattle.table.proofs.InForm.{one-place}
 use Rattle.watch.specs.Forks.{everywhere, ofSite}
 use Rattle.build.specs.Building.{nextSequence, isReferred, isOther, picked, nextBlock}
 use Rattle.build.proofs.Sequence.{next-above}
 use Rattle.build.proofs.PickedPlaces.{picked-held, picked-lower}
-use Rattle.build.proofs.NextContent.{one-place}
 use Rattle.build.proofs.Fields.{next-numbered, next-refers}
 use Rattle.build.proofs.Promises.{built-block}
 use Rattle.run.specs.Ledger.{Ledger}
@@ -73,7 +72,7 @@ module _ (digest : Bytes → Bytes) (sized : (b : Bytes) → length (digest b) �
       let u = Memᴰ·of-map (digestAt table) (picked everywhere v p) (subst (List·Memᴰ (digest (l .block i))) refers-are r) in
       let k = member-at (picked everywhere v p) (u .0) 0 (u .1) in
       let below : u .0 < countOf table = subst (λ (j : ℕ). j < countOf table) (k .2) (picked-held everywhere v p (k .0) (k .1)) in
-      let same : u .0 ≡ i = one-place table (table-form table (t .formed)) (u .0) i below (stand .counted i h) (u .2 ∙ sym (digest-is i h)) in
+      let same : u .0 ≡ i = one-place table (t .formed) (u .0) i below (stand .counted i h) (u .2 ∙ sym (digest-is i h)) in
       Memᴰ·cast (sym same) (u .1)
 
   -- ---- the rule
