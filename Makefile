@@ -10,7 +10,7 @@
 # make host        builds the listing, the library for C and the control program
 # make install     puts them, the headers and the man pages below PREFIX, or below DESTDIR and PREFIX
 # make uninstall   removes what was installed there
-# make figures     writes into the documents how many crates, edits, tests and lines there are
+# make figures     writes into the documents how many crates, edits, tests and lines there are, and the limits of the C headers
 # make clean       removes all that was built
 
 CC = gcc

@@ -11,10 +11,12 @@ enum { BUSY_SITES = 16, ORDINARY_SITES = 4, LATER_ROUND = 4 };
 /* Whether the block of a place has a request of a slot. */
 typedef bool (*request_rule)(size_t place, uint8_t slot);
 
+/* As many slots as a block has requests, from the place's own on, so that the owner of each slot requests a number in it. */
 static bool busy_rule(size_t place, uint8_t slot)
 {
-    (void)slot;
-    return place < BUSY_SITES || place == LAST_PLACE;
+    bool in_turn = (slot + GT_SLOTS - place % GT_SLOTS) % GT_SLOTS < GT_MAX_REQUESTS;
+
+    return in_turn && (place < BUSY_SITES || place == LAST_PLACE);
 }
 
 static bool ordinary_rule(size_t place, uint8_t slot)
@@ -49,7 +51,7 @@ static void append_requests(campaign *c, size_t place, request_rule requests)
 {
     for (uint8_t slot = 0; slot < GT_SLOTS; slot++)
         if (requests(place, slot)) {
-            append(&c->blocks[place], (uint8_t[]){slot, (uint8_t)place, 1}, 3);
+            append(&c->blocks[place], (uint8_t[]){slot, (uint8_t)place, 1}, GT_REQUEST_BYTES);
             c->blocks[place].bytes[4]++;
         }
 }
@@ -61,7 +63,7 @@ static campaign make(const char *name, uint8_t sites, request_rule requests)
     for (uint8_t slot = 0; slot < GT_SLOTS; slot++)
         c.owners[slot] = slot % sites;
     for (size_t place = 0; place < GT_MAX_PLACES; place++) {
-        append(&c.blocks[place], (uint8_t[]){(uint8_t)(place % sites), 0, (uint8_t)(place / sites), 0, 0}, 5);
+        append(&c.blocks[place], (uint8_t[]){(uint8_t)(place % sites), 0, (uint8_t)(place / sites), 0, 0}, GT_HEADER_BYTES);
         append_references(&c, place);
         append_requests(&c, place, requests);
     }
@@ -72,7 +74,7 @@ campaign busy_campaign(void)
 {
     campaign c = make("busy: 16 sites, 16 references", BUSY_SITES, busy_rule);
 
-    expect(c.blocks[LAST_PLACE].length == GT_MAX_BLOCK_BYTES, "the last block is not of 541 bytes");
+    expect(c.blocks[LAST_PLACE].length == GT_MAX_BLOCK_BYTES, "the last block is not as long as a block can be");
     return c;
 }
 

@@ -22,8 +22,8 @@ typedef struct {
 
 enum { LAST_PLACE = GT_MAX_PLACES - 1 };
 
-/* 16 sites in four rounds. Every block of the first round has a request of each slot, and so has the last block, which
- * makes it as long as a block can be. */
+/* 16 sites in four rounds. Every block of the first round has as many requests as a block can have, so that each slot's owner
+ * requests a number in it, and so has the last block, which makes it as long as a block can be. */
 campaign busy_campaign(void);
 
 /* Four sites in 16 rounds. Each site owns two slots and requests a number in one of them in the first round, in the other

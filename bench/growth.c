@@ -225,7 +225,8 @@ int main(void)
     measured[ORDINARY] = ordinary_campaign();
 
     puts("An arrival as the table fills: the campaign's next block is admitted and interpreted. The proved core (ours) against");
-    puts("C, and against gt_digest of 541 bytes. At a full table the block that site 0 would build next is refused with 11.");
+    puts(
+        "C, and against gt_digest of the longest block. At a full table the block that site 0 would build next is refused with 11.");
     puts("Blocks of the first round have no references: in the busy campaign the one that comes when 8 are held.");
     puts("Before timing, each arrival is made at both; the answers, the tables and all 20,480 numbers of the records are");
     puts("compared.");

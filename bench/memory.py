@@ -13,18 +13,15 @@ import subprocess
 import sys
 from pathlib import Path
 
-HOST = Path(__file__).resolve().parents[1] / "host"
-HEADERS = "".join((HOST / file).read_text(encoding="ascii") for file in ("giangotum.h", "giangotum_core.h"))
+sys.path.append(str(Path(__file__).resolve().parents[1] / "tools"))
+import headers
+
+CONSTANTS = headers.constants()
 LIMIT = 65536  # bytes that the device has for everything
 
 
 def output_of(*command):
     return subprocess.run(command, stdout=subprocess.PIPE, check=True, text=True).stdout
-
-
-def constant(name):
-    """A number that the headers define."""
-    return int(re.search(rf"^#define {name} (\d+)$", HEADERS, re.MULTILINE).group(1))
 
 
 def sections(linked):
@@ -41,7 +38,7 @@ def functions(linked):
 
 def calls(linked):
     """Those of the functions that the headers declare."""
-    declared = set(re.findall(r"^\w+ (gt_\w+)\(", HEADERS, re.MULTILINE))
+    declared = set(re.findall(r"^\w+ (gt_\w+)\(", headers.TEXT, re.MULTILINE))
     return sorted(name for name, _ in functions(linked) if name in declared)
 
 
@@ -83,9 +80,9 @@ def state_depths(names, measured):
 def state_device(device, measured):
     """Gives the sum."""
     helpers = [(name, size) for name, size in functions(device) if name.startswith(("mem", "bcmp"))]
-    lent = [("table", constant("GT_TABLE_BYTES"), "GT_TABLE_BYTES"),
-            ("records", 2 * constant("GT_RECORDS_NUMBERS"), "GT_RECORDS_NUMBERS of 2 bytes"),
-            ("one block", constant("GT_MAX_BLOCK_BYTES"), "GT_MAX_BLOCK_BYTES")]
+    lent = [("table", CONSTANTS["GT_TABLE_BYTES"], "GT_TABLE_BYTES"),
+            ("records", 2 * CONSTANTS["GT_RECORDS_NUMBERS"], "GT_RECORDS_NUMBERS of 2 bytes"),
+            ("one block", CONSTANTS["GT_MAX_BLOCK_BYTES"], "GT_MAX_BLOCK_BYTES")]
 
     total = state_sum("Memory of the core's calls, in bytes", device, measured, lent)
     line("limit", LIMIT, verdict(total, LIMIT))
@@ -100,13 +97,13 @@ def state_device(device, measured):
 
 
 def state_controller(controller, device, measured):
-    campaigns = constant("GT_CAMPAIGNS")
+    campaigns = CONSTANTS["GT_CAMPAIGNS"]
     added = [name for name in calls(controller) if name not in calls(device)]
-    lent = [("tables", campaigns * constant("GT_TABLE_BYTES"), f"{campaigns} of GT_TABLE_BYTES"),
-            ("records", campaigns * 2 * constant("GT_RECORDS_NUMBERS"), f"{campaigns} of GT_RECORDS_NUMBERS of 2 bytes"),
-            ("shelf", constant("GT_SHELF_BYTES"), "GT_SHELF_BYTES"),
-            ("one block", constant("GT_MAX_BLOCK_BYTES"), "GT_MAX_BLOCK_BYTES"),
-            ("outcomes", 8 * constant("GT_OUTCOMES_NUMBERS"), "GT_OUTCOMES_NUMBERS of 8 bytes")]
+    lent = [("tables", campaigns * CONSTANTS["GT_TABLE_BYTES"], f"{campaigns} of GT_TABLE_BYTES"),
+            ("records", campaigns * 2 * CONSTANTS["GT_RECORDS_NUMBERS"], f"{campaigns} of GT_RECORDS_NUMBERS of 2 bytes"),
+            ("shelf", CONSTANTS["GT_SHELF_BYTES"], "GT_SHELF_BYTES"),
+            ("one block", CONSTANTS["GT_MAX_BLOCK_BYTES"], "GT_MAX_BLOCK_BYTES"),
+            ("outcomes", 8 * CONSTANTS["GT_OUTCOMES_NUMBERS"], "GT_OUTCOMES_NUMBERS of 8 bytes")]
 
     state_sum(f"Memory of a controller of {campaigns} campaigns, in bytes: there is no limit", controller, measured, lent)
     print()
@@ -115,8 +112,8 @@ def state_controller(controller, device, measured):
 
 
 def state_join(join, measured):
-    lent = [("tables", 2 * constant("GT_TABLE_BYTES"), "2 of GT_TABLE_BYTES"),
-            ("records", 3 * 2 * constant("GT_RECORDS_NUMBERS"), "3 of GT_RECORDS_NUMBERS of 2 bytes")]
+    lent = [("tables", 2 * CONSTANTS["GT_TABLE_BYTES"], "2 of GT_TABLE_BYTES"),
+            ("records", 3 * 2 * CONSTANTS["GT_RECORDS_NUMBERS"], "3 of GT_RECORDS_NUMBERS of 2 bytes")]
 
     state_sum("Memory of a join of two tables, in bytes: there is no limit", join, measured, lent)
     print()

@@ -1,6 +1,6 @@
 /* The deepest stack of each call, in bytes, from the caller's frame on, over many inputs: tables that are empty, partly
  * filled, full, forked, clashing, out of form, and such that have retired a block; shelves that are empty, full and out of
- * form; blocks up to 16 references and 8 requests; every refusal.
+ * form; blocks up to the longest; every refusal.
  * It prints what it measures. An answer other than the expected one ends it with status 1. */
 #include <stdio.h>
 #include <string.h>
@@ -10,7 +10,7 @@
 #include "painted.h"
 #include "waiting.h"
 
-enum { SITES = 16, ROUND = SITES, REQUEST_BYTES = 3, LIST_BYTES = REQUEST_BYTES * GT_SLOTS };
+enum { SITES = 16, ROUND = SITES, LIST_BYTES = GT_MAX_REQUEST_LIST_BYTES };
 
 typedef struct {
     uint8_t bytes[GT_TABLE_BYTES];
@@ -110,12 +110,12 @@ static void prepare_forks(void)
 static void prepare_blocks(void)
 {
     const built_block *last = &busy.blocks[LAST_PLACE];
-    const size_t second = 5 + GT_DIGEST_BYTES;
+    const size_t second = GT_HEADER_BYTES + GT_DIGEST_BYTES;
 
     bad_site = bad_request = repeated = unknown = orphan = another = *last;
     bad_site.bytes[0] = SITES;
     memset(bad_request.bytes + bad_request.length - 2, 0, 2);
-    memcpy(repeated.bytes + second, repeated.bytes + 5, GT_DIGEST_BYTES);
+    memcpy(repeated.bytes + second, repeated.bytes + GT_HEADER_BYTES, GT_DIGEST_BYTES);
     memset(unknown.bytes + second, 0, GT_DIGEST_BYTES);
     orphan.bytes[2]++;
     another.bytes[another.length - 1]++;
@@ -470,8 +470,8 @@ static void measure_ancestors(void)
 static void measure_build(void)
 {
     enum { ALL = GT_MAX_BLOCK_BYTES };
-    const uint8_t *requests = busy.blocks[0].bytes + 5, *bad_requests = bad_request.bytes + ALL - LIST_BYTES;
-    /* A first block, one that refers to nothing new, one of 541 bytes, then the refusals. */
+    const uint8_t *requests = busy.blocks[0].bytes + GT_HEADER_BYTES, *bad_requests = bad_request.bytes + ALL - LIST_BYTES;
+    /* A first block, one that refers to nothing new, the longest one, then the refusals. */
     const input inputs[] = {
         {.table = &reached[0], .bytes = requests, .length = 0, .number = 0, .room = ALL},
         {.table = FULL, .bytes = requests, .length = 0, .number = SITES - 1, .room = ALL},

@@ -1,12 +1,16 @@
 """Streams of arrivals for the listing program: seeded, so that every run has the same bytes."""
 
-import hashlib
 import random
+import sys
+from pathlib import Path
 from typing import NamedTuple
+
+# The examples have blocks and arrivals as bytes.
+sys.path.append(str(Path(__file__).resolve().parents[1] / "examples"))
+from campaign import HEADER_BYTES, MAX_BLOCK_BYTES, MAX_REFERENCES, MAX_REQUESTS, REFERENCE_BYTES, arrival, block as encode, digest
 
 ARRIVALS = 10000
 PLACES = 64
-MAX_REFERENCES, MAX_REQUESTS, MAX_BLOCK = 16, 8, 541
 SITES = 7
 OWNERS = [slot % SITES for slot in range(8)]
 SETUP = bytes([SITES, *OWNERS])
@@ -21,11 +25,6 @@ class Held(NamedTuple):
 
 
 # ---- Blocks
-
-def encode(site, sequence, references, requests):
-    data = bytes([site]) + sequence.to_bytes(2, "big") + bytes([len(references), len(requests)])
-    return data + b"".join(references) + b"".join(bytes([slot]) + number.to_bytes(2, "big") for slot, number in requests)
-
 
 def some_requests(rng, site):
     """Mostly none or one of the site's own slot; now and then as many as fit."""
@@ -61,14 +60,10 @@ def anyones_block(rng, held):
 
 
 def hold(held, data):
-    held.append(Held(data, hashlib.sha256(data).digest(), data[0], int.from_bytes(data[1:3], "big")))
+    held.append(Held(data, digest(data), data[0], int.from_bytes(data[1:3], "big")))
 
 
 # ---- Arrivals
-
-def arrival(data, verdict=1):
-    return len(data).to_bytes(2, "big") + bytes([verdict]) + data
-
 
 def repeated(rng, held):
     """8: a block that came before."""
@@ -79,8 +74,8 @@ def unknown(rng, held):
     """9: a block that refers to one which never came."""
     data = bytearray(anyones_block(rng, held))
     if data[3] > 0:
-        at = 5 + 32 * rng.randrange(data[3])
-        data[at:at + 32] = rng.randbytes(32)
+        at = HEADER_BYTES + REFERENCE_BYTES * rng.randrange(data[3])
+        data[at:at + REFERENCE_BYTES] = rng.randbytes(REFERENCE_BYTES)
     return arrival(bytes(data))
 
 
@@ -97,7 +92,7 @@ def cut_off(rng, held):
 
 def over_long(rng, _held):
     """3: longer than a block can be."""
-    return arrival(rng.randbytes(rng.randint(MAX_BLOCK + 1, 2 * MAX_BLOCK)))
+    return arrival(rng.randbytes(rng.randint(MAX_BLOCK_BYTES + 1, 2 * MAX_BLOCK_BYTES)))
 
 
 def foreign(rng, held):

@@ -86,8 +86,8 @@ static bool call_ancestors(void)
 static bool call_build(void)
 {
     uint8_t output[GT_MAX_BLOCK_BYTES];
-    const uint8_t *requests = last.bytes + last.length - 3 * GT_SLOTS;
-    gt_answer answer = gt_build(full, GT_TABLE_BYTES, 0, requests, 3 * GT_SLOTS, output, sizeof output);
+    const uint8_t *requests = last.bytes + last.length - GT_MAX_REQUEST_LIST_BYTES;
+    gt_answer answer = gt_build(full, GT_TABLE_BYTES, 0, requests, GT_MAX_REQUEST_LIST_BYTES, output, sizeof output);
 
     return answer.refusal == 0 && answer.value == GT_MAX_BLOCK_BYTES;
 }
@@ -99,7 +99,7 @@ static const struct {
     const char *name;
     bool (*call)(void);
 } kinds[KINDS] = {
-    [DIGEST] = {"gt_digest, 541 bytes", call_digest},
+    [DIGEST] = {"gt_digest, longest block", call_digest},
     [IN_FORM] = {"gt_in_form, 64 places", call_in_form},
     [ADMIT] = {"gt_admit, at place 63", call_admit},
     [INTERPRET] = {"gt_interpret, of place 63", call_interpret},
@@ -107,7 +107,7 @@ static const struct {
     [TAKE_BACK] = {"gt_take_back, of place 63", call_take_back},
     [FORKS] = {"gt_forks, 64 places", call_forks},
     [ANCESTORS] = {"gt_ancestors, of place 63", call_ancestors},
-    [BUILD] = {"gt_build, 541 bytes", call_build},
+    [BUILD] = {"gt_build, longest block", call_build},
 };
 /* clang-format on */
 
@@ -139,8 +139,8 @@ int main(void)
     time_in_turn(KINDS, timings, call_often, NULL);
 
     puts("A full table: its form check, the admission that fills it, the interpretation of its last place, the retiring of its");
-    puts("first, the taking back of its last, the watch and a block of 541 bytes built from it, against the digest of a block of");
-    puts("541 bytes and against that admission.");
+    puts("first, the taking back of its last, the watch and a longest block built from it, against the digest of such a block and");
+    puts("against that admission.");
     puts("The table has 16 sites and 64 blocks: four rounds, each block with references to all 16 of the round before; the");
     puts("last block hears 16 sites in all eight slots.");
     printf("Measured in CPU time: medians of %d repetitions, each a batch of %d calls of each kind in turn, after a batch\n",

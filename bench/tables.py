@@ -38,8 +38,9 @@ def compared(runs, name, unit="us"):
 
 
 def digests(runs):
-    names = {"64": "64", "541": "541, the longest block", "4096": "4,096", "1048576": "1,048,576"}
-    return [[names[size], f"{float(ours):.1f}", f"{float(in_c):.1f}", ratio] for size, ours, in_c, ratio in runs[-1]]
+    def name(i, size):
+        return f"{int(size):,}{', the longest block' if i == 1 else ''}"
+    return [[name(i, size), f"{float(ours):.1f}", f"{float(in_c):.1f}", ratio] for i, (size, ours, in_c, ratio) in enumerate(runs[-1])]
 
 
 def campaigns(runs):

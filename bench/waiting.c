@@ -3,7 +3,11 @@
 
 #include "expect.h"
 
-enum { REFERENCES = 5, KEPT_REFERENCES = GT_MAX_REFERENCES - 1, REQUESTS = REFERENCES + GT_MAX_REFERENCES * GT_DIGEST_BYTES };
+enum {
+    REFERENCES = GT_HEADER_BYTES,
+    KEPT_REFERENCES = GT_MAX_REFERENCES - 1,
+    REQUESTS = REFERENCES + GT_MAX_REFERENCES * GT_DIGEST_BYTES
+};
 
 /* The block that follows: it refers to the one before first, as a site's next block does. The others that it refers to and
  * its requests are those of the chain's first block, whose own parent stands last. */
@@ -13,10 +17,11 @@ static built_block next_of(const built_block *before, const built_block *first)
     uint8_t digest[GT_DIGEST_BYTES];
 
     gt_digest(before->bytes, before->length, digest, sizeof digest);
-    append(&next, (uint8_t[]){before->bytes[0], 0, (uint8_t)(before->bytes[2] + 1), GT_MAX_REFERENCES, GT_MAX_REQUESTS}, 5);
+    append(&next, (uint8_t[]){before->bytes[0], 0, (uint8_t)(before->bytes[2] + 1), GT_MAX_REFERENCES, GT_MAX_REQUESTS},
+           GT_HEADER_BYTES);
     append(&next, digest, sizeof digest);
     append(&next, first->bytes + REFERENCES, KEPT_REFERENCES * GT_DIGEST_BYTES);
-    append(&next, first->bytes + REQUESTS, 3 * GT_MAX_REQUESTS);
+    append(&next, first->bytes + REQUESTS, GT_MAX_REQUEST_LIST_BYTES);
     return next;
 }
 
@@ -27,7 +32,7 @@ chain chain_of(const campaign *busy)
     c.blocks[0] = busy->blocks[LAST_PLACE];
     for (size_t i = 1; i < CHAIN_BLOCKS; i++) {
         c.blocks[i] = next_of(&c.blocks[i - 1], &c.blocks[0]);
-        expect(c.blocks[i].length == GT_MAX_BLOCK_BYTES, "a block of the chain is not of 541 bytes");
+        expect(c.blocks[i].length == GT_MAX_BLOCK_BYTES, "a block of the chain is not as long as a block can be");
     }
     return c;
 }

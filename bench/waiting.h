@@ -8,8 +8,8 @@
 /* So many blocks of the busy campaign are held before; with the chain the table is full. */
 enum { CHAIN_BLOCKS = 1 + GT_SHELF_MOST, HELD_BEFORE = GT_MAX_PLACES - CHAIN_BLOCKS };
 
-/* Blocks of 541 bytes of one site, of which each refers to the one before, and to blocks of 15 other sites that are held. The
- * first is the busy campaign's last block. */
+/* Blocks of the greatest length of one site, of which each refers to the one before, and to blocks of 15 other sites that are
+ * held. The first is the busy campaign's last block. */
 typedef struct {
     built_block blocks[CHAIN_BLOCKS];
 } chain;

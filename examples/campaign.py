@@ -19,6 +19,13 @@ blocks and unlawful setups can be made too.
 import hashlib
 
 
+# ---- A block's sizes and limits
+
+HEADER_BYTES, REFERENCE_BYTES, REQUEST_BYTES = 5, 32, 3
+MAX_REFERENCES, MAX_REQUESTS = 16, 5
+MAX_BLOCK_BYTES = HEADER_BYTES + REFERENCE_BYTES * MAX_REFERENCES + REQUEST_BYTES * MAX_REQUESTS
+
+
 # ---- Bytes
 
 def two_bytes(number):

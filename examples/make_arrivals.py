@@ -6,7 +6,7 @@ An arrival is the block's length in two bytes, high byte first, and then the blo
 
 from pathlib import Path
 
-from campaign import block, digest, dome_arrival as arrival
+from campaign import MAX_BLOCK_BYTES, block, digest, dome_arrival as arrival
 
 
 def arrivals():
@@ -29,7 +29,7 @@ def arrivals():
     yield arrival(block(0, 4, references=[digest(fourth), digest(third), digest(fourth)]))
 
     # Refusal 3: one byte longer than the longest block. Its bytes are skipped, and the next arrival is read.
-    yield arrival(bytes(542))
+    yield arrival(bytes(MAX_BLOCK_BYTES + 1))
     yield arrival(block(0, 4, references=[digest(fourth)], requests=[(3, 65535)]))
 
     # Refusal 3: the input ends after the first six of its 37 bytes.

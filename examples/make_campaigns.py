@@ -6,7 +6,7 @@ NAME.listing has what the listing says of it. To make a campaign of your own, wr
 
 from pathlib import Path
 
-from campaign import Campaign, Draft, block, digest
+from campaign import MAX_BLOCK_BYTES, Campaign, Draft, block, digest
 
 
 def chain():
@@ -69,7 +69,7 @@ def refusals():
     # 3: under five bytes; a byte less than the counts give; a byte more than the longest block.
     night.arrives(bytes(4))
     night.arrives(bytes(first)[:-1])
-    night.arrives(bytes(542))
+    night.arrives(bytes(MAX_BLOCK_BYTES + 1))
     # 4: there is no site 4.
     night.arrives(block(4, 0))
     # 5: the link says that the signature isn't good.

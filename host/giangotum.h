@@ -22,14 +22,18 @@ extern "C" {
 
 /* The version. A program that was written for a lower second number goes on working, but for what CHANGELOG.md says. */
 #define GT_VERSION_MAJOR 1
-#define GT_VERSION_MINOR 9
+#define GT_VERSION_MINOR 10
 
 /* Bytes of a digest, and so of a reference. */
 #define GT_DIGEST_BYTES 32
-/* The most references, requests and bytes that a block has. */
+/* Bytes of a request, and of what stands before a block's two lists. */
+#define GT_REQUEST_BYTES 3
+#define GT_HEADER_BYTES 5
+/* The most references and requests that a block has, and the bytes of the longest request list and of the longest block. */
 #define GT_MAX_REFERENCES 16
-#define GT_MAX_REQUESTS 8
-#define GT_MAX_BLOCK_BYTES 541
+#define GT_MAX_REQUESTS 5
+#define GT_MAX_REQUEST_LIST_BYTES (GT_REQUEST_BYTES * GT_MAX_REQUESTS)
+#define GT_MAX_BLOCK_BYTES (GT_HEADER_BYTES + GT_DIGEST_BYTES * GT_MAX_REFERENCES + GT_MAX_REQUEST_LIST_BYTES)
 
 /* What a call answers. `refusal` is 0 on success. */
 typedef struct {

@@ -54,8 +54,10 @@ extern "C" {
 #define GT_SHELF_PLACES 16
 #define GT_SHELF_RESERVED 2
 #define GT_SHELF_MOST 10
-/* Bytes of a shelf. The empty one is all zero. */
-#define GT_SHELF_BYTES 8705
+/* Bytes of an entry of a shelf, which has a campaign, a length and room for the longest block, and of a shelf, which has a
+ * count and an entry for each place. The empty one is all zero. */
+#define GT_SHELF_ENTRY_BYTES (1 + 2 + GT_MAX_BLOCK_BYTES)
+#define GT_SHELF_BYTES (1 + GT_SHELF_PLACES * GT_SHELF_ENTRY_BYTES)
 /* The numbers that gt_arrive needs for outcomes: two for each block that may wait for a campaign. */
 #define GT_OUTCOMES_NUMBERS 20
 
@@ -150,7 +152,7 @@ gt_ancestor_places gt_ancestors(const uint8_t *table, size_t table_length, size_
  * all. The requests, 3 bytes each, are copied as given. Bytes after the block stay, and the table is only read.
  *   2: the table is not in form;
  *   4: the site is not below n;
- *   3: the request list is over 24 bytes or no multiple of 3;
+ *   3: the request list is over GT_MAX_REQUEST_LIST_BYTES or no multiple of 3;
  *   6, value the index of the first such request: a slot over 7, or number 0;
  *   16: two held blocks of the site share a sequence number;
  *   30: the site's greatest sequence number is 65,535, and no number follows;

@@ -1,8 +1,6 @@
 /* Reading a block. */
 #include "inner.h"
 
-enum { HEAD_BYTES = 5, REQUEST_BYTES = 3 };
-
 bool baseline_read(const uint8_t *bytes, size_t length, baseline_block *block)
 {
     if (length < HEAD_BYTES || bytes[3] > MAX_REFERENCES || bytes[4] > MAX_REQUESTS)

@@ -32,12 +32,18 @@ typedef struct {
 /* A block with these counts: reference i is 32 bytes of i + 1, request i is number 256 + i for slot i. */
 static block block_of(uint8_t site, uint16_t sequence, uint8_t references, uint8_t requests)
 {
-    block b = {.bytes = {site, (uint8_t)(sequence >> 8), (uint8_t)sequence, references, requests}, .length = 5};
+    block b = {.bytes = {site, (uint8_t)(sequence >> 8), (uint8_t)sequence, references, requests}, .length = GT_HEADER_BYTES};
 
     for (uint8_t i = 0; i < references; i++, b.length += GT_DIGEST_BYTES)
         memset(b.bytes + b.length, i + 1, GT_DIGEST_BYTES);
-    for (uint8_t i = 0; i < requests; i++, b.length += 3)
-        memcpy(b.bytes + b.length, (uint8_t[]){i, 1, i}, 3);
+    for (uint8_t i = 0; i < requests; i++, b.length += GT_REQUEST_BYTES)
+        memcpy(b.bytes + b.length, (uint8_t[]){i, 1, i}, GT_REQUEST_BYTES);
+    return b;
+}
+
+static block with_byte_more(block b)
+{
+    b.length++;
     return b;
 }
 
@@ -148,16 +154,19 @@ static void check_digest(void)
 
 static void check_reading(void)
 {
+    const uint8_t references = GT_MAX_REFERENCES, requests = GT_MAX_REQUESTS;
+    block longest = block_of(1, 2, references, requests);
+
     check("reading no bytes at NULL", refused_with_zeros(gt_read_block(NULL, 0), 3, 0));
     check("reading 4 bytes", refused_with_zeros(read_block((block){.bytes = {1, 0, 2}, .length = 4}), 3, 0));
     check("reading 5 bytes", reads_as(block_of(255, 65535, 0, 0), 255, 65535, 0, 0));
     check("reading a sequence number, high byte first", reads_as(block_of(1, 0x0203, 0, 0), 1, 0x0203, 0, 0));
-    check("reading 541 bytes", block_of(1, 2, 16, 8).length == GT_MAX_BLOCK_BYTES && reads_as(block_of(1, 2, 16, 8), 1, 2, 16, 8));
-    block longer = block_of(1, 2, 16, 8);
-    longer.length++;
-    check("reading 542 bytes", refused_with_zeros(read_block(longer), 3, 0));
-    check("reading 17 references", refused_with_zeros(read_block(block_of(1, 2, 17, 0)), 3, 0));
-    check("reading 9 requests", refused_with_zeros(read_block(block_of(1, 2, 0, 9)), 3, 0));
+    check("reading the longest block", longest.length == GT_MAX_BLOCK_BYTES && reads_as(longest, 1, 2, references, requests));
+    check("reading a byte more", refused_with_zeros(read_block(with_byte_more(longest)), 3, 0));
+    check("reading a reference too many", refused_with_zeros(read_block(block_of(1, 2, references + 1, 0)), 3, 0));
+    check("reading a request too many", refused_with_zeros(read_block(block_of(1, 2, 0, requests + 1)), 3, 0));
+    check("reading the most references and a request of each slot",
+          refused_with_zeros(read_block(block_of(1, 2, references, 8)), 3, 0));
     check("reading a cut block", refused_with_zeros(read_block(cut_block()), 3, 0));
     check("reading a bad request", refused_with_zeros(read_block(block_with_bad_request()), 6, 1));
     check("reading a repeated reference", refused_with_zeros(read_block(block_with_repeated_reference()), 7, 2));

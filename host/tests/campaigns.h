@@ -22,7 +22,7 @@ typedef struct {
 
 static inline block block_of(uint8_t site, uint16_t sequence)
 {
-    return (block){.bytes = {site, (uint8_t)(sequence >> 8), (uint8_t)sequence}, .length = 5};
+    return (block){.bytes = {site, (uint8_t)(sequence >> 8), (uint8_t)sequence}, .length = GT_HEADER_BYTES};
 }
 
 /* The block with a reference more; its references come before its requests. */
@@ -36,8 +36,8 @@ static inline block with_reference(block b, digest d)
 
 static inline block with_request(block b, uint8_t slot, uint16_t number)
 {
-    memcpy(b.bytes + b.length, (uint8_t[]){slot, (uint8_t)(number >> 8), (uint8_t)number}, 3);
-    b.length += 3;
+    memcpy(b.bytes + b.length, (uint8_t[]){slot, (uint8_t)(number >> 8), (uint8_t)number}, GT_REQUEST_BYTES);
+    b.length += GT_REQUEST_BYTES;
     b.bytes[4]++;
     return b;
 }

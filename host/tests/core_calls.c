@@ -158,6 +158,8 @@ static void check_form(void)
     check("form, interpreted before what it refers to", !in_form(t));
     row(&t, 0)[MARK] = 1;
     check("form, both interpreted", in_form(t));
+    memset(row(&t, 1) + REQUESTS, 255, 2 * GT_SLOTS);
+    check("form, a request of each slot", in_form(t));
     check("form, 16 references", in_form(referring_to_places(0x1fffe)));
     check("form, 17 references", !in_form(referring_to_places(0x1ffff)));
     t = with_two_blocks();
@@ -197,7 +199,7 @@ static bool refused_under(uint8_t verdict, block b, uint8_t refusal)
     return refused_of_length(with_two_blocks(), GT_TABLE_BYTES, b, verdict, refusal, 0);
 }
 
-/* Sixteen blocks of sequence number 0, and one of 541 bytes that refers to all of them, last place first. */
+/* Sixteen blocks of sequence number 0, and a longest one, which refers to all of them, last place first. */
 static bool longest_admitted(void)
 {
     table t = empty_table(16), wanted = t;
@@ -209,11 +211,11 @@ static bool longest_admitted(void)
             return false;
         longest = referring_to(longest, block_of((uint8_t)(15 - site), 0));
     }
-    for (uint8_t slot = 0; slot < GT_SLOTS; slot++)
-        longest = with_request(longest, (uint8_t)(7 - slot), (uint16_t)(0x0100 + slot));
+    for (uint8_t i = 0; i < GT_MAX_REQUESTS; i++)
+        longest = with_request(longest, (uint8_t)(7 - i), (uint16_t)(0x0100 + i));
     put_row(&wanted, longest, 0xffff);
-    for (uint8_t slot = 0; slot < GT_SLOTS; slot++)
-        put_request(&wanted, 16, slot, 1, (uint8_t)(7 - slot));
+    for (uint8_t i = 0; i < GT_MAX_REQUESTS; i++)
+        put_request(&wanted, 16, (uint8_t)(7 - i), 1, i);
     return longest.length == GT_MAX_BLOCK_BYTES && admitted(t, longest, 16, wanted);
 }
 
@@ -241,7 +243,7 @@ static void check_admitted(void)
     check("admission, 5 bytes at place 0", admitted(empty_table(4), first_block(), 0, with_one_block()));
     check("admission, a reference, and a slot requested twice", admitted(with_one_block(), second_block(), 1, with_two_blocks()));
     check("admission, a block with its parent", successor_admitted());
-    check("admission, 541 bytes", longest_admitted());
+    check("admission, the longest block", longest_admitted());
     check("admission, marks stay", marks_stay());
 }
 
@@ -279,9 +281,11 @@ static void check_block_refused(void)
     check("admission, 4 bytes", refused(t, of_length(b, 4), 3, 0));
     check("admission, 6 bytes", refused(t, of_length(b, 6), 3, 0));
     check("admission, a cut block", refused(t, of_length(second_block(), second_block().length - 1), 3, 0));
-    check("admission, 17 references", refused(t, block_with(17, 0), 3, 0));
-    check("admission, 9 requests", refused(t, block_with(0, 9), 3, 0));
-    check("admission, 542 bytes", refused(t, of_length(block_with(16, 8), 542), 3, 0));
+    check("admission, a reference too many", refused(t, block_with(GT_MAX_REFERENCES + 1, 0), 3, 0));
+    check("admission, a request too many", refused(t, block_with(0, GT_MAX_REQUESTS + 1), 3, 0));
+    check("admission, the most references and a request of each slot", refused(t, block_with(GT_MAX_REFERENCES, GT_SLOTS), 3, 0));
+    check("admission, a byte more than the longest block",
+          refused(t, of_length(block_with(GT_MAX_REFERENCES, GT_MAX_REQUESTS), GT_MAX_BLOCK_BYTES + 1), 3, 0));
 
     check("admission, a site that is n", refused(t, block_of(4, 0), 4, 0));
     check("admission, site 255", refused(t, block_of(255, 0), 4, 0));

@@ -1,9 +1,7 @@
 """Seeded blocks, lawful and damaged. Every function takes its generator, so that a run can be repeated."""
 
-from campaign import block, dome_arrival as arrival
-
-HEADER, REFERENCE, REQUEST = 5, 32, 3
-MAX_REFERENCES, MAX_REQUESTS, MAX_BLOCK = 16, 8, 541
+from campaign import (HEADER_BYTES, MAX_BLOCK_BYTES, MAX_REFERENCES, MAX_REQUESTS, REFERENCE_BYTES, REQUEST_BYTES, block,
+                      dome_arrival as arrival)
 
 
 # ---- Lawful blocks
@@ -24,7 +22,7 @@ def different_references(rng, count):
     references = []
     while len(references) < count:
         near = references and rng.random() < 0.4
-        reference = flipped(rng, rng.choice(references)) if near else rng.randbytes(REFERENCE)
+        reference = flipped(rng, rng.choice(references)) if near else rng.randbytes(REFERENCE_BYTES)
         if reference not in references:
             references.append(reference)
     return references
@@ -45,7 +43,7 @@ def with_bytes(data, at, new):
 
 
 def request_at(data, index):
-    return HEADER + REFERENCE * data[3] + REQUEST * index
+    return HEADER_BYTES + REFERENCE_BYTES * data[3] + REQUEST_BYTES * index
 
 
 def flip_bit(rng, data):
@@ -53,9 +51,10 @@ def flip_bit(rng, data):
 
 
 def change_count(rng, data):
-    if len(data) < HEADER:
+    if len(data) < HEADER_BYTES:
         return data
-    return with_bytes(data, rng.choice([3, 4]), bytes([rng.choice([0, 1, 8, 9, 16, 17, 255, rng.randrange(256)])]))
+    near = [MAX_REQUESTS, MAX_REQUESTS + 1, MAX_REFERENCES, MAX_REFERENCES + 1]
+    return with_bytes(data, rng.choice([3, 4]), bytes([rng.choice([0, 1, *near, 255, rng.randrange(256)])]))
 
 
 def cut(rng, data):
@@ -63,19 +62,19 @@ def cut(rng, data):
 
 
 def extend(rng, data):
-    return (data + rng.randbytes(rng.randint(1, 40)))[:MAX_BLOCK]
+    return (data + rng.randbytes(rng.randint(1, 40)))[:MAX_BLOCK_BYTES]
 
 
 def repeat_reference(rng, data):
-    if len(data) < HEADER or not 2 <= data[3] <= MAX_REFERENCES:
+    if len(data) < HEADER_BYTES or not 2 <= data[3] <= MAX_REFERENCES:
         return data
     earlier, later = sorted(rng.sample(range(data[3]), 2))
-    start = HEADER + REFERENCE * earlier
-    return with_bytes(data, HEADER + REFERENCE * later, data[start:start + REFERENCE])[:len(data)]
+    start = HEADER_BYTES + REFERENCE_BYTES * earlier
+    return with_bytes(data, HEADER_BYTES + REFERENCE_BYTES * later, data[start:start + REFERENCE_BYTES])[:len(data)]
 
 
 def change_request(rng, data, offset, new):
-    if len(data) < HEADER or not 1 <= data[4] <= MAX_REQUESTS:
+    if len(data) < HEADER_BYTES or not 1 <= data[4] <= MAX_REQUESTS:
         return data
     return with_bytes(data, request_at(data, rng.randrange(data[4])) + offset, new)[:len(data)]
 
@@ -109,7 +108,8 @@ def stream_of(blocks):
 
 def over_long(rng, length=None):
     """An arrival that is longer than a block may be."""
-    length = length or rng.choice([542, 543, 600, 1082, 65535, rng.randint(542, 65535)])
+    shortest = MAX_BLOCK_BYTES + 1
+    length = length or rng.choice([shortest, shortest + 1, 2 * shortest, 65535, rng.randint(shortest, 65535)])
     return length.to_bytes(2, "big") + rng.randbytes(length)
 
 

@@ -2,7 +2,7 @@
 
 from typing import NamedTuple
 
-from campaign import Campaign, Draft, arrival, block, digest, setup
+from campaign import MAX_BLOCK_BYTES, MAX_REFERENCES, MAX_REQUESTS, Campaign, Draft, arrival, block, digest, setup
 
 NAMES = "arrival place site seq slot number refusal"
 OWNERS = [0, 1, 2, 3, 0, 1, 2, 3]
@@ -57,14 +57,26 @@ SETUPS = [
 # ---- 3: bytes that are no block, and lengths that no block has
 
 def longest():
-    """A chain of 16 blocks, and a block of 541 bytes that refers to them all, twice."""
+    """A chain of 16 blocks, and a longest block, which refers to them all, twice."""
     night = one_site()
-    parts = [night.site(0) for _ in range(16)]
+    parts = [night.site(0) for _ in range(MAX_REFERENCES)]
     last = night.site(0).refers_to(*parts)
-    for slot in range(8):
+    for slot in range(MAX_REQUESTS):
         last.requests(65535, slot=slot)
     night.arrives(last)
     return night.stream()
+
+
+def cut_to_over_long():
+    """A block of 16 references and a request of each slot, cut to every length that no block has; then a first block, twice."""
+    whole = block(0, 0, [digest(bytes([i])) for i in range(MAX_REFERENCES)], [(slot, 7) for slot in range(8)])
+    cut = [whole[:length] for length in range(MAX_BLOCK_BYTES + 1, len(whole) + 1)]
+    lines = [f"{number} - - - - - 3" for number in range(len(cut))]
+    return Case("a request of each slot, and a good block", FOUR_SITES + b"".join(map(arrival, cut)) + arrival(FIRST) * 2,
+                [*lines, f"{len(cut) + 1} - - - - - 8"])
+
+
+OVER_LONG = bytes(MAX_BLOCK_BYTES + 1)
 
 
 def arrivals_inside(length):
@@ -81,20 +93,22 @@ SHAPES = [
     Case("a byte too many", FOUR_SITES + arrival(bytes(6)), ["0 - - - - - 3"]),
     Case("a byte too few", FOUR_SITES + arrival(block(0, 0, [UNKNOWN], [(0, 7)])[:-1]), ["0 - - - - - 3"]),
     Case("p 1 and no reference", FOUR_SITES + arrival(bytes([0, 0, 0, 1, 0])), ["0 - - - - - 3"]),
-    Case("p 17 in 541 bytes", FOUR_SITES + arrival(bytes([0, 0, 0, 17, 0]) + bytes(536)), ["0 - - - - - 3"]),
-    Case("nine requests", FOUR_SITES + arrival(block(0, 0, requests=[(0, 7)] * 9)), ["0 - - - - - 3"]),
+    Case("p 17 in the most bytes", FOUR_SITES + arrival(bytes([0, 0, 0, 17, 0]).ljust(MAX_BLOCK_BYTES, b"\0")), ["0 - - - - - 3"]),
+    Case("a request too many", FOUR_SITES + arrival(block(0, 0, requests=[(0, 7)] * (MAX_REQUESTS + 1))), ["0 - - - - - 3"]),
     Case("p and r 255", FOUR_SITES + arrival(bytes([0, 0, 0, 255, 255])), ["0 - - - - - 3"]),
-    Case("541 bytes that are no block", FOUR_SITES + arrival(bytes(541)) + arrival(FIRST) * 2,
+    Case("the most bytes, and no block", FOUR_SITES + arrival(bytes(MAX_BLOCK_BYTES)) + arrival(FIRST) * 2,
          ["0 - - - - - 3", "2 - - - - - 8"]),
-    Case("541 bytes that are a block", longest(), ["17 - - - - - 8"]),
-    Case("542 bytes", FOUR_SITES + arrival(bytes(542)), ["0 - - - - - 3"]),
-    Case("542 bytes, and a good block", FOUR_SITES + arrival(bytes(542)) + arrival(FIRST) * 2,
+    Case("the longest block", longest(), ["17 - - - - - 8"]),
+    cut_to_over_long(),
+    Case("a byte more than the most", FOUR_SITES + arrival(OVER_LONG), ["0 - - - - - 3"]),
+    Case("a byte more than the most, and a good block", FOUR_SITES + arrival(OVER_LONG) + arrival(FIRST) * 2,
          ["0 - - - - - 3", "2 - - - - - 8"]),
-    Case("542 bytes with verdict 0", FOUR_SITES + arrival(bytes(542), verdict=0) + arrival(FIRST) * 2,
+    Case("a byte more than the most with verdict 0", FOUR_SITES + arrival(OVER_LONG, verdict=0) + arrival(FIRST) * 2,
          ["0 - - - - - 3", "2 - - - - - 8"]),
     Case("65,535 bytes, and a good block", FOUR_SITES + arrival(bytes(65535)) + arrival(FIRST) * 2,
          ["0 - - - - - 3", "2 - - - - - 8"]),
-    Case("542 bytes with good arrivals inside", FOUR_SITES + arrival(arrivals_inside(542)) + arrival(FIRST), ["0 - - - - - 3"]),
+    Case("a byte more than the most with good arrivals inside",
+         FOUR_SITES + arrival(arrivals_inside(len(OVER_LONG))) + arrival(FIRST), ["0 - - - - - 3"]),
     Case("65,535 bytes with good arrivals inside", FOUR_SITES + arrival(arrivals_inside(65535)) + arrival(FIRST),
          ["0 - - - - - 3"]),
 ]
@@ -119,8 +133,8 @@ REFUSALS = [
     Case("verdict 0, then 1, then 1", FOUR_SITES + arrival(FIRST, verdict=0) + arrival(FIRST) * 2,
          ["0 - - - - - 5", "2 - - - - - 8"]),
     Case("6: slot 8", FOUR_SITES + arrival(block(0, 0, requests=[(8, 42)])), ["0 - - - - - 6"]),
-    Case("6: slot 255 in the last request", FOUR_SITES + arrival(block(0, 0, requests=[(0, 42)] * 7 + [(255, 42)])),
-         ["0 - - - - - 6"]),
+    Case("6: slot 255 in the last request",
+         FOUR_SITES + arrival(block(0, 0, requests=[(0, 42)] * (MAX_REQUESTS - 1) + [(255, 42)])), ["0 - - - - - 6"]),
     Case("6: number 0", FOUR_SITES + arrival(block(0, 0, requests=[(0, 0)])), ["0 - - - - - 6"]),
     Case("slot 7, number 65,535", FOUR_SITES + arrival(block(0, 0, requests=[(7, 65535)])), []),
     Case("7: two equal references", FOUR_SITES + arrival(FIRST) + arrival(block(1, 0, [digest(FIRST)] * 2)), ["1 - - - - - 7"]),
@@ -205,7 +219,7 @@ FULL_TABLE = [
 CUTS = [
     Case("at an arrival's end", FOUR_SITES + arrival(FIRST), []),
     Case("one byte of length", FOUR_SITES + b"\0", ["0 - - - - - 3"]),
-    Case("one byte of a length over 541", FOUR_SITES + b"\xff", ["0 - - - - - 3"]),
+    Case("one byte of a length that no block has", FOUR_SITES + b"\xff", ["0 - - - - - 3"]),
     Case("before the verdict", FOUR_SITES + arrival(FIRST)[:2], ["0 - - - - - 3"]),
     Case("before the verdict of no bytes", FOUR_SITES + arrival(b"")[:2], ["0 - - - - - 3"]),
     Case("before the block", FOUR_SITES + arrival(FIRST)[:3], ["0 - - - - - 3"]),
@@ -217,11 +231,11 @@ CUTS = [
     Case("and site 4", FOUR_SITES + arrival(block(4, 0))[:-1], ["0 - - - - - 3"]),
     Case("and verdict 0", FOUR_SITES + arrival(FIRST, verdict=0)[:-1], ["0 - - - - - 3"]),
     Case("and a full table", FULL + arrival(block(1, 0))[:-1], ["64 - - - - - 3"]),
-    Case("542 bytes, before the verdict", FOUR_SITES + arrival(bytes(542))[:2], ["0 - - - - - 3"]),
-    Case("542 bytes, after the verdict", FOUR_SITES + arrival(bytes(542))[:3], ["0 - - - - - 3"]),
-    Case("542 bytes, in the skipped bytes", FOUR_SITES + arrival(bytes(542))[:300], ["0 - - - - - 3"]),
-    Case("542 bytes, before the last skipped byte", FOUR_SITES + arrival(bytes(542))[:-1], ["0 - - - - - 3"]),
-    Case("542 bytes, one byte after them", FOUR_SITES + arrival(bytes(542)) + b"\0", ["0 - - - - - 3", "1 - - - - - 3"]),
+    Case("a byte more than the most, before the verdict", FOUR_SITES + arrival(OVER_LONG)[:2], ["0 - - - - - 3"]),
+    Case("a byte more than the most, after the verdict", FOUR_SITES + arrival(OVER_LONG)[:3], ["0 - - - - - 3"]),
+    Case("a byte more than the most, in the skipped bytes", FOUR_SITES + arrival(OVER_LONG)[:300], ["0 - - - - - 3"]),
+    Case("a byte more than the most, before the last skipped byte", FOUR_SITES + arrival(OVER_LONG)[:-1], ["0 - - - - - 3"]),
+    Case("a byte more than the most, one byte after them", FOUR_SITES + arrival(OVER_LONG) + b"\0", ["0 - - - - - 3", "1 - - - - - 3"]),
     Case("65,535 bytes, nothing after the length", FOUR_SITES + b"\xff\xff", ["0 - - - - - 3"]),
     Case("65,535 bytes, before the last skipped byte", FOUR_SITES + arrival(bytes(65535))[:-1], ["0 - - - - - 3"]),
 ]
@@ -273,18 +287,19 @@ def several_slots_in_one_block_the_lower_first(night):
 
 
 @lists(one_site(),
-       "3 3 0 3 0 10000 0",
-       "3 3 0 3 1 10001 0",
-       "3 3 0 3 2 10002 0",
        "3 3 0 3 3 10003 0",
        "3 3 0 3 4 10004 0",
        "3 3 0 3 5 10005 0",
        "3 3 0 3 6 10006 0",
-       "3 3 0 3 7 10007 0")
-def all_slots_in_one_block(night):
-    first = night.site(0)
-    for slot in reversed(range(8)):
-        first.requests(10000 + slot, slot=slot)
+       "3 3 0 3 7 10007 0",
+       "4 4 0 4 0 10000 0",
+       "4 4 0 4 1 10001 0",
+       "4 4 0 4 2 10002 0")
+def all_slots_in_two_blocks(night):
+    for slots in [(7, 6, 5, 4, 3), (2, 1, 0)]:
+        asking = night.site(0)
+        for slot in slots:
+            asking.requests(10000 + slot, slot=slot)
     more_blocks(night, 3)
 
 

@@ -5,14 +5,13 @@ As a program it does what dome does: arrivals on standard input, lines on standa
 
 import hashlib
 import sys
+from pathlib import Path
 from typing import NamedTuple, Optional, Union
 
-HEADER_BYTES = 5
-REFERENCE_BYTES = 32
-REQUEST_BYTES = 3
-MAX_REFERENCES = 16
-MAX_REQUESTS = 8
-MAX_BLOCK_BYTES = 541
+# The examples have a block's sizes and limits.
+sys.path.append(str(Path(__file__).resolve().parents[2] / "examples"))
+from campaign import HEADER_BYTES, MAX_BLOCK_BYTES, MAX_REFERENCES, MAX_REQUESTS, REFERENCE_BYTES, REQUEST_BYTES
+
 SLOTS = 8
 
 

@@ -14,7 +14,7 @@ enum { UNTOUCHED = 99, ANOTHER = 99 };
 /* ---- Shelves */
 
 /* Where the entries of a shelf begin, and the fields of an entry. */
-enum { ENTRIES = 1, CAMPAIGN = 0, LENGTH = 1, BLOCK = 3, ENTRY_BYTES = 544 };
+enum { ENTRIES = 1, CAMPAIGN = 0, LENGTH = 1, BLOCK = 3, ENTRY_BYTES = GT_SHELF_ENTRY_BYTES };
 
 typedef struct {
     uint8_t bytes[GT_SHELF_BYTES + 1]; /* room for a buffer that is too long */
@@ -39,7 +39,7 @@ static shelf with_waiting(shelf s, uint8_t campaign, block b)
 /* A block that refers to one that nobody has. Another number makes another block. */
 static block lost_block(uint16_t number) { return with_request(with_reference(block_of(0, 0), not_held(1)), 0, number); }
 
-/* One of 541 bytes: its entry has no byte behind it. */
+/* A longest one: its entry has no byte behind it. */
 static block longest_lost_block(uint16_t number)
 {
     block b = block_of(0, 0);
@@ -230,8 +230,8 @@ static void check_shelf_and_table(void)
     state bad_table = state_of(filled_with(0), holding(1, 0, 0, 0));
 
     check("arrival, a shelf of 0 bytes", shelf_of_length_refused(0));
-    check("arrival, a shelf of 8704 bytes", shelf_of_length_refused(GT_SHELF_BYTES - 1));
-    check("arrival, a shelf of 8706 bytes", shelf_of_length_refused(GT_SHELF_BYTES + 1));
+    check("arrival, a shelf of a byte too few", shelf_of_length_refused(GT_SHELF_BYTES - 1));
+    check("arrival, a shelf of a byte too many", shelf_of_length_refused(GT_SHELF_BYTES + 1));
     check("arrival, a shelf not in form", refused(bad_shelf, 0, first_block(), 2));
     check("arrival, a shelf not in form and a block that would wait", refused(bad_shelf, 0, lost_block(2), 2));
     check("arrival, a shelf of ones", refused(state_of(empty_table(4), of_byte(255)), 0, first_block(), 2));
@@ -301,7 +301,7 @@ static void check_waits(void)
     check("waiting, behind those of all campaigns", waits(state_of(s.table, holding(3, 2, 1, 2)), 2, third, 1));
     check("waiting, a sequence number without its parent", waits(s, 0, orphan, 0));
     check("waiting, for a full table", waits(full, 0, lost_block(1), 0));
-    check("waiting, 541 bytes, until the shelf is full", sixteen_longest_wait());
+    check("waiting, longest blocks, until the shelf is full", sixteen_longest_wait());
     /* The first block is held, so that one that waits could be let in; but nothing is admitted that lets it in. */
     s.shelf = with_waiting(empty_shelf, 0, child_of(1));
     check("waiting, beside one that could be let in", waits(s, 0, lost_block(1), 0));
@@ -657,23 +657,25 @@ static void check_blocks_in_form(void)
     block b = lost_block(1), first = first_block();
     block repeated = with_reference(with_reference(first, not_held(1)), not_held(1));
     shelf again = with_waiting(of_block(b), 0, lost_block(2));
+    const uint16_t longest = GT_MAX_BLOCK_BYTES;
 
     check("shelf, a block without references", in_form(of_block(first)));
     check("shelf, site 255", in_form(of_block(block_of(255, 65535))));
-    check("shelf, a block of 541 bytes", in_form(of_block(longest_lost_block(1))));
+    check("shelf, a longest block", in_form(of_block(longest_lost_block(1))));
     check("shelf, a cut block", !in_form(of_block(of_length(b, b.length - 1))));
     check("shelf, a block with a byte more", !in_form(of_block(of_length(b, b.length + 1))));
     check("shelf, a block of 4 bytes", !in_form(of_block(of_length(first, 4))));
     check("shelf, a block of 0 bytes", !in_form(of_block(of_length(first, 0))));
+    check("shelf, a request too many", !in_form(of_block(with_request(longest_lost_block(1), GT_MAX_REQUESTS, 1))));
     check("shelf, slot 8", !in_form(of_block(with_request(first, 8, 1))));
     check("shelf, number 0", !in_form(of_block(with_request(first, 7, 0))));
     check("shelf, a reference twice", !in_form(of_block(repeated)));
-    check("shelf, a length of 542", !in_form(with_length(0, 542)) && !in_form(with_length(15, 542)));
+    check("shelf, a length of a byte more", !in_form(with_length(0, longest + 1)) && !in_form(with_length(15, longest + 1)));
     check("shelf, a length of 65535", !in_form(with_length(0, 65535)) && !in_form(with_length(15, 65535)));
-    check("shelf, a length of 541 in all places", in_form(with_length(15, 541)));
+    check("shelf, longest blocks in all places", in_form(with_length(15, longest)));
     check("shelf, the same bytes twice for a campaign", !in_form(with_waiting(again, 0, b)));
     check("shelf, the same bytes for two campaigns", in_form(with_waiting(again, 3, b)));
-    check("shelf, 541 bytes twice for a campaign",
+    check("shelf, a longest block twice for a campaign",
           !in_form(with_waiting(of_block(longest_lost_block(1)), 0, longest_lost_block(1))));
 }
 
@@ -686,8 +688,8 @@ static void check_form(void)
     check("shelf, all ones", !in_form(of_byte(255)));
     check("shelf, 0 bytes at NULL", !gt_shelf_in_form(NULL, 0));
     check("shelf, 0 bytes", !in_form_of_length(empty_shelf, 0));
-    check("shelf, 8704 bytes", !in_form_of_length(empty_shelf, GT_SHELF_BYTES - 1));
-    check("shelf, 8706 bytes", !in_form_of_length(empty_shelf, GT_SHELF_BYTES + 1));
+    check("shelf, a byte too few", !in_form_of_length(empty_shelf, GT_SHELF_BYTES - 1));
+    check("shelf, a byte too many", !in_form_of_length(empty_shelf, GT_SHELF_BYTES + 1));
     check("shelf, count 17", !in_form(with_count(full, 17)));
     check("shelf, count 255", !in_form(with_count(full, 255)));
     check("shelf, count 3 of two that wait", !in_form(with_count(holding(1, 1, 0, 0), 3)));

@@ -108,16 +108,25 @@ static table sixteen_blocks(void)
     return having_retired(whole(t), 1);
 }
 
-/* It refers to all of them, and has a request of each slot: 541 bytes. No field of its row but the mark is zero. */
+/* It refers to all of them, and has as many requests as a block can have, of the last slots. */
 static block longest_block(void)
 {
     block b = block_of(15, 511);
 
     for (uint8_t site = 0; site < 16; site++)
         b = referring_to(b, block_of(site, 0));
-    for (uint8_t slot = 0; slot < GT_SLOTS; slot++)
+    for (uint8_t slot = GT_SLOTS - GT_MAX_REQUESTS; slot < GT_SLOTS; slot++)
         b = with_request(b, slot, 65535);
     return b;
+}
+
+/* A row of the longest block whose request of each slot is 65,535: none of its fields is zero but the mark. A table in form may
+ * have it, though no block has as many requests. */
+static table with_each_request(table t)
+{
+    put_row(&t, longest_block(), 0xffff);
+    memset(row(&t, 16) + REQUESTS, 255, 2 * GT_SLOTS);
+    return t;
 }
 
 /* The mark that something was retired stays. */
@@ -155,7 +164,8 @@ static void check_undone(void)
     for (size_t i = 0; i < sizeof lawful; i++)
         check_with("undone, a first block, n", lawful[i], undone(empty_table(lawful[i]), block_of(0, 0)));
     check("undone, the 64th block", undone(chain(1, 63), chain_block(63)));
-    check("undone, a block of 541 bytes", longest_block().length == 541 && undone(sixteen_blocks(), longest_block()));
+    check("undone, a longest block", longest_block().length == GT_MAX_BLOCK_BYTES && undone(sixteen_blocks(), longest_block()));
+    check("undone, a row with a request of each slot", taken_back(with_each_request(sixteen_blocks()), sixteen_blocks()));
     check("undone, after a retiring", undone_after_a_retiring());
     check("undone, from 64 blocks down to none", down_to_empty());
     check("undone, above interpreted places", undone(below, chain_block(2)) && refused(below, 33));

@@ -6,7 +6,7 @@ import subprocess
 
 import bad_inputs
 import generate
-from campaign import dome_arrival as arrival
+from campaign import MAX_BLOCK_BYTES, dome_arrival as arrival
 from programs import DOME, LONGEST_RUN, dome, expect, expect_same_lines, run
 from reference import text_of
 from test_examples import ARRIVALS
@@ -47,10 +47,11 @@ def test_the_example_cut_anywhere():
 
 def test_over_long_lengths():
     rng = random.Random(6)
-    for length in [542, 543, 1082, 1083, 32768, 65535]:
+    longest = MAX_BLOCK_BYTES
+    for length in [longest + 1, longest + 2, 2 * longest, 2 * longest + 1, 32768, 65535]:
         whole = generate.over_long(rng, length)
         expect_as_reference(whole + SHORTEST)
-        for end in [2, 3, 541, 543, len(whole) - 1]:
+        for end in [2, 3, longest, longest + 2, len(whole) - 1]:
             expect(dome(whole[:end]) == "- refusal 3\n", f"length {length}, {end} bytes there")
 
 

@@ -25,7 +25,7 @@ MET = ["campaigns with a slot delivered at both sites", "up to f forked: two num
        "tables watched with forks of sequence 0 alone", "tables watched with forks below the greatest alone",
        "places with 63 ancestors", "blocks built for a site without a held block", "blocks built with nothing of others left",
        "blocks built with one fewer left than fit", "blocks built with as many left as fit",
-       "blocks built with one more left than fit", "blocks built of 541 bytes", "blocks built on a full table",
+       "blocks built with one more left than fit", "blocks built of the greatest length", "blocks built on a full table",
        "blocks built into an output of their length", "blocks built into a longer output", "outputs too short by one byte",
        "sites forked below their greatest number alone", "built blocks admitted", "built blocks refused with 8",
        "built blocks refused with 11", "groups with the premises met at some site", "met with forked sites held there",
@@ -38,12 +38,12 @@ FEWEST_MET = {"groups with the premises met at some site": 3_000, "met with fork
 SHELVED = ["shelves in form", "shelves not in form", "shelves with each bit flipped in turn",
            *(f"broken alone: {rule}" for rule in (
                "the buffer has a shelf's length", "the count is up to 16", "entries from the count on are zero",
-               "a waiting block has at most 541 bytes", "the reader accepts each waiting block", "behind a block there are zeros",
+               "a waiting block is no longer than a block can be", "the reader accepts each waiting block", "behind a block there are zeros",
                "campaigns are up to 3", "no campaign has the same bytes waiting twice",
                "the free places cover what the campaigns lack of their 2")),
            *(f"arrivals that let in {blocks} waiting" for blocks in range(1, 11)),
            *(f"waiting blocks dropped with {number}" for number in (4, 8, 10, 11)),
-           "arrivals that let some in and dropped others", "waiting blocks of 541 bytes let in",
+           "arrivals that let some in and dropped others", "waiting blocks of the greatest length let in",
            "arrivals that needed two passes or more", "arrivals that needed five passes or more",
            "arrivals that needed ten passes", "full shelves", "shelves with a campaign at 10",
            "shelves with the same bytes for two campaigns", "9 for a campaign that holds fewer than 2",
@@ -116,7 +116,7 @@ LISTED = [*(f"arrivals answered {number}" for number in (0, *range(3, 12))),
           "listings with more than 256 arrivals", "listings of more than 65,536 bytes", "listings cut in a length",
           "listings cut before a verdict", "listings cut in a block", "listings cut in an over-long arrival",
           "arrivals answered 8 with a full table", "arrivals over-long", "arrivals of 0 to 4 bytes",
-          "arrivals of 541 bytes not answered 3", "deliveries after another in the same block"]
+          "arrivals of the greatest length not answered 3", "deliveries after another in the same block"]
 SITE_COUNTS = {"1", "4", "7", "10", "13", "16"}
 
 

@@ -10,8 +10,7 @@ HEADERS = {"giangotum.h": "gt_read_block(0, 0).answer.refusal",
 WARNINGS = ["-Wall", "-Wextra", "-Wpedantic", "-Werror", "-fsyntax-only"]
 
 # The layouts of docs/FORMATS.md; and the most places that a campaign holds are those that the others' reserved ones leave.
-AGREEMENTS = ["GT_MAX_BLOCK_BYTES == 5 + GT_DIGEST_BYTES * GT_MAX_REFERENCES + 3 * GT_MAX_REQUESTS",
-              "GT_TABLE_OWNERS == 1",
+AGREEMENTS = ["GT_TABLE_OWNERS == 1",
               "GT_TABLE_RETIRED == GT_TABLE_OWNERS + GT_SLOTS",
               "GT_TABLE_COUNT == GT_TABLE_RETIRED + 1",
               "GT_TABLE_ROWS == GT_TABLE_COUNT + 1",
@@ -24,7 +23,6 @@ AGREEMENTS = ["GT_MAX_BLOCK_BYTES == 5 + GT_DIGEST_BYTES * GT_MAX_REFERENCES + 3
               "GT_ROW_BYTES == GT_ROW_MARK + 1",
               "GT_PART_NUMBERS == GT_SLOTS * GT_RECORD_NUMBERS",
               "GT_RECORDS_NUMBERS == GT_MAX_PLACES * GT_PART_NUMBERS",
-              "GT_SHELF_BYTES == 1 + GT_SHELF_PLACES * (1 + 2 + GT_MAX_BLOCK_BYTES)",
               "GT_SHELF_MOST == GT_SHELF_PLACES - (GT_CAMPAIGNS - 1) * GT_SHELF_RESERVED",
               "GT_OUTCOMES_NUMBERS == 2 * GT_SHELF_MOST"]
 

@@ -13,7 +13,7 @@ import time
 from pathlib import Path
 
 import listing_cases
-from campaign import arrival, block, setup
+from campaign import MAX_BLOCK_BYTES, MAX_REFERENCES, MAX_REQUESTS, REFERENCE_BYTES, arrival, block, setup
 from listing_cases import FIRST, FOUR_SITES, text_of
 from make_campaigns import chain
 from programs import LISTING, LONGEST_RUN, VALGRIND, expect, expect_same_lines, listing, run
@@ -314,7 +314,7 @@ def test_a_line_comes_with_the_last_byte_of_its_arrival():
     with Live() as live:
         live.send(FOUR_SITES)
         live.expect_lines([NAMES])
-        for number, data in enumerate([REFUSED, arrival(bytes(4)), arrival(FIRST, verdict=0), arrival(bytes(541))]):
+        for number, data in enumerate([REFUSED, arrival(bytes(4)), arrival(FIRST, verdict=0), arrival(bytes(MAX_BLOCK_BYTES))]):
             for byte in data[:-1]:
                 live.send(bytes([byte]))
             live.expect_silent()
@@ -346,11 +346,12 @@ def wait_until_read(pipe):
 
 
 def test_parts_of_every_size_at_the_buffers_border():
-    longest = arrival(block(1, 0, [bytes([i] * 32) for i in range(16)], [(i, 1) for i in range(8)]))
+    references = [bytes([i] * REFERENCE_BYTES) for i in range(MAX_REFERENCES)]
+    longest = arrival(block(1, 0, references, [(i, 1) for i in range(MAX_REQUESTS)]))
     stream = CAMPAIGNS["four_sites"] + 6 * longest + arrival(bytes(9000)) + 700 * REFUSED + 5 * longest + REFUSED + longest[:-1]
     text = listing(stream)
     expect(len(text) > 2 * 4096, f"a listing of {len(text)} bytes")
-    for size in [1, 2, 3, 541, 542, 543, 4095, 4096, 4097]:
+    for size in [1, 2, 3, MAX_BLOCK_BYTES, MAX_BLOCK_BYTES + 1, MAX_BLOCK_BYTES + 2, 4095, 4096, 4097]:
         try:
             expect_same_lines(in_parts(stream, size), text)
         except AssertionError as error:
@@ -369,10 +370,11 @@ def calls_of(stream):
 
 
 def test_a_long_file_takes_few_calls():
-    # A read asks for what the buffer has room for: all but a part that is shorter than what is wanted, of at most 542 bytes.
+    # A read asks for what the buffer has room for: all but a part that is shorter than what is wanted, which is at most
+    # a verdict and the longest block.
     stream, _ = every_kind(1000)
     reads, writes = (long - short for long, short in zip(calls_of(stream), calls_of(b"")))
-    most = len(stream) // (4096 - 541) + 1
+    most = len(stream) // (4096 - MAX_BLOCK_BYTES) + 1
     expect(reads <= most, f"{reads} reads of {len(stream)} bytes")
     expect(writes <= 2 * most, f"{writes} writes for {reads} reads")
 
@@ -381,7 +383,7 @@ def test_a_long_file_takes_few_calls():
 
 def every_kind(times):
     """Arrivals of every kind on a table that gets full, over and over, and their lines."""
-    kinds = [(arrival(bytes(4)), 3), (arrival(bytes(600)), 3), (arrival(block(4, 0)), 4), (arrival(FIRST, verdict=0), 5),
+    kinds = [(arrival(bytes(4)), 3), (arrival(bytes(2 * MAX_BLOCK_BYTES)), 3), (arrival(block(4, 0)), 4), (arrival(FIRST, verdict=0), 5),
              (arrival(block(1, 0, requests=[(8, 1)])), 6), (arrival(block(1, 0, [bytes(32)] * 2)), 7), (arrival(FIRST), 8),
              (arrival(block(1, 0, [bytes(32)])), 9), (arrival(block(1, 1)), 10), (arrival(block(1, 0)), 11)]
     stream = listing_cases.FULL + times * b"".join(data for data, _ in kinds)

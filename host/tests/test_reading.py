@@ -5,8 +5,7 @@ from collections import Counter
 from itertools import combinations
 
 import generate
-from campaign import block
-from generate import HEADER, MAX_BLOCK, MAX_REFERENCES, MAX_REQUESTS, REFERENCE, REQUEST
+from campaign import HEADER_BYTES, MAX_BLOCK_BYTES, MAX_REFERENCES, MAX_REQUESTS, REFERENCE_BYTES, REQUEST_BYTES, block
 from programs import dome, expect, expect_same_lines
 from reference import Refusal, read_block, text_of
 
@@ -22,12 +21,12 @@ def answers_of(blocks):
 
 
 def different(count):
-    return [bytes([i]) * REFERENCE for i in range(count)]
+    return [bytes([i]) * REFERENCE_BYTES for i in range(count)]
 
 
 def test_shortest_and_longest():
     longest = block(255, 65535, different(MAX_REFERENCES), [(7, 65535)] * MAX_REQUESTS)
-    expect(len(longest) == MAX_BLOCK, f"{len(longest)} bytes")
+    expect(len(longest) == MAX_BLOCK_BYTES, f"{len(longest)} bytes")
     references = ",".join(reference.hex() for reference in different(MAX_REFERENCES))
     requests = ",".join(["7:65535"] * MAX_REQUESTS)
     wanted = ["refusal 3", "refusal 3", "site 0 seq 0 references - requests -",
@@ -42,7 +41,7 @@ def test_counts_and_lengths_beside_them():
         for requests in range(MAX_REQUESTS + 2):
             whole = block(1, 2, different(references), [(0, 1)] * requests)
             blocks += [whole[:-1], whole, whole + b"\1"]
-    expect_as_reference([data for data in blocks if len(data) <= MAX_BLOCK])
+    expect_as_reference([data for data in blocks if len(data) <= MAX_BLOCK_BYTES])
 
 
 def test_each_bad_request():
@@ -51,7 +50,7 @@ def test_each_bad_request():
         for bad in [(8, 1), (255, 1), (0, 0), (8, 0)]:
             requests = [(0, 1)] * index + [bad] + [(8, 0)] * (MAX_REQUESTS - 1 - index)
             # The repeated reference is refused later than the request.
-            blocks.append(block(0, 0, [bytes(REFERENCE)] * 2, requests))
+            blocks.append(block(0, 0, [bytes(REFERENCE_BYTES)] * 2, requests))
             wanted.append(f"refusal 6 index {index}")
     expect(answers_of(blocks) == wanted, "a bad request has another answer")
 
@@ -67,8 +66,8 @@ def test_each_repeated_reference():
 
 
 def test_references_that_differ_in_one_bit():
-    one = bytes(REFERENCE)
-    others = [(1 << bit).to_bytes(REFERENCE, "big") for bit in range(8 * REFERENCE)]
+    one = bytes(REFERENCE_BYTES)
+    others = [(1 << bit).to_bytes(REFERENCE_BYTES, "big") for bit in range(8 * REFERENCE_BYTES)]
     answers = answers_of([block(0, 0, [one, other]) for other in others])
     expect(not any("refusal" in answer for answer in answers), "different references were taken as equal")
 
@@ -106,10 +105,10 @@ def test_several_damages():
 
 def test_random_bytes():
     rng = random.Random(4)
-    blocks = [rng.randbytes(rng.randint(0, MAX_BLOCK)) for _ in range(500)]
+    blocks = [rng.randbytes(rng.randint(0, MAX_BLOCK_BYTES)) for _ in range(500)]
     # Small counts that fit the length, and the rest random, so that more than the length is looked at.
     for _ in range(1000):
         references, requests = rng.randint(0, 2), rng.randint(0, 3)
-        body = bytes(rng.choice([0, 0, 1, 7, 8]) for _ in range(REFERENCE * references + REQUEST * requests))
-        blocks.append(rng.randbytes(HEADER - 2) + bytes([references, requests]) + body)
+        body = bytes(rng.choice([0, 0, 1, 7, 8]) for _ in range(REFERENCE_BYTES * references + REQUEST_BYTES * requests))
+        blocks.append(rng.randbytes(HEADER_BYTES - 2) + bytes([references, requests]) + body)
     expect_as_reference(blocks)

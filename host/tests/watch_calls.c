@@ -262,18 +262,18 @@ static const list no_requests = {.length = 0};
 
 static list with_entry(list l, uint8_t slot, uint16_t number)
 {
-    memcpy(l.bytes + l.length, (uint8_t[]){slot, (uint8_t)(number >> 8), (uint8_t)number}, 3);
-    l.length += 3;
+    memcpy(l.bytes + l.length, (uint8_t[]){slot, (uint8_t)(number >> 8), (uint8_t)number}, GT_REQUEST_BYTES);
+    l.length += GT_REQUEST_BYTES;
     return l;
 }
 
-/* One request for each slot. */
-static list eight_requests(void)
+/* As many requests as a block can have, of slots from 7 down. */
+static list most_requests(void)
 {
     list l = no_requests;
 
-    for (uint8_t slot = 0; slot < GT_SLOTS; slot++)
-        l = with_entry(l, (uint8_t)(7 - slot), (uint16_t)(0x0100 + slot));
+    for (uint8_t i = 0; i < GT_MAX_REQUESTS; i++)
+        l = with_entry(l, (uint8_t)(7 - i), (uint16_t)(0x0100 + i));
     return l;
 }
 
@@ -282,7 +282,7 @@ static block requesting(block b, list l)
 {
     memcpy(b.bytes + b.length, l.bytes, l.length);
     b.length += l.length;
-    b.bytes[4] = (uint8_t)(l.length / 3);
+    b.bytes[4] = (uint8_t)(l.length / GT_REQUEST_BYTES);
     return b;
 }
 
@@ -376,13 +376,13 @@ static bool in_place_order(void)
 static void check_built(void)
 {
     table t = diamond();
-    block first_of_2 = requesting(block_of(2, 0), eight_requests());
+    block first_of_2 = requesting(block_of(2, 0), most_requests());
     block next_of_1 = referring_to(block_of(1, 2), diamond_block(4));
     block next_of_3 = referring_to(block_of(3, 1), diamond_block(3));
     list twice = with_entry(with_entry(no_requests, 3, 1), 3, 2);
 
     check("building, 5 bytes on an empty table", built(empty_table(4), 2, no_requests, block_of(2, 0)));
-    check("building, eight requests", built(empty_table(4), 2, eight_requests(), first_of_2));
+    check("building, the most requests", built(empty_table(4), 2, most_requests(), first_of_2));
     check("building, a slot twice", built(empty_table(1), 0, twice, requesting(block_of(0, 0), twice)));
     /* Site 1 has places 1 and 4, which refer to 0 and to 1. */
     check("building, the greatest block, then others in place order",
@@ -398,7 +398,7 @@ static void check_built(void)
         check_with("building, no own block, others", blocks, first_sixteen(blocks, no_requests));
         check_with("building, an own block, others", blocks - 1, own_and_fifteen((uint16_t)(blocks - 1), no_requests));
     }
-    check("building, 541 bytes", first_sixteen(16, eight_requests()) && own_and_fifteen(16, eight_requests()));
+    check("building, the longest block", first_sixteen(16, most_requests()) && own_and_fifteen(16, most_requests()));
     check("building, on a full table", built(chain(1, 64), 0, no_requests, chain_block(64)));
     check("building, on a full table of others", first_sixteen(64, no_requests));
     check("building, places 62 and 63",
@@ -417,11 +417,12 @@ static void check_table_refused(void)
 {
     table t = diamond(), unlawful = filled_with(0);
     output o = untouched();
+    size_t most = GT_MAX_BLOCK_BYTES;
 
     check("building, all zeros", refused(unlawful, 0, no_requests, 2, 0));
-    check("building, a table of 3850 bytes", refused_of_length(t, GT_TABLE_BYTES - 1, 0, no_requests, 541, 2, 0));
-    check("building, a table of 3852 bytes", refused_of_length(t, GT_TABLE_BYTES + 1, 0, no_requests, 541, 2, 0));
-    check("building, a table of 0 bytes", refused_of_length(t, 0, 0, no_requests, 541, 2, 0));
+    check("building, a table of 3850 bytes", refused_of_length(t, GT_TABLE_BYTES - 1, 0, no_requests, most, 2, 0));
+    check("building, a table of 3852 bytes", refused_of_length(t, GT_TABLE_BYTES + 1, 0, no_requests, most, 2, 0));
+    check("building, a table of 0 bytes", refused_of_length(t, 0, 0, no_requests, most, 2, 0));
     check("building, nothing lent", is(gt_build(NULL, 0, 0, NULL, 0, NULL, 0), 2, 0));
     /* Site 2 has place 2, which refers to 0: the next block refers to it and to three others. */
     check("building, no output at NULL", is(gt_build(t.bytes, GT_TABLE_BYTES, 2, NULL, 0, NULL, 0), 17, 133));
@@ -431,15 +432,16 @@ static void check_table_refused(void)
 static void check_refused(void)
 {
     table t = diamond(), forks = forked_below();
-    list good = with_entry(no_requests, 7, 1), slot_8 = with_entry(good, 8, 1), nine = of_bytes(1, 27);
+    list good = with_entry(no_requests, 7, 1), slot_8 = with_entry(good, 8, 1);
+    list too_long = of_bytes(1, GT_MAX_REQUEST_LIST_BYTES + GT_REQUEST_BYTES);
 
     check("building, a site that is n", refused(t, 4, no_requests, 4, 0));
     check("building, site 255", refused(t, 255, no_requests, 4, 0));
     check("building, 1 byte of requests", refused(t, 0, of_bytes(1, 1), 3, 0));
     check("building, 2 bytes of requests", refused(t, 0, of_bytes(1, 2), 3, 0));
-    check("building, 23 bytes of requests", refused(t, 0, of_bytes(1, 23), 3, 0));
-    check("building, 25 bytes of requests", refused(t, 0, of_bytes(1, 25), 3, 0));
-    check("building, 27 bytes of requests", refused(t, 0, nine, 3, 0));
+    check("building, a byte less than the most requests", refused(t, 0, of_bytes(1, GT_MAX_REQUEST_LIST_BYTES - 1), 3, 0));
+    for (size_t length = GT_MAX_REQUEST_LIST_BYTES + 1; length <= GT_REQUEST_BYTES * GT_SLOTS; length++)
+        check_with("building, too many bytes of requests", length, refused(t, 0, of_bytes(1, length), 3, 0));
     check("building, 259 bytes of requests", refused(t, 0, of_bytes(1, 259), 3, 0));
     check("building, 771 bytes of requests", refused(t, 0, of_bytes(1, 771), 3, 0));
     check("building, slot 8 in request 1", refused(t, 0, slot_8, 6, 1));
@@ -450,11 +452,11 @@ static void check_refused(void)
     check("building, a fork below the greatest", refused(forks, 2, no_requests, 16, 0));
     check("building, a fork of a full table", refused(forked_at_the_end(), 0, good, 16, 0));
 
-    check("building: 2 before 4", refused(filled_with(0), 255, nine, 2, 0));
-    check("building: 4 before 3", refused(t, 4, nine, 4, 0));
+    check("building: 2 before 4", refused(filled_with(0), 255, too_long, 2, 0));
+    check("building: 4 before 3", refused(t, 4, too_long, 4, 0));
     check("building: 4 before 6", refused(t, 4, slot_8, 4, 0));
-    check("building: 3 before 6", refused(t, 0, of_bytes(0, 27), 3, 0));
-    check("building: 3 before 16", refused(forks, 2, nine, 3, 0));
+    check("building: 3 before 6", refused(t, 0, of_bytes(0, too_long.length), 3, 0));
+    check("building: 3 before 16", refused(forks, 2, too_long, 3, 0));
     check("building: 6 before 16", refused(forks, 2, slot_8, 6, 1));
     check("building: 16 before 17", refused_of_length(forks, GT_TABLE_BYTES, 2, good, 1, 16, 0));
 }

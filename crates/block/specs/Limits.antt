@@ -1,4 +1,4 @@
--- Document 01, "The block": the sizes of a block's fields in bytes, and its limits.
+-- Document 01, "The block", and request One, "Five requests are plenty": the sizes of a block's fields in bytes, and its limits.
 use Prim.Native.Nat.{ℕ, _+_, _*_}
 
 -- the bytes of site, sequence number and the two counts
@@ -16,17 +16,18 @@ requestSize = 3
 abbrev pub maxReferences : ℕ
 maxReferences = 16
 
+-- "Make 5 the limit"
 abbrev pub maxRequests : ℕ
-maxRequests = 8
+maxRequests = 5
 
 -- the length of a block with p references and r requests
 abbrev pub blockSize : ℕ → ℕ → ℕ
 blockSize p r = headerSize + referenceSize * p + requestSize * r
 
--- 24 bytes
+-- the most bytes of a request list
 abbrev pub maxRequestListSize : ℕ
 maxRequestListSize = requestSize * maxRequests
 
--- 541 bytes
+-- the most bytes of a block
 abbrev pub maxBlockSize : ℕ
 maxBlockSize = blockSize maxReferences maxRequests

@@ -12,7 +12,7 @@ use Rattle.block.specs.Limits.{headerSize, maxReferences, maxRequests, b
 use Rattle.block.specs.Layout.{referenceCount, requestCount, referenceList, requestList, referenceAt, requestAt}
 use Rattle.block.specs.Reading.{reading, answerOf}
 
--- the bytes b pass check 3: they are not "under 5 bytes, p over 16, r over 8, or wrong length"
+-- the bytes b pass check 3: they are not under 5 bytes, p and r are within their limits, and the length is theirs
 pub record Shaped (b : Bytes) : Type 0 where
   pub header : headerSize ≤ length b
   pub references : referenceCount b ≤ maxReferences

@@ -15,7 +15,7 @@ use Rattle.block.specs.declared.Fields.{Fields}
 use Rattle.block.specs.declared.Reading.{Reading}
 use Rattle.block.specs.declared.Reading.the-variants.{Block, Misshapen, BadRequest, RepeatedReference}
 
--- 3: block under 5 bytes, p over 16, r over 8, or wrong length
+-- 3: block under 5 bytes, p or r over its limit, or wrong length
 unfoldable pub wellShaped : Bytes → Bool
 wellShaped b =
     leb headerSize (length b)

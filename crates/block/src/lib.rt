@@ -20,7 +20,7 @@ pub const REQUEST_SIZE: usize = 3;
 
 pub const MAX_REFERENCES: usize = 16;
 
-pub const MAX_REQUESTS: usize = 8;
+pub const MAX_REQUESTS: usize = 5;
 
 pub const MAX_REQUEST_LIST_SIZE: usize = REQUEST_SIZE * MAX_REQUESTS;
 

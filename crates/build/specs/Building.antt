@@ -68,7 +68,7 @@ module _ (seen : ℕ → Bool) (v : View) (p : ℕ) where
   abbrev pub nextBlock : Bytes → Bytes
   nextBlock requests = encode (nextContent requests)
 
--- 3: "request list over 24 bytes or no multiple of 3"
+-- 3: request list over its limit or no multiple of 3
 unfoldable pub wellListed : Bytes → Bool
 wellListed requests = leb (length requests) maxRequestListSize && eqb (length requests % requestSize) 0
 

@@ -16,7 +16,7 @@ ghost use Rattle.build.specs.Steps.{Buildable, RequestList, nextAnswer, 
 // The greatest sequence number that two bytes hold.
 const MAX_SEQUENCE: u32 = 65535;
 
-// Check 3 of a request list: whether it is at most 24 bytes and a multiple of 3.
+// Check 3 of a request list: whether it is no longer than a list can be, and a multiple of 3.
 fn well_listed(requests: &[u8]) -> bool
     ensures { λ r. ⌜ r ≡ wellListed (now (requests .entry)) ⌝ }
 {

@@ -31,7 +31,7 @@ use Rattle.run.specs.Ledger.{taken}
 use Rattle.run.specs.Run.{siteAnswer, siteStep, siteAfter, siteAnswers}
 use Rattle.cases.specs.Toy.{seen, toy, block}
 use Rattle.cases.specs.Run.{tableAfter, answers, arriving}
-use Rattle.cases.specs.Blocks.{fresh, unlawful, first, fork, second, both, stranger, third, fourth, later, echoing, readying, delivering, numbered, four, holding}
+use Rattle.cases.specs.Blocks.{fresh, unlawful, first, fork, second, both, stranger, third, fourth, later, echoing, readying, delivering, numbered, fullyReferring, four, holding}
 use Rattle.cases.specs.Starred.{chained, twoEchoes, twoReadies, thirdReady, thirteen}
 use Rattle.cases.specs.Thresholds.{oneReady, oneMoreReady, threeReadies, fourOfFiveEchoes, twoReadiesOfFive, thirdReadyOfFive, ownReady, fiveReadies}
 use Rattle.cases.specs.Traps.{echoingTwin, readyingTwin, otherEchoing, otherReadying, twinEchoes, oneSender, sameSender, idle, afterIdle, besideIdle, bothReversed, mixedEchoes, readyingThree, twoSlots}
@@ -41,7 +41,7 @@ use Rattle.cases.proofs.LedgerRun.{claimed, answerInForm, told, ledgerF
 
 -- `unfolding openedBlocks` opens what this line names: the blocks of the cases
 unfoldable pub openedBlocks : Bool
-unfolding concat encode seen toy block first fork second both stranger third fourth later echoing readying delivering numbered chained twoEchoes
+unfolding concat encode seen toy block first fork second both stranger third fourth later echoing readying delivering numbered fullyReferring chained twoEchoes
     twoReadies thirdReady oneReady oneMoreReady threeReadies fourOfFiveEchoes twoReadiesOfFive thirdReadyOfFive ownReady fiveReadies echoingTwin
     readyingTwin otherEchoing otherReadying twinEchoes oneSender sameSender idle afterIdle besideIdle bothReversed mixedEchoes readyingThree
     twoSlots forkEchoing turning afterTurning branch echoingBeside readyingBeside deliveringBeside quiet askingBlock echoingAfter readyingAfter

@@ -17,6 +17,7 @@ form =
       lastAfter = refl;
       sixteenReferences = refl;
       seventeenReferences = refl;
+      eachSlotRequested = refl;
       sameDigest = refl;
       siteFour = refl;
       itself = refl;

@@ -6,6 +6,8 @@ pub mod Toy
 pub mod LedgerRun
 -- all that computing a case unfolds, under four names
 pub mod Computing
+-- reading at a block's limits
+pub mod Reading
 -- the bytes of a table
 pub mod TableBytes
 -- tables in form and out of it

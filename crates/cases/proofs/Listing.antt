@@ -24,6 +24,7 @@ listingCases =
       valuesInOrder = refl;
       inputRead = refl;
       overlongSkipped = refl;
+      longerSkipped = refl;
       lowerSlotFirst = refl;
       refusedCounted = refl;
       setupShort = refl;

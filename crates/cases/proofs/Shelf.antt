@@ -6,12 +6,12 @@ use Rattle.base.specs.List.{someIn, countIn}
 use Rattle.shelf.specs.Layout.{waitingIn, entryBytes, shelfBytes}
 use Rattle.shelf.specs.Rules.{holds, hasPlace, waits, eachSound, shared, rulesHold}
 use Rattle.shelf.specs.Form.{shelfInForm}
-use Rattle.cases.specs.Shelf.{lackingReference, longest, sharing, threeWaiting, ofThree, LimitCases, PlaceCases, SameBytesCases, ShelfBytesCases, ShelfFormCases}
+use Rattle.cases.specs.Shelf.{lackingReference, sharing, threeWaiting, ofThree, LimitCases, PlaceCases, SameBytesCases, ShelfBytesCases, ShelfFormCases}
 use Rattle.cases.proofs.Computing.{openedTable}
 
 -- what the rules of the shelf and its form are computed by
 unfoldable pub openedShelf : Bool
-unfolding openedTable sumBelow someIn countIn waitingIn entryBytes shelfBytes holds hasPlace waits eachSound shared rulesHold shelfInForm lackingReference longest
+unfolding openedTable sumBelow someIn countIn waitingIn entryBytes shelfBytes holds hasPlace waits eachSound shared rulesHold shelfInForm lackingReference
     sharing threeWaiting ofThree
 openedShelf = true
 
@@ -79,6 +79,7 @@ shelfForm =
       misshapen = refl;
       repeatedReference = refl;
       lengthOver = refl;
+      sixRequestsWait = refl;
       firstBehindBlock = refl;
       lastBehindBlock = refl;
       firstBehindEntries = refl;

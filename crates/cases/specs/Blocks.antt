@@ -3,7 +3,9 @@ use mathlib.Core.List.{List, [], _∷_, map}
 use Prim.Native.Nat.{ℕ, zero, suc, _+_}
 use lib.ListN.{replicate}
 use Rattle.base.specs.Bytes.{Bytes}
+use Rattle.base.specs.List.{listBelow}
 use Rattle.setup.specs.Setup.{Setup, slotCount}
+use Rattle.block.specs.Limits.{maxReferences}
 use Rattle.table.specs.Layout.{layout}
 use Rattle.table.specs.Fresh.{nothing, emptyTable}
 use Rattle.admission.specs.Admission.{rowFor}
@@ -56,6 +58,10 @@ fourth = block 3 1 (toy third ∷ toy first ∷ []) (request 5 772 ∷ request 5
 -- blocks of site 0 and sequence 0 that differ in the number requested
 unfoldable pub numbered : ℕ → Bytes
 numbered i = block 0 0 [] (request 0 (i + 1) ∷ [])
+
+-- a block of site 2 with the most references and a request of each of the first r slots
+unfoldable pub fullyReferring : ℕ → Bytes
+fullyReferring r = block 2 0 (listBelow (λ i. toy (numbered i)) maxReferences) (listBelow (λ i. request i 1) r)
 
 -- ---- from the first block's request to delivery
 

@@ -8,7 +8,7 @@ use lib.ListN.{replicate}
 use Rattle.base.specs.Bytes.{Bytes}
 use Rattle.base.specs.List.{listBelow}
 use Rattle.answer.specs.Checks.{success, refused}
-use Rattle.block.specs.Limits.{blockSize, maxReferences, maxRequestListSize}
+use Rattle.block.specs.Limits.{blockSize, maxReferences}
 use Rattle.block.specs.Layout.{referencesOf}
 use Rattle.table.specs.View.{Row}
 use Rattle.table.specs.Layout.{siteOffset, rowStart, viewOf, layout}
@@ -22,6 +22,10 @@ use Rattle.cases.specs.Watch.{interpretedRow}
 -- the bytes of a request of a number up to 255
 abbrev pub requestWritten : ℕ → ℕ → Bytes
 requestWritten slot number = slot ∷ 0 ∷ number ∷ []
+
+-- requests of number 1 in slots 0 to 4
+abbrev pub fiveWritten : Bytes
+fiveWritten = requestWritten 0 1 ++ requestWritten 1 1 ++ requestWritten 2 1 ++ requestWritten 3 1 ++ requestWritten 4 1
 
 -- an output of `size` bytes
 abbrev pub room : ℕ → Bytes
@@ -66,10 +70,14 @@ pub record BuildingCases : Type 0 where
   pub lastSequence : built (numberedTo 1 65534) 0 [] (room 37) ≡ block 0 65535 (toy (numbered 0) ∷ []) []
   pub pastLast : building (numberedTo 1 65535) 0 [] (room 37) ≡ refused 30 0
   pub pastLastOther : building (numberedTo 1 65535) 1 [] (room 37) ≡ success 37
-  -- "request list over 24 bytes": 24 bytes, and 27
-  pub eightRequests : building fresh 3 (requestWritten 0 1 ++ requestWritten 1 1 ++ requestWritten 2 1 ++ requestWritten 3 1 ++ requestWritten 4 1 ++ requestWritten 5 1 ++ requestWritten 6 1 ++ requestWritten 7 1) (room 29)
-      ≡ success 29
-  pub nineRequests : building fresh 3 (replicate (maxRequestListSize + 3) 1) (room 29) ≡ refused 3 0
+  -- "a request list at most 15": 15 bytes, 16, 18 and 24
+  pub fiveListed : building fresh 3 fiveWritten (room 20) ≡ success 20
+  pub sixteenBytes : building fresh 3 (fiveWritten ++ (5 ∷ [])) (room 29) ≡ refused 3 0
+  pub sixListed : building fresh 3 (fiveWritten ++ requestWritten 5 1) (room 29) ≡ refused 3 0
+  pub eightListed : building fresh 3 (replicate 24 1) (room 29) ≡ refused 3 0
+  -- "A block is then at most 532 bytes": 16 references and five requests, with an output of that length and of one byte less
+  pub longestBuilt : building (holding 18) 1 fiveWritten (room 532) ≡ success 532
+  pub longestShort : building (holding 18) 1 fiveWritten (room 531) ≡ refused 17 532
   -- the output has the block's length, and one byte less
   pub exact : building fresh 3 (requestWritten 0 1) (room 8) ≡ success 8
   pub short : building fresh 3 (requestWritten 0 1) (room 7) ≡ refused 17 8

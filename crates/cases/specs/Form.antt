@@ -3,10 +3,10 @@ use mathlib.Core.Path.{_≡_}
 use mathlib.Core.Bool.{true, false}
 use mathlib.Core.List.{[], _∷_, _++_}
 use Prim.Native.Nat.{ℕ, _+_, _-_, _^_}
-use lib.ListN.{take}
+use lib.ListN.{take, replicate}
 use Rattle.base.specs.Bytes.{Bytes, splice}
 use Rattle.base.specs.LowFirst.{wordSize, lowFirstBytes}
-use Rattle.table.specs.Layout.{ownersOffset, retiredOffset, countOffset, siteOffset, sequenceOffset, referencesOffset, markOffset, rowStart, tableSize, digestAt}
+use Rattle.table.specs.Layout.{ownersOffset, retiredOffset, countOffset, siteOffset, sequenceOffset, referencesOffset, requestsOffset, markOffset, rowStart, tableSize, digestAt}
 use Rattle.table.specs.Form.{inForm}
 use Rattle.cases.specs.Blocks.{fresh, four, holding}
 
@@ -52,6 +52,8 @@ pub record FormCases : Type 0 where
   -- "at most 16 references a place"
   pub sixteenReferences : inForm (referring (holding 18) 17 (2 ^ 16 - 1)) ≡ true
   pub seventeenReferences : inForm (referring (holding 18) 17 (2 ^ 17 - 1)) ≡ false
+  -- form says nothing of how many requests there are: place 3 has one of each slot
+  pub eachSlotRequested : inForm (splice four (rowStart 3 + requestsOffset) (replicate 16 255)) ≡ true
   -- "digests all different"
   pub sameDigest : inForm (splice four (rowStart 3) (digestAt four 0)) ≡ false
   -- "sites below n"

@@ -3,6 +3,7 @@
 pub mod Toy
 pub mod Run
 pub mod Blocks
+pub mod Reading
 pub mod TableBytes
 pub mod Form
 pub mod Admission

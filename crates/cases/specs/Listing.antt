@@ -62,25 +62,26 @@ pub record ListingCases : Type 0 where
   pub valuesInOrder :
       deliveryLine (record { arrival = 10; place = 9; site = 3; sequence = 258; slot = 7; number = 65535 })
       ≡ 49 ∷ 48 ∷ 32 ∷ 57 ∷ 32 ∷ 51 ∷ 32 ∷ 50 ∷ 53 ∷ 56 ∷ 32 ∷ 55 ∷ 32 ∷ 54 ∷ 53 ∷ 53 ∷ 51 ∷ 53 ∷ 32 ∷ 48 ∷ 10 ∷ []
-  -- "length (two bytes, high first), verdict, block": a block of two bytes, a block of 541, and an arrival of which one byte is there
+  -- "length (two bytes, high first), verdict, block": a block of two bytes, a block of 532, and an arrival of which one byte is there
   pub inputRead :
-      arrivalsIn (0 ∷ 2 ∷ 5 ∷ 7 ∷ 8 ∷ 2 ∷ 29 ∷ 1 ∷ (replicate 541 6 ++ (0 ∷ [])))
-      ≡ arrived (7 ∷ 8 ∷ []) 5 ∷ arrived (replicate 541 6) 1 ∷ unread ∷ []
-  -- "A length over 541 is refused with 3, its verdict and bytes skipped; a cut arrival gets 3"
-  pub overlongSkipped : arrivalsIn (2 ∷ 30 ∷ 1 ∷ (replicate 542 6 ++ (0 ∷ 1 ∷ 4 ∷ 7 ∷ 0 ∷ 2 ∷ 1 ∷ 7 ∷ []))) ≡ unread ∷ arrived (7 ∷ []) 4 ∷ unread ∷ []
+      arrivalsIn (0 ∷ 2 ∷ 5 ∷ 7 ∷ 8 ∷ 2 ∷ 20 ∷ 1 ∷ (replicate 532 6 ++ (0 ∷ [])))
+      ≡ arrived (7 ∷ 8 ∷ []) 5 ∷ arrived (replicate 532 6) 1 ∷ unread ∷ []
+  -- a length over the limit "is refused with 3, its verdict and bytes skipped; a cut arrival gets 3": lengths of 533 and 541
+  pub overlongSkipped : arrivalsIn (2 ∷ 21 ∷ 1 ∷ (replicate 533 6 ++ (0 ∷ 1 ∷ 4 ∷ 7 ∷ 0 ∷ 2 ∷ 1 ∷ 7 ∷ []))) ≡ unread ∷ arrived (7 ∷ []) 4 ∷ unread ∷ []
+  pub longerSkipped : arrivalsIn (2 ∷ 29 ∷ 1 ∷ (replicate 541 6 ++ (0 ∷ 1 ∷ 4 ∷ 7 ∷ []))) ≡ unread ∷ arrived (7 ∷ []) 4 ∷ []
   -- "A line stands for each delivery (lower slot first)": "5 1 3 7 2 9 0" and "5 1 3 7 5 65535 0"
   pub lowerSlotFirst :
       arrivalLines toy before (block 3 7 (toy (numbered 0) ∷ []) []) 1 5
       ≡ 53 ∷ 32 ∷ 49 ∷ 32 ∷ 51 ∷ 32 ∷ 55 ∷ 32 ∷ 50 ∷ 32 ∷ 57 ∷ 32 ∷ 48 ∷ 10
       ∷ 53 ∷ 32 ∷ 49 ∷ 32 ∷ 51 ∷ 32 ∷ 55 ∷ 32 ∷ 53 ∷ 32 ∷ 54 ∷ 53 ∷ 53 ∷ 51 ∷ 53 ∷ 32 ∷ 48 ∷ 10
       ∷ []
-  -- "and each refused arrival; arrivals count from 0": verdict 0, a length of 542, a block of four bytes, and a cut arrival. "0 - - - - - 5", and 3
+  -- "and each refused arrival; arrivals count from 0": verdict 0, a length of 533, a block of four bytes, and a cut arrival. "0 - - - - - 5", and 3
   -- for the others
   pub refusedCounted :
       listing toy []
       (fourSitesInput
       ++ (0 ∷ 5 ∷ 0 ∷ 0 ∷ 0 ∷ 0 ∷ 0 ∷ 0
-      ∷ 2 ∷ 30 ∷ 1 ∷ (replicate 542 6
+      ∷ 2 ∷ 21 ∷ 1 ∷ (replicate 533 6
       ++ (0 ∷ 4 ∷ 1 ∷ 0 ∷ 0 ∷ 0 ∷ 0
       ∷ 0 ∷ 5 ∷ 1 ∷ 0 ∷ []))))
       ≡ namesText ++ (shortLine 48 53 ++ (shortLine 49 51 ++ (shortLine 50 51 ++ shortLine 51 51)))

@@ -6,12 +6,13 @@ use Prim.Native.Nat.{ℕ, _+_, _-_, _*_}
 use lib.ListN.{take, replicate}
 use Rattle.base.specs.Bytes.{Bytes, splice}
 use Rattle.base.specs.List.{listBelow}
+use Rattle.block.specs.Limits.{maxRequests}
 use Rattle.shelf.specs.Layout.{maxWaiting, Waiting, entryHeader, entrySize, entryStart, shelfSize, waitingIn, entryBytes, shelfBytes}
 use Rattle.shelf.specs.Rules.{campaignCount, maxCampaign, reserved, maxShare, hasPlace, waits, rulesHold}
 use Rattle.shelf.specs.Form.{shelfInForm, emptyShelf}
 use Rattle.campaigns.specs.Arriving.{outcomesSize}
 use Rattle.cases.specs.Toy.{toy, request, block}
-use Rattle.cases.specs.Blocks.{first, stranger, numbered}
+use Rattle.cases.specs.Blocks.{first, stranger, fullyReferring}
 use Rattle.cases.specs.Form.{changed}
 
 -- ---- what waits
@@ -25,9 +26,8 @@ b for c = record { campaign = c; block = b }
 unfoldable pub lackingReference : ℕ → Bytes
 lackingReference i = block 2 0 (toy stranger ∷ []) (request 0 (i + 1) ∷ [])
 
--- a block of 16 references and 8 requests: 541 bytes
-unfoldable pub longest : Bytes
-longest = block 2 0 (listBelow (λ i. toy (numbered i)) 16) (listBelow (λ i. request i 1) 8)
+abbrev pub longest : Bytes
+longest = fullyReferring maxRequests
 
 -- what waits where k₀ to k₃ of these blocks wait for campaigns 0 to 3
 unfoldable pub sharing : ℕ → ℕ → ℕ → ℕ → List Waiting
@@ -58,8 +58,8 @@ pub record LimitCases : Type 0 where
   -- 10 is what the other campaigns' 2 places each leave of the 16
   pub leftByTheOthers : maxShare ≡ maxWaiting - reserved * maxCampaign
   -- an entry is campaign, length and the longest block's bytes; a shelf is the count and 16 entries
-  pub entryLength : entrySize ≡ 3 + 541
-  pub shelfLength : shelfSize ≡ 8705
+  pub entryLength : entrySize ≡ 3 + 532
+  pub shelfLength : shelfSize ≡ 8561
   -- two numbers for each outcome
   pub outcomeNumbers : outcomesSize ≡ 20
 
@@ -124,13 +124,13 @@ pub record SameBytesCases : Type 0 where
 
 -- The layout of what waits.
 pub record ShelfBytesCases : Type 0 where
-  -- campaign, length, the block and zeros up to 541 bytes
-  pub entryWritten : entryBytes (first for 3) ≡ 3 ∷ 0 ∷ 8 ∷ (first ++ replicate 533 0)
-  -- both bytes of a length are written: 541 is 2 * 256 + 29
-  pub highLength : entryBytes (longest for 2) ≡ 2 ∷ 2 ∷ 29 ∷ longest
+  -- campaign, length, the block and zeros up to 532 bytes
+  pub entryWritten : entryBytes (first for 3) ≡ 3 ∷ 0 ∷ 8 ∷ (first ++ replicate 524 0)
+  -- both bytes of a length are written: 532 is 2 * 256 + 20
+  pub highLength : entryBytes (longest for 2) ≡ 2 ∷ 2 ∷ 20 ∷ longest
   -- the count, the entries in the order of arrival, and zeros
   pub entriesInOrder :
-      ofThree ≡ 3 ∷ (entryBytes (lackingReference 0 for 0) ++ (entryBytes (lackingReference 0 for 3) ++ (entryBytes (longest for 0) ++ replicate (13 * 544) 0)))
+      ofThree ≡ 3 ∷ (entryBytes (lackingReference 0 for 0) ++ (entryBytes (lackingReference 0 for 3) ++ (entryBytes (longest for 0) ++ replicate (13 * 535) 0)))
   pub nothingWaits : shelfBytes [] ≡ emptyShelf
   -- what the bytes show
   pub shown : waitingIn ofThree ≡ threeWaiting
@@ -160,8 +160,9 @@ pub record ShelfFormCases : Type 0 where
   -- blocks for which the reader has 3 and 7: one byte is missing; a reference is repeated
   pub misshapen : rulesHold (take 7 first for 0 ∷ []) ≡ false
   pub repeatedReference : rulesHold (block 2 0 (toy first ∷ toy first ∷ []) [] for 0 ∷ []) ≡ false
-  -- a length over 541
-  pub lengthOver : shelfInForm (splice ofThree (entryStart 2 + 1) (2 ∷ 30 ∷ [])) ≡ false
+  -- a length over 532; a block of six requests, for which the reader has 3
+  pub lengthOver : shelfInForm (splice ofThree (entryStart 2 + 1) (2 ∷ 21 ∷ [])) ≡ false
+  pub sixRequestsWait : rulesHold (block 2 0 [] (listBelow (λ i. request i 1) 6) for 0 ∷ []) ≡ false
   -- a byte behind a block is not 0: the first byte, and the last byte of its entry
   pub firstBehindBlock : shelfInForm (changed ofThree (entryStart 0 + entryHeader + 40) 1) ≡ false
   pub lastBehindBlock : shelfInForm (changed ofThree (entryStart 1 - 1) 1) ≡ false

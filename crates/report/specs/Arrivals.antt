@@ -18,7 +18,7 @@ setupSize = 1 + slotCount
 abbrev pub setupIn : Bytes → Setup
 setupIn input = record { sites = getD input 0 0; owners = take slotCount (drop 1 input) }
 
--- an arrival: a block with the link's verdict; or no block, because its length is over 541 or the input's end cuts it
+-- an arrival: a block with the link's verdict; or no block, because its length is one that no block has, or the input's end cuts it
 pub data Arrival : Type 0 where
   arrived : Bytes → ℕ → Arrival
   unread : Arrival
@@ -37,7 +37,7 @@ blockLength input = numberAt input 0
 abbrev pub arrivalSize : Bytes → ℕ
 arrivalSize input = lengthSize + (verdictSize + blockLength input)
 
--- the length of the arrival at the front is over 541
+-- the length of the arrival at the front is over that of the longest block
 abbrev pub overlong : Bytes → Bool
 overlong input = ltb maxBlockSize (blockLength input)
 

@@ -67,7 +67,7 @@ fn show_parents() {
 }
 
 // Admits the blocks that request the numbers from 1 up to the limit, one after the other; the limit itself is left out.
-fn admit_up_to(table: &mut [u8], limit: u8) {
+pub fn admit_up_to(table: &mut [u8], limit: u8) {
     let mut number = 1;
     while number < limit {
         admission::admit(table, &requesting(number), 1);

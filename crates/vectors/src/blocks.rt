@@ -1,16 +1,26 @@
 // Reading at every limit, each refusal with its index, and the order of the checks where several faults meet.
 use crate::line::Line;
+use block::HEADER_SIZE;
 use block::MAX_BLOCK_SIZE;
+use block::MAX_REFERENCES;
+use block::MAX_REQUESTS;
+use block::REFERENCE_SIZE;
+use block::REQUEST_SIZE;
 use block::Reading;
+use setup::SLOTS;
 
-// Room for a block of 17 references, one too many.
-const ROOM: usize = 549;
+// Room for a block of one reference too many.
+const ROOM: usize = HEADER_SIZE + REFERENCE_SIZE * (MAX_REFERENCES + 1);
 
-// Where the requests of a block of 16 references begin.
-const REQUESTS: usize = 517;
+// Where the requests of a block of the most references begin.
+const REQUESTS: usize = HEADER_SIZE + REFERENCE_SIZE * MAX_REFERENCES;
 
 fn show(name: &[u8], bytes: &[u8]) {
-    let line = Line::new().text(name).text(b": ");
+    let line = Line::new()
+        .text(name)
+        .text(b", ")
+        .number(bytes.len())
+        .text(b" bytes: ");
     let reading = block::read_block(bytes);
     let Reading::Block(fields) = reading else {
         let answer = block::answer_of(reading);
@@ -39,19 +49,19 @@ fn show_front(name: &[u8], block: [u8; ROOM], n: usize) {
     }
 }
 
-// A block of 16 references and 8 requests, with zeros after its 541 bytes: reference i is 32 times the byte i + 1, request i asks for i + 1 in slot
-// i.
+// A block of the most references and requests, and behind it requests of the other slots: reference i is 32 times the byte i + 1, request i asks for
+// i + 1 in slot i.
 fn full() -> [u8; ROOM] {
     let mut b = [0u8; ROOM];
     b[0] = 3;
     b[1] = 1;
     b[2] = 2;
-    b[3] = 16;
-    b[4] = 8;
-    for i in 0..16 {
+    b[3] = MAX_REFERENCES as u8;
+    b[4] = MAX_REQUESTS as u8;
+    for i in 0..MAX_REFERENCES {
         b = with_reference(b, i, i);
     }
-    for i in 0..8 {
+    for i in 0..SLOTS {
         b = with_request(b, i, i as u8, (i + 1) as u8);
     }
     b
@@ -60,9 +70,9 @@ fn full() -> [u8; ROOM] {
 // The block with request i asking for this number in this slot.
 fn with_request(block: [u8; ROOM], i: usize, slot: u8, number: u8) -> [u8; ROOM] {
     let mut b = block;
-    if i < 8 {
-        b[REQUESTS + 3 * i] = slot;
-        b[REQUESTS + 3 * i + 2] = number;
+    if i < SLOTS {
+        b[REQUESTS + REQUEST_SIZE * i] = slot;
+        b[REQUESTS + REQUEST_SIZE * i + 2] = number;
     }
     b
 }
@@ -70,10 +80,10 @@ fn with_request(block: [u8; ROOM], i: usize, slot: u8, number: u8) -> [u8; ROOM]
 // The block with reference i equal to what reference j of a full block is.
 fn with_reference(block: [u8; ROOM], i: usize, j: usize) -> [u8; ROOM] {
     let mut b = block;
-    if i < 16 {
-        if j < 16 {
-            for k in 0..32 {
-                b[5 + 32 * i + k] = (j + 1) as u8;
+    if i < MAX_REFERENCES {
+        if j < MAX_REFERENCES {
+            for k in 0..REFERENCE_SIZE {
+                b[HEADER_SIZE + REFERENCE_SIZE * i + k] = (j + 1) as u8;
             }
         }
     }
@@ -89,34 +99,72 @@ fn with_counts(block: [u8; ROOM], p: u8, r: u8) -> [u8; ROOM] {
 }
 
 fn show_shortest() {
-    show(b"no bytes", b"");
-    show(b"4 bytes", &[0u8; 4]);
-    show(b"5 bytes, p and r 0", &[0u8; 5]);
-    show(b"6 bytes, p and r 0", &[0u8; 6]);
+    show(b"nothing", b"");
+    show(b"zeros", &[0u8; 4]);
+    show(b"zeros", &[0u8; 5]);
+    show(b"zeros", &[0u8; 6]);
     show(b"site 255, seq 65535", &[255, 255, 255, 0, 0]);
 }
 
 fn show_longest() {
     let b = full();
-    show_front(b"540 bytes, p 16, r 8", b, MAX_BLOCK_SIZE - 1);
-    show_front(b"541 bytes, p 16, r 8", b, MAX_BLOCK_SIZE);
-    show_front(b"542 bytes, p 16, r 8", b, MAX_BLOCK_SIZE + 1);
+    show_front(b"the longest but a byte", b, MAX_BLOCK_SIZE - 1);
+    show_front(b"the longest", b, MAX_BLOCK_SIZE);
+    show_front(b"the longest and a byte", b, MAX_BLOCK_SIZE + 1);
+}
+
+// Shows a block of the most references and r requests.
+fn show_requesting(name: &[u8], r: u8) {
+    show_front(
+        name,
+        with_counts(full(), MAX_REFERENCES as u8, r),
+        REQUESTS + REQUEST_SIZE * base::wide(r),
+    );
 }
 
 fn show_counts() {
-    let b = full();
-    show_front(b"549 bytes, p 17, r 0", with_counts(b, 17, 0), ROOM);
-    show_front(b"517 bytes, p 16, r 0", with_counts(b, 16, 0), REQUESTS);
-    show_front(b"32 bytes, p 0, r 9", with_counts(b, 0, 9), 32);
+    show_front(b"p 17, r 0", with_counts(full(), 17, 0), ROOM);
+    show_requesting(b"p 16, r 0", 0);
+    show_requesting(b"p 16, r 5", 5);
+    show_requesting(b"p 16, r 6", 6);
+    show_requesting(b"p 16, r 8", 8);
+    show(
+        b"p 0, r 6",
+        &[
+            0,
+            0,
+            0,
+            0,
+            6,
+            0,
+            0,
+            1,
+            1,
+            0,
+            1,
+            2,
+            0,
+            1,
+            3,
+            0,
+            1,
+            4,
+            0,
+            1,
+            5,
+            0,
+            1,
+        ],
+    );
 }
 
 fn show_requests() {
     let b = full();
     show_front(b"slot 8 at 3", with_request(b, 3, 8, 1), MAX_BLOCK_SIZE);
     show_front(b"number 0 at 4", with_request(b, 4, 4, 0), MAX_BLOCK_SIZE);
-    let c = with_request(b, 7, 255, 1);
+    let c = with_request(b, 4, 255, 1);
     show_front(
-        b"slot 255 at 7, number 0 at 2",
+        b"slot 255 at 4, number 0 at 2",
         with_request(c, 2, 2, 0),
         MAX_BLOCK_SIZE,
     );
@@ -131,13 +179,13 @@ fn show_counted_of(list: &[u8], slot: u8) {
         .show();
 }
 
-// Slot 0 is requested twice, and slot 5 not at all.
+// Slot 0 is requested twice, and slot 3 not at all.
 fn show_counted() {
-    let b = with_request(full(), 5, 0, 9);
-    show_front(b"slot 0 at 0 and at 5", b, MAX_BLOCK_SIZE);
+    let b = with_request(full(), 3, 0, 9);
+    show_front(b"slot 0 at 0 and at 3", b, MAX_BLOCK_SIZE);
     show_counted_of(&b[REQUESTS..MAX_BLOCK_SIZE], 0);
     show_counted_of(&b[REQUESTS..MAX_BLOCK_SIZE], 4);
-    show_counted_of(&b[REQUESTS..MAX_BLOCK_SIZE], 5);
+    show_counted_of(&b[REQUESTS..MAX_BLOCK_SIZE], 3);
 }
 
 fn show_references() {
@@ -164,20 +212,16 @@ fn show_orders() {
         MAX_BLOCK_SIZE,
     );
     show_front(
-        b"slot 8 at 7, reference 1 as 0",
-        with_request(b, 7, 8, 1),
+        b"slot 8 at 2, reference 1 as 0",
+        with_request(b, 2, 8, 1),
         MAX_BLOCK_SIZE,
     );
-    show_front(b"542 bytes, reference 1 as 0", b, MAX_BLOCK_SIZE + 1);
+    show_front(b"reference 1 as 0", b, MAX_BLOCK_SIZE + 1);
     let c = with_request(b, 0, 8, 1);
-    show_front(
-        b"540 bytes, slot 8 at 0, reference 1 as 0",
-        c,
-        MAX_BLOCK_SIZE - 1,
-    );
+    show_front(b"slot 8 at 0, reference 1 as 0", c, MAX_BLOCK_SIZE - 1);
     show_front(
         b"p 17, slot 8 at 0, reference 1 as 0",
-        with_counts(c, 17, 8),
+        with_counts(c, 17, MAX_REQUESTS as u8),
         MAX_BLOCK_SIZE,
     );
 }

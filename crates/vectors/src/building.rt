@@ -1,8 +1,11 @@
 // Campaigns in which sites build their own blocks, what the watch says of them, and what building refuses. campaigns.rt says how a campaign is
 // written.
+use crate::admissions::admit_up_to;
 use crate::campaigns::show;
 use crate::line::show_answer;
+use block::MAX_BLOCK_SIZE;
 use block::MAX_REQUEST_LIST_SIZE;
+use block::REQUEST_SIZE;
 use setup::SLOTS;
 
 // A site alone builds four blocks; the first requests 7.
@@ -71,8 +74,21 @@ fn show_list_refusals(table: &[u8]) {
         build::build(table, 3, &[8, 0, 0, 0], &mut room),
     );
     show_answer(
-        b"build, a list of 27 bytes",
-        build::build(table, 3, &[0; MAX_REQUEST_LIST_SIZE + 3], &mut room),
+        b"build, a list that is a byte too long",
+        build::build(table, 3, &[1; MAX_REQUEST_LIST_SIZE + 1], &mut room),
+    );
+    show_answer(
+        b"build, a list of a request too many",
+        build::build(
+            table,
+            3,
+            &[0; MAX_REQUEST_LIST_SIZE + REQUEST_SIZE],
+            &mut room,
+        ),
+    );
+    show_answer(
+        b"build, a request of each slot",
+        build::build(table, 3, &[1; REQUEST_SIZE * SLOTS], &mut room),
     );
     show_answer(
         b"build, slot 8 in the second request",
@@ -88,11 +104,30 @@ fn show_output_refusal(table: &[u8]) {
     );
 }
 
+// Site 1 builds with as many references and requests as a block can have, on a table that holds 17 blocks of site 0.
+fn show_longest() {
+    let fresh = table::fresh(4, [0; SLOTS]);
+    let mut table = fresh.table;
+    admit_up_to(&mut table, 18);
+    let requests = [1u8; MAX_REQUEST_LIST_SIZE];
+    let mut short = [0u8; MAX_BLOCK_SIZE - 1];
+    show_answer(
+        b"build, room for the longest but a byte",
+        build::build(&table, 1, &requests, &mut short),
+    );
+    let mut room = [0u8; MAX_BLOCK_SIZE];
+    show_answer(
+        b"build, room for the longest",
+        build::build(&table, 1, &requests, &mut room),
+    );
+}
+
 pub fn show_all() {
     show_alone();
     show_turns();
     show_forked();
     show_older_fork();
     show_many();
+    show_longest();
     show_refusals();
 }

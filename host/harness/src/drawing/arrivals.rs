@@ -2,7 +2,9 @@
 
 use crate::drawing::draft::{self, bad_verdict, lawful, spoil, Draft};
 use crate::drawing::random::Random;
-use crate::model::sizes::{DIGEST_BYTES, HEADER_BYTES, MAX_BLOCK_BYTES, OUTCOMES_NUMBERS, REQUEST_BYTES};
+use crate::model::sizes::{
+    DIGEST_BYTES, HEADER_BYTES, MAX_BLOCK_BYTES, MAX_REFERENCES, MAX_REQUESTS, OUTCOMES_NUMBERS, REQUEST_BYTES,
+};
 use crate::model::table::Table;
 
 /// A block's bytes, or others, and the link's verdict on them.
@@ -103,7 +105,8 @@ fn damage(random: &Random, block: &mut Vec<u8>) {
         }
         _ => {
             let at = random.pick(&[3, 4]);
-            let count = random.pick(&[0, 1, 8, 9, 16, 17, 255, random.byte()]);
+            let most = random.pick(&[MAX_REFERENCES, MAX_REQUESTS]) as u8;
+            let count = random.pick(&[0, 1, most, most + 1, 255, random.byte()]);
             if let Some(byte) = block.get_mut(at) {
                 *byte = count;
             }

@@ -75,7 +75,7 @@ pub fn lawful(random: &Random, table: &Table) -> Draft {
     Draft { site, sequence, references, requests: some_requests(random), verdict: 1 }
 }
 
-/// A block of 541 bytes. A table that holds few blocks doesn't have all its references.
+/// A block of the greatest length. A table that holds few blocks doesn't have all its references.
 pub fn longest(random: &Random, table: &Table) -> Draft {
     let mut draft = lawful(random, table);
     fill_references(random, &mut draft, MAX_REFERENCES);

@@ -106,7 +106,7 @@ pub fn fields(block: &[u8]) -> Fields {
     }
 }
 
-/// 3: "block under 5 bytes, p over 16, r over 8, or wrong length".
+/// 3: a block under 5 bytes, `p` or `r` over its limit, or a wrong length.
 pub fn misshapen(block: &[u8]) -> Option<usize> {
     let wrong = block.len() < HEADER_BYTES
         || reference_count(block) > MAX_REFERENCES

@@ -3,7 +3,7 @@
 use crate::model::block::{self, list_of, Request};
 use crate::model::checks::Check;
 use crate::model::sha256::Digest;
-use crate::model::sizes::{MAX_REFERENCES, MAX_REQUESTS, REQUEST_BYTES};
+use crate::model::sizes::{MAX_REFERENCES, MAX_REQUEST_LIST_BYTES, REQUEST_BYTES};
 use crate::model::table::{places, Row, Table};
 
 /// What building is given, with the answer of form and the block that the rules give.
@@ -47,9 +47,9 @@ pub const CHECKS: [Check<BuildingInput>; 7] = [
     Check { number: 17, finds: |input| (input.room < input.block.len()).then_some(input.block.len()) },
 ];
 
-/// "request list over 24 bytes or no multiple of 3"
+/// A request list over its limit "or no multiple of 3".
 pub fn long_or_cut(requests: &[u8]) -> bool {
-    requests.len() > REQUEST_BYTES * MAX_REQUESTS || cut(requests)
+    requests.len() > MAX_REQUEST_LIST_BYTES || cut(requests)
 }
 
 pub fn cut(requests: &[u8]) -> bool {

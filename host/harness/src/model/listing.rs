@@ -55,7 +55,7 @@ pub enum StreamArrival<'a> {
         verdict: u8,
         block: &'a [u8],
     },
-    /// "A length over 541"
+    /// A length that no block has.
     OverLong,
     /// The input ends before it does.
     Cut,
@@ -128,7 +128,7 @@ impl Listing {
     fn arrive(&self, calls: &dyn Calls, buffers: &mut TableAndRecords, arrival: &StreamArrival) -> (u8, Vec<Line>) {
         let answer = match *arrival {
             StreamArrival::Block { verdict, block } => calls.admit(&mut buffers.table, &mut block.to_vec(), verdict),
-            // "A length over 541 is refused with 3"; "a cut arrival gets 3"
+            // An over-long one "is refused with 3"; "a cut arrival gets 3".
             StreamArrival::OverLong | StreamArrival::Cut => Answer { refusal: 3, value: 0 },
         };
         let lines = match answer.refusal {

@@ -29,8 +29,9 @@ pub fn failed(calls: &dyn Calls) -> Vec<&'static str> {
         ("digest of 56 bytes", digest(calls, FIFTY_SIX_BYTES) == FIFTY_SIX_BYTES_DIGEST),
         ("4 bytes: 3", read(calls, &[0; 4]) == 3),
         ("5 bytes, p and r 0: read", read(calls, &[0; 5]) == 0),
-        ("541 bytes: read", longest().len() == 541 && read(calls, &longest()) == 0),
-        ("542 bytes: 3", read(calls, &[longest(), vec![0]].concat()) == 3),
+        ("the longest block: read", read(calls, &most_of_both(MAX_REQUESTS)) == 0),
+        ("a request more: 3", read(calls, &most_of_both(MAX_REQUESTS + 1)) == 3),
+        ("a byte more: 3", read(calls, &[most_of_both(MAX_REQUESTS), vec![0]].concat()) == 3),
         ("sequence 1 without references: 10", admitted(calls, &[chained(1, &[])]) == [(10, 0)]),
         (
             "sequence 1 with both forks of sequence 0: 10",
@@ -72,9 +73,10 @@ fn read(calls: &dyn Calls, block: &[u8]) -> u8 {
     calls.read_block(&mut block.to_vec()).answer.refusal
 }
 
-fn longest() -> Vec<u8> {
+/// A block with as many references as a block can have, and so many requests.
+fn most_of_both(requests: usize) -> Vec<u8> {
     let references = (0..MAX_REFERENCES).map(|i| [i as u8; DIGEST_BYTES]).collect();
-    let requests = (0..MAX_REQUESTS).map(|slot| Request { slot: slot as u8, number: 1 }).collect();
+    let requests = (0..requests).map(|slot| Request { slot: slot as u8, number: 1 }).collect();
     Draft { site: 0, sequence: 0, references, requests, verdict: 1 }.to_bytes()
 }
 

@@ -12,7 +12,7 @@ use crate::drawing::tables_with_forks::{self, leave, some_left};
 use crate::drawing::tables_with_retirings::at_end;
 use crate::model::block::{self, list_bytes};
 use crate::model::sha256::sha256;
-use crate::model::sizes::{HEADER_BYTES, MAX_BLOCK_BYTES, MAX_REQUESTS, REQUEST_BYTES};
+use crate::model::sizes::{HEADER_BYTES, MAX_BLOCK_BYTES, MAX_REQUEST_LIST_BYTES, REQUEST_BYTES, SLOTS};
 use crate::model::table::Table;
 
 const BUILDS_A_CASE: usize = 3;
@@ -73,9 +73,9 @@ pub fn some_list(random: &Random) -> Vec<u8> {
 
 /// No whole number of requests, or too many. What is added makes good requests, bad ones, or any.
 fn other_length(random: &Random, list: &mut Vec<u8>) {
-    let most = REQUEST_BYTES * MAX_REQUESTS;
+    let most = MAX_REQUEST_LIST_BYTES;
     let near = [list.len() + 1, list.len() + 2, list.len().saturating_sub(1), list.len().saturating_sub(2)];
-    let beyond = [most + 1, most + 2, most + REQUEST_BYTES, most + REQUEST_BYTES, 2 * most];
+    let beyond = [most + 1, most + 2, most + REQUEST_BYTES, most + REQUEST_BYTES, REQUEST_BYTES * SLOTS, 2 * most];
     // In one byte these lengths, or these counts of requests, are those of a short list.
     let round = [256 + REQUEST_BYTES, 256 + 2 * REQUEST_BYTES, 256 * REQUEST_BYTES, 257 * REQUEST_BYTES];
     let length = random.pick(&[random.pick(&near), random.pick(&beyond), random.pick(&beyond), random.pick(&round)]);

@@ -86,7 +86,7 @@ impl Display for BuiltBlocks {
         line("blocks built with as many left as fit", self.as_many)?;
         line("blocks built with one more left than fit", self.one_more)?;
         line("blocks built with more left", self.more)?;
-        line("blocks built of 541 bytes", self.longest)?;
+        line("blocks built of the greatest length", self.longest)?;
         line("blocks built on a full table", self.full_table)?;
         line("blocks built into an output of their length", self.exact_output)?;
         line("blocks built into a longer output", self.longer_output)?;

@@ -45,7 +45,7 @@ struct Arrivals {
     answers: AnswerCounts,
     over_long: u64,
     short: u64,
-    /// Arrivals of 541 bytes, not refused with 3.
+    /// Arrivals of the longest block, not refused with 3.
     longest: u64,
     /// Arrivals refused with 8 while the table is full.
     held_in_full_table: u64,
@@ -177,7 +177,7 @@ impl Display for Listings {
         line("arrivals answered 8 with a full table", self.arrivals.held_in_full_table)?;
         line("arrivals over-long", self.arrivals.over_long)?;
         line("arrivals of 0 to 4 bytes", self.arrivals.short)?;
-        line("arrivals of 541 bytes not answered 3", self.arrivals.longest)?;
+        line("arrivals of the greatest length not answered 3", self.arrivals.longest)?;
         line("deliveries listed", self.deliveries)?;
         line("deliveries after another in the same block", self.deliveries_again)
     }

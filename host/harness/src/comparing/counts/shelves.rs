@@ -24,7 +24,7 @@ pub struct Shelves {
     let_in: [u64; MOST_HELD + 1],
     dropped: [u64; DROPPED.len()],
     let_in_and_dropped: u64,
-    /// Blocks of 541 bytes that were let in.
+    /// Longest blocks that were let in.
     longest_let_in: u64,
     two_passes: u64,
     five_passes: u64,
@@ -151,7 +151,7 @@ impl Display for Shelves {
             line(&format!("waiting blocks dropped with {number}"), times)?;
         }
         line("arrivals that let some in and dropped others", self.let_in_and_dropped)?;
-        line("waiting blocks of 541 bytes let in", self.longest_let_in)?;
+        line("waiting blocks of the greatest length let in", self.longest_let_in)?;
         line("arrivals that needed two passes or more", self.two_passes)?;
         line("arrivals that needed five passes or more", self.five_passes)?;
         line("arrivals that needed ten passes", self.ten_passes)?;

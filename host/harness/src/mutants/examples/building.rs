@@ -2,7 +2,7 @@
 
 use super::holder::Holder;
 use crate::model::calls::Calls;
-use crate::model::sizes::MAX_BLOCK_BYTES;
+use crate::model::sizes::{MAX_BLOCK_BYTES, MAX_REQUEST_LIST_BYTES as MOST, REQUEST_BYTES};
 
 pub fn all(calls: &dyn Calls) -> Vec<(&'static str, bool)> {
     let new = |sites| Holder::new(calls, sites);
@@ -24,10 +24,10 @@ pub fn all(calls: &dyn Calls) -> Vec<(&'static str, bool)> {
         ("17 blocks of others: the first 16", seventeen(new(4))),
         ("an own block and 17 of others: the own one and the first 15", own_and_seventeen(new(4))),
         ("a site that is n: 4", thirteen.builds(4, &[]) == Err((4, 0))),
-        ("a site that is n, and 25 bytes of requests: 4", thirteen.builds(4, &[1; 25]) == Err((4, 0))),
-        ("25 bytes of requests: 3", thirteen.builds(0, &[1; 25]) == Err((3, 0))),
-        ("27 bytes of requests, all bad: 3", thirteen.builds(0, &[0; 27]) == Err((3, 0))),
-        ("24 bytes of requests", thirteen.builds(0, &[1; 24]).is_ok()),
+        ("a site that is n, and a list too long: 4", thirteen.builds(4, &[1; MOST + 1]) == Err((4, 0))),
+        ("a byte more than the longest list: 3", thirteen.builds(0, &[1; MOST + 1]) == Err((3, 0))),
+        ("a request more, all of them bad: 3", thirteen.builds(0, &[0; MOST + REQUEST_BYTES]) == Err((3, 0))),
+        ("the longest list", thirteen.builds(0, &[1; MOST]).is_ok()),
         ("slot 8 in the second request: 6", thirteen.builds(0, &[7, 0, 1, 8, 0, 1]) == Err((6, 1))),
         ("number 0 in the first request: 6", thirteen.builds(0, &[7, 0, 0, 8, 0, 1]) == Err((6, 0))),
         ("a fork under the greatest block: 16", fork(new(4)).builds(2, &[]) == Err((16, 0))),

@@ -5,6 +5,7 @@ use super::{chain_from, requesting};
 use crate::model::calls::Calls;
 use crate::model::exit::Exit;
 use crate::model::listing::arrival_bytes;
+use crate::model::sizes::MAX_BLOCK_BYTES;
 
 /// Setups for n 1 and n 4.
 const ONE: [u8; 9] = [1, 0, 0, 0, 0, 0, 0, 0, 0];
@@ -18,7 +19,7 @@ pub fn all(calls: &dyn Calls) -> Vec<(&'static str, bool)> {
     let one = |arrivals: &[u8]| [&ONE[..], arrivals].concat();
     let chain = arrivals(&chain_from(requesting(&[(0, 7)]), 4));
     let first = arrivals(&[requesting(&[(0, 7)])]);
-    let [longer, longer_still] = [542, 65535].map(|length| arrival_bytes(0, &vec![0; length]));
+    let [longer, longer_still] = [MAX_BLOCK_BYTES + 1, 65535].map(|length| arrival_bytes(0, &vec![0; length]));
     let two_slots = arrivals(&chain_from(requesting(&[(5, 7), (2, 9)]), 5));
     let thirteen = [&FOUR[..], &arrivals(&Holder::with_thirteen_blocks(calls).blocks)].concat();
     vec![
@@ -39,12 +40,15 @@ pub fn all(calls: &dyn Calls) -> Vec<(&'static str, bool)> {
         ("no bytes of a block, twice: 3 each", lists(&one(&[0, 0, 1, 0, 0, 1]), "0 - - - - - 3\n1 - - - - - 3\n")),
         ("a block without its last byte, verdict 0: 3", lists(&one(&[0, 5, 0, 9, 0, 0, 0]), FIRST_REFUSED)),
         ("a block of site 9, verdict 0: 4", lists(&one(&[0, 5, 0, 9, 0, 0, 0, 0]), "0 - - - - - 4\n")),
-        ("542 bytes: 3, and the next", lists(&one(&[&longer[..], &chain].concat()), "0 - - - - - 3\n4 3 0 3 0 7 0\n")),
+        (
+            "a byte more than the longest block: 3, and the next",
+            lists(&one(&[&longer[..], &chain].concat()), "0 - - - - - 3\n4 3 0 3 0 7 0\n"),
+        ),
         (
             "65,535 bytes: 3, and the next",
             lists(&one(&[&longer_still[..], &chain].concat()), "0 - - - - - 3\n4 3 0 3 0 7 0\n"),
         ),
-        ("541 of 542 bytes: 3, and the end", lists(&one(&longer[..544]), FIRST_REFUSED)),
+        ("all but the last of those bytes: 3, and the end", lists(&one(&longer[..longer.len() - 1]), FIRST_REFUSED)),
     ]
 }
 

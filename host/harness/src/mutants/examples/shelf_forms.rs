@@ -2,10 +2,7 @@
 //! each place.
 
 use crate::model::calls::Calls;
-
-/// Bytes of a shelf and of an entry.
-const SHELF: usize = 8705;
-const ENTRY: usize = 544;
+use crate::model::sizes::{ENTRY_BYTES as ENTRY, SHELF_BYTES as SHELF};
 
 pub fn all(calls: &dyn Calls) -> Vec<(&'static str, bool)> {
     let in_form = |mut shelf: Vec<u8>| calls.shelf_in_form(&mut shelf);

@@ -6,7 +6,9 @@ use crate::model::building::{
     self, cut, greatest, long_or_cut, others, own_rows, past_last_sequence, sequence, shared_sequence, BuildingInput,
     CHECKS,
 };
-use crate::model::sizes::{HEADER_BYTES, MAX_BLOCK_BYTES, MAX_REFERENCES, MAX_REQUESTS, REQUEST_BYTES, SLOTS};
+use crate::model::sizes::{
+    HEADER_BYTES, MAX_BLOCK_BYTES, MAX_REFERENCES, MAX_REQUESTS, MAX_REQUEST_LIST_BYTES, REQUEST_BYTES, SLOTS,
+};
 use crate::model::table::{Row, Table, COUNT};
 
 /// Each check left out, another value beside each refusal, and each two neighbours swapped.
@@ -42,13 +44,13 @@ pub const MISTAKES: &[Mistake] = &[
     // Site and requests
     ("building: a site may be n", |m| m.building(4, |input| (input.site > input.table.sites).then_some(0))),
     ("building: sites are compared with 16", |m| m.building(4, |input| (input.site >= 16).then_some(0))),
-    ("building: 27 bytes of requests pass", |m| m.building(3, |input| most(input, MAX_REQUESTS + 1))),
-    ("building: 24 bytes of requests don't pass", |m| m.building(3, |input| most(input, MAX_REQUESTS - 1))),
+    ("building: a request too many passes", |m| m.building(3, |input| most(input, MAX_REQUESTS + 1))),
+    ("building: the most requests don't pass", |m| m.building(3, |input| most(input, MAX_REQUESTS - 1))),
     ("building: no bytes of requests don't pass", |m| {
         m.building(3, |input| (input.requests.is_empty() || long_or_cut(&input.requests)).then_some(0))
     }),
     ("building: a cut list passes", |m| {
-        m.building(3, |input| (input.requests.len() > REQUEST_BYTES * MAX_REQUESTS).then_some(0))
+        m.building(3, |input| (input.requests.len() > MAX_REQUEST_LIST_BYTES).then_some(0))
     }),
     ("building: a list of any length passes", |m| m.building(3, |input| cut(&input.requests).then_some(0))),
     ("building: only the low byte of the list's length is looked at", |m| {
@@ -351,7 +353,7 @@ pub const MISTAKES: &[Mistake] = &[
         }
     }),
     ("building: no requests", |m| m.model.building.requests = |_| Vec::new()),
-    ("building: seven requests at most", |m| {
+    ("building: one request fewer at most", |m| {
         m.model.building.requests = |list| list_of(list).into_iter().take(MAX_REQUESTS - 1).collect()
     }),
     ("building: request numbers low byte first", |m| {

@@ -3,7 +3,7 @@
 use super::{flip_last, Mistake, Mutant};
 use crate::model::form::*;
 use crate::model::setup::owners_lawful;
-use crate::model::sizes::{DIGEST_BYTES, MAX_REFERENCES, PLACES, SITE_COUNTS, TABLE_BYTES};
+use crate::model::sizes::{DIGEST_BYTES, MAX_REFERENCES, MAX_REQUESTS, PLACES, SITE_COUNTS, TABLE_BYTES};
 use crate::model::table::{places, Row, Table};
 
 /// For each condition a mutant without it.
@@ -204,6 +204,12 @@ pub const MISTAKES: &[Mistake] = &[
         };
         m.model.form.push(Condition { name: "no forks", holds: differ });
     }),
+    ("form: a place has no more requests than a block", |m| {
+        m.model.form.push(Condition {
+            name: "few requests",
+            holds: |table| every(table, |_, row| requested(row) <= MAX_REQUESTS),
+        });
+    }),
     ("form: a table of no places doesn't pass", |m| {
         m.model.form.push(Condition { name: "not empty", holds: |table| table.count > 0 });
     }),
@@ -214,6 +220,11 @@ pub const MISTAKES: &[Mistake] = &[
         })
     }),
 ];
+
+/// How many slots a row has a request of.
+fn requested(row: &Row) -> usize {
+    row.requests.iter().filter(|&&number| number > 0).count()
+}
 
 /// Whether the rest is zero but for what is cleared.
 fn rest_zero(table: &Table, clear: fn(&mut Row)) -> bool {

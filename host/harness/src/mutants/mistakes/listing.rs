@@ -93,7 +93,7 @@ pub const MISTAKES: &[Mistake] = &[
     ("listing: of an over-long arrival nothing but length and verdict is skipped", |m| {
         m.model.listing.first = |input| skipping(input, |_| BEFORE_BLOCK)
     }),
-    ("listing: of an over-long arrival 541 bytes are skipped", |m| {
+    ("listing: of an over-long arrival the longest block's bytes are skipped", |m| {
         m.model.listing.first = |input| skipping(input, |_| BEFORE_BLOCK + MAX_BLOCK_BYTES)
     }),
     ("listing: an over-long arrival is the end", |m| {
@@ -108,7 +108,7 @@ pub const MISTAKES: &[Mistake] = &[
             other => Some(other),
         }
     }),
-    ("listing: a length of 541 is over-long", |m| {
+    ("listing: the longest block is over-long", |m| {
         m.model.listing.first = |input| match first(input)? {
             (StreamArrival::Block { block, .. }, rest) if block.len() == MAX_BLOCK_BYTES => {
                 Some((StreamArrival::OverLong, rest))
@@ -116,7 +116,7 @@ pub const MISTAKES: &[Mistake] = &[
             other => Some(other),
         }
     }),
-    ("listing: of a length of 542 the last byte is left out", |m| {
+    ("listing: of a byte more than the longest block the last is left out", |m| {
         m.model.listing.first = |input| as_far_as_it_fits(input, MAX_BLOCK_BYTES + 1)
     }),
     ("listing: an over-long arrival is a block as far as it fits", |m| {
@@ -241,7 +241,7 @@ pub const MISTAKES: &[Mistake] = &[
     }),
 ];
 
-/// Whether the first arrival has a length over 541, as far as its bytes are there.
+/// Whether the first arrival has a length that no block has, as far as its bytes are there.
 fn over_long(input: &[u8]) -> bool {
     input.first_chunk().is_some_and(|length| usize::from(u16::from_be_bytes(*length)) > MAX_BLOCK_BYTES)
 }
@@ -264,7 +264,8 @@ fn skipping(input: &[u8], bytes: fn(usize) -> usize) -> FirstArrival<'_> {
     }
 }
 
-/// The first arrival; one that is over-long, but has no more bytes than these, is a block of its first 541.
+/// The first arrival; one that is over-long, but has no more bytes than these, is a block as far as
+/// one can go.
 fn as_far_as_it_fits(input: &[u8], most: usize) -> FirstArrival<'_> {
     match first(input)? {
         (StreamArrival::OverLong, rest) if input.len() - rest.len() - BEFORE_BLOCK <= most => {

@@ -28,10 +28,12 @@ pub fn checks_exchanged() -> Vec<Mutant> {
 }
 
 pub const MISTAKES: &[Mistake] = &[
-    ("reading: 17 references pass", |m| m.reading(3, |block| shape(block, MAX_REFERENCES + 1, MAX_REQUESTS))),
-    ("reading: 16 references don't pass", |m| m.reading(3, |block| shape(block, MAX_REFERENCES - 1, MAX_REQUESTS))),
-    ("reading: 9 requests pass", |m| m.reading(3, |block| shape(block, MAX_REFERENCES, MAX_REQUESTS + 1))),
-    ("reading: 8 requests don't pass", |m| m.reading(3, |block| shape(block, MAX_REFERENCES, MAX_REQUESTS - 1))),
+    ("reading: a reference too many passes", |m| m.reading(3, |block| shape(block, MAX_REFERENCES + 1, MAX_REQUESTS))),
+    ("reading: the most references don't pass", |m| {
+        m.reading(3, |block| shape(block, MAX_REFERENCES - 1, MAX_REQUESTS))
+    }),
+    ("reading: a request too many passes", |m| m.reading(3, |block| shape(block, MAX_REFERENCES, MAX_REQUESTS + 1))),
+    ("reading: the most requests don't pass", |m| m.reading(3, |block| shape(block, MAX_REFERENCES, MAX_REQUESTS - 1))),
     ("reading: the longest block doesn't pass", |m| {
         m.reading(3, |block| {
             let shape = shape(block, MAX_REFERENCES, MAX_REQUESTS);

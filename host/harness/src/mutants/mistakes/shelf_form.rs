@@ -59,10 +59,10 @@ pub const MISTAKES: &[Mistake] = &[
         m.shelf_form(REST_ZERO, |shelf| shelf.rest().iter().rev().skip(1).all(|entry| *entry == NOTHING))
     }),
     // Blocks
-    ("shelf form: a length of 542 passes", |m| {
+    ("shelf form: a byte more than the longest block passes", |m| {
         m.shelf_form(BLOCK_LENGTH, |shelf| every(shelf, |entry| usize::from(entry.length) <= MAX_BLOCK_BYTES + 1))
     }),
-    ("shelf form: a length of 541 doesn't pass", |m| {
+    ("shelf form: the longest block doesn't pass", |m| {
         m.shelf_form(BLOCK_LENGTH, |shelf| every(shelf, |entry| usize::from(entry.length) < MAX_BLOCK_BYTES))
     }),
     ("shelf form: a length of 5 doesn't pass", |m| {

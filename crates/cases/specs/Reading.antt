@@ -1,0 +1,37 @@
+-- A block's limits, and reading at each of them: request One, "Five requests are plenty".
+use mathlib.Core.Path.{_≡_}
+use mathlib.Core.List.{[], _∷_, _++_}
+use Prim.Native.Nat.{ℕ}
+use lib.ListN.{length, take, replicate}
+use Rattle.base.specs.Bytes.{Bytes}
+use Rattle.base.specs.List.{listBelow}
+use Rattle.answer.specs.declared.Answer.{Answer}
+use Rattle.answer.specs.Checks.{success, refused}
+use Rattle.block.specs.Limits.{maxReferences, maxRequests, maxRequestListSize, maxBlockSize}
+use Rattle.block.specs.Reading.{reading, answerOf}
+use Rattle.cases.specs.Toy.{toy, request, block}
+use Rattle.cases.specs.Blocks.{numbered, fullyReferring}
+
+-- what reading answers
+abbrev pub read : Bytes → Answer
+read b = answerOf (reading b)
+
+pub record ReadingCases : Type 0 where
+  -- "Make 5 the limit. A block is then at most 532 bytes, a request list at most 15"
+  pub mostRequests : maxRequests ≡ 5
+  pub longestBlock : maxBlockSize ≡ 532
+  pub longestList : maxRequestListSize ≡ 15
+  -- "block under 5 bytes"
+  pub fourBytes : read (replicate 4 0) ≡ refused 3 0
+  pub fiveBytes : read (replicate 5 0) ≡ success 0
+  -- 16 references: with five requests, in 532 bytes; with six; with eight, in 541 bytes
+  pub fiveRequests : (length (fullyReferring 5) ≡ 532) × (read (fullyReferring 5) ≡ success 0)
+  pub sixRequests : read (fullyReferring 6) ≡ refused 3 0
+  pub eightRequests : (length (fullyReferring 8) ≡ 541) × (read (fullyReferring 8) ≡ refused 3 0)
+  -- a byte less than the two counts give, and one more: 533 bytes
+  pub byteLess : read (take 531 (fullyReferring 5)) ≡ refused 3 0
+  pub byteMore : read (fullyReferring 5 ++ (0 ∷ [])) ≡ refused 3 0
+  -- six requests and no reference; 17 references and no request
+  pub sixAlone : read (block 0 0 [] (listBelow (λ i. request i 1) 6)) ≡ refused 3 0
+  pub mostReferences : maxReferences ≡ 16
+  pub seventeenAlone : read (block 0 0 (listBelow (λ i. toy (numbered i)) 17) []) ≡ refused 3 0
