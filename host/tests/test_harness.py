@@ -38,7 +38,7 @@ FEWEST_MET = {"groups with the premises met at some site": 3_000, "met with fork
 SHELVED = ["shelves in form", "shelves not in form", "shelves with each bit flipped in turn",
            *(f"broken alone: {rule}" for rule in (
                "the buffer has a shelf's length", "the count is up to 16", "entries from the count on are zero",
-               "a waiting block is no longer than a block can be", "the reader accepts each waiting block", "behind a block there are zeros",
+               "a waiting block fits its entry", "the reader accepts each waiting block", "behind a block there are zeros",
                "campaigns are up to 3", "no campaign has the same bytes waiting twice",
                "the free places cover what the campaigns lack of their 2")),
            *(f"arrivals that let in {blocks} waiting" for blocks in range(1, 11)),

@@ -8,7 +8,7 @@ use crate::model::sizes::{CAMPAIGNS, MAX_BLOCK_BYTES, MOST_HELD, RESERVED, SHELF
 pub const LENGTH: &str = "the buffer has a shelf's length";
 pub const COUNT: &str = "the count is up to 16";
 pub const REST_ZERO: &str = "entries from the count on are zero";
-pub const BLOCK_LENGTH: &str = "a waiting block is no longer than a block can be";
+pub const BLOCK_LENGTH: &str = "a waiting block fits its entry";
 pub const READ: &str = "the reader accepts each waiting block";
 pub const ZEROS_BEHIND: &str = "behind a block there are zeros";
 pub const CAMPAIGN: &str = "campaigns are up to 3";
