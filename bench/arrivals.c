@@ -103,8 +103,7 @@ int main(void)
     waiting_chain = chain_of(&busy);
 
     puts("Arrivals at a controller whose shelf is full: the proved one (ours) against C, each with its own tables and shelf.");
-    puts(
-        "16 blocks of the greatest length wait, ten for campaign 0 and two for each other. Campaign 0 has 16 sites and holds 53 blocks.");
+    puts("16 longest blocks wait, ten for campaign 0 and two for each other. Campaign 0 has 16 sites and holds 53 blocks.");
     puts("The ten refer to 15 of these and each to the one before, the first to the block that arrives and lets in all ten: in");
     puts("one pass if they came in their order, in ten if they came last first. The block answered 20 is the last of the ten.");
     puts("In an arrival C checks the table's form once, and reads and digests each waiting block once for all passes.");

@@ -225,9 +225,8 @@ int main(void)
     measured[ORDINARY] = ordinary_campaign();
 
     puts("An arrival as the table fills: the campaign's next block is admitted and interpreted. The proved core (ours) against");
-    puts(
-        "C, and against gt_digest of the longest block. At a full table the block that site 0 would build next is refused with 11.");
-    puts("Blocks of the first round have no references: in the busy campaign the one that comes when 8 are held.");
+    puts("C, and against gt_digest of the longest block. At a full table the block that site 0 would build next is refused");
+    puts("with 11. Blocks of the first round have no references: in the busy campaign the one that comes when 8 are held.");
     puts("Before timing, each arrival is made at both; the answers, the tables and all 20,480 numbers of the records are");
     puts("compared.");
     printf("Measured in CPU time: medians of %d repetitions, each a batch of %d calls of each in turn, after a batch of each\n",

@@ -123,10 +123,9 @@ static void compare_row(const row *timed)
 int main(void)
 {
     puts("The join of two tables of 32 blocks with their records: the proved one (ours) against C, and against gt_digest of the");
-    puts(
-        "longest block. 7 sites build in rounds, each block on all of the round before; blocks that both sides hold are of all sites,");
-    puts("and stand in another order on the right. Then the left goes on with sites 0 to 3, the right with the others. All");
-    puts("blocks are interpreted on their sides, so that each takes a part of 640 bytes to the third buffer.");
+    puts("longest block. 7 sites build in rounds, each block on all of the round before; blocks that both sides hold are of");
+    puts("all sites, and stand in another order on the right. Then the left goes on with sites 0 to 3, the right with the");
+    puts("others. All blocks are interpreted on their sides, so that each takes a part of 640 bytes to the third buffer.");
     printf("Before timing, both get these pairs and %d random ones, changed ones among them; all answers, tables and third\n",
            RANDOM_PAIRS);
     puts("buffers are compared.");

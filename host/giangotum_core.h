@@ -32,7 +32,7 @@ extern "C" {
 #define GT_TABLE_COUNT 10
 #define GT_TABLE_ROWS 11
 /* Bytes of a row, and where its fields begin behind the digest: the site; the sequence number, high byte first; the places
- * referred to, low byte first; the eight requests, high byte first; 1 if the place is interpreted, 0 if not. */
+ * referred to, low byte first; the counted request of each slot, high byte first; 1 if the place is interpreted, 0 if not. */
 #define GT_ROW_BYTES 60
 #define GT_ROW_SITE 32
 #define GT_ROW_SEQUENCE 33

@@ -1,5 +1,6 @@
 """Each header by itself compiles as C and as C++, with warnings as errors, and its constants agree with each other."""
 
+import headers
 from programs import ROOT, output_of
 
 # Calls of each header, so that what it declares can be used.
@@ -44,6 +45,14 @@ def test_cpp():
         compiles("g++", "c++", standard)
 
 
-def test_the_constants_agree():
-    source = f'#include "{ROOT / "host" / "giangotum_core.h"}"\n' + "".join(f'_Static_assert({a}, "{a}");\n' for a in AGREEMENTS)
+def expect_equations(equations):
+    source = f'#include "{ROOT / "host" / "giangotum_core.h"}"\n' + "".join(f'_Static_assert({e}, "{e}");\n' for e in equations)
     output_of(["gcc", "-x", "c", "-std=c11", *WARNINGS, "-"], source.encode())
+
+
+def test_the_constants_agree():
+    expect_equations(AGREEMENTS)
+
+
+def test_the_documents_have_the_values_of_the_compiler():
+    expect_equations(f"{name} == {value}" for name, value in headers.constants().items())

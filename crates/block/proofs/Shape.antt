@@ -50,7 +50,7 @@ module _ (b : Bytes) (p : ℕ) (e : p ≡ referenceCount b) where
   request-part = rest-part b middle ∙ ap (λ (n : ℕ). drop (headerSize + referenceSize * n) b) e
 
 module _ (b : Bytes) (s : Shaped b) where
-  -- no block is longer than the longest
+  -- what passes check 3 is within the limit of a block's length
   pub at-most : length b ≤ maxBlockSize
   at-most = omega arith
 

@@ -1,5 +1,5 @@
--- Cases of document 01's rules, of the rules of requests Three, Eight, Eleven and Twelve, and of bytes written out: how a case is written down, how
--- it is run, and what each case gives. A reader need not believe them: they are computed from the definitions.
+-- Cases of document 01's rules, of the rules of requests One, Three, Eight, Eleven and Twelve, and of bytes written out: how a case is written down,
+-- how it is run, and what each case gives. A reader need not believe them: they are computed from the definitions.
 pub mod Toy
 pub mod Run
 pub mod Blocks

@@ -26,6 +26,7 @@ b for c = record { campaign = c; block = b }
 unfoldable pub lackingReference : ℕ → Bytes
 lackingReference i = block 2 0 (toy stranger ∷ []) (request 0 (i + 1) ∷ [])
 
+-- a block that is as long as a block can be
 abbrev pub longest : Bytes
 longest = fullyReferring maxRequests
 
