@@ -30,7 +30,7 @@ static uint16_t our_records[GT_RECORDS_NUMBERS], c_records[GT_RECORDS_NUMBERS];
 static built_block next_of(const campaign *c, size_t held)
 {
     const built_block *last = &c->blocks[LAST_PLACE];
-    size_t requests = 3u * last->bytes[4];
+    size_t requests = (size_t)GT_REQUEST_BYTES * last->bytes[4];
 
     return held < GT_MAX_PLACES ? c->blocks[held] : build_next(our_kept, 0, last->bytes + last->length - requests, requests);
 }

@@ -67,9 +67,10 @@ def corrected(page, sentence, values):
 
 
 def main():
+    values = figures()
     for name, sentence in SENTENCES:
         path = ROOT / name
-        path.write_text(corrected(path.read_text(encoding="utf-8"), sentence, figures()), encoding="utf-8")
+        path.write_text(corrected(path.read_text(encoding="utf-8"), sentence, values), encoding="utf-8")
 
 
 if __name__ == "__main__":

@@ -25,7 +25,7 @@ static const uint8_t empty_digest[GT_DIGEST_BYTES] = {
 /* ---- Blocks */
 
 typedef struct {
-    uint8_t bytes[600]; /* room for blocks that are too long */
+    uint8_t bytes[GT_MAX_BLOCK_BYTES + GT_DIGEST_BYTES]; /* room for a reference too many */
     size_t length;
 } block;
 

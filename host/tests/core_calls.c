@@ -260,18 +260,6 @@ static void check_table_refused(void)
     check("admission: 2 before 3", refused(t, of_length(first_block(), 4), 2, 0));
 }
 
-/* A block with this many references, none of which is held, and this many requests. */
-static block block_with(uint8_t references, uint8_t requests)
-{
-    block b = block_of(2, 0);
-
-    for (uint8_t i = 0; i < references; i++)
-        b = with_reference(b, not_held(i));
-    for (uint8_t i = 0; i < requests; i++)
-        b = with_request(b, i % GT_SLOTS, 1);
-    return b;
-}
-
 static void check_block_refused(void)
 {
     table t = with_two_blocks(), before = t;

@@ -51,16 +51,6 @@ static block longest_lost_block(uint16_t number)
     return b;
 }
 
-/* One that has so many requests and refers to nothing. */
-static block asking_block(uint8_t requests)
-{
-    block b = block_of(0, 0);
-
-    for (uint8_t slot = 0; slot < requests; slot++)
-        b = with_request(b, slot, 1);
-    return b;
-}
-
 /* How many places each campaign holds. */
 typedef struct {
     size_t of[GT_CAMPAIGNS];
@@ -676,8 +666,8 @@ static void check_blocks_in_form(void)
     check("shelf, a block with a byte more", !in_form(of_block(of_length(b, b.length + 1))));
     check("shelf, a block of 4 bytes", !in_form(of_block(of_length(first, 4))));
     check("shelf, a block of 0 bytes", !in_form(of_block(of_length(first, 0))));
-    check("shelf, the most requests", in_form(of_block(asking_block(GT_MAX_REQUESTS))));
-    check("shelf, a request too many", !in_form(of_block(asking_block(GT_MAX_REQUESTS + 1))));
+    check("shelf, the most requests", in_form(of_block(block_with(0, GT_MAX_REQUESTS))));
+    check("shelf, a request too many", !in_form(of_block(block_with(0, GT_MAX_REQUESTS + 1))));
     check("shelf, slot 8", !in_form(of_block(with_request(first, 8, 1))));
     check("shelf, number 0", !in_form(of_block(with_request(first, 7, 0))));
     check("shelf, a reference twice", !in_form(of_block(repeated)));

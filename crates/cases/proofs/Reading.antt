@@ -10,6 +10,7 @@ readingCases =
       mostRequests = refl;
       longestBlock = refl;
       longestList = refl;
+      mostReferences = refl;
       fourBytes = refl;
       fiveBytes = refl;
       fiveRequests = (refl, refl);
@@ -18,6 +19,5 @@ readingCases =
       byteLess = refl;
       byteMore = refl;
       sixAlone = refl;
-      mostReferences = refl;
       seventeenAlone = refl;
     }

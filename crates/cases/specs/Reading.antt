@@ -1,4 +1,4 @@
--- A block's limits, and reading at each of them: request One, "Five requests are plenty".
+-- Document 01, "The block", with the limits of request One: the limits, and reading at each of them.
 use mathlib.Core.Path.{_≡_}
 use mathlib.Core.List.{[], _∷_, _++_}
 use Prim.Native.Nat.{ℕ}
@@ -21,6 +21,8 @@ pub record ReadingCases : Type 0 where
   pub mostRequests : maxRequests ≡ 5
   pub longestBlock : maxBlockSize ≡ 532
   pub longestList : maxRequestListSize ≡ 15
+  -- "p over 16"
+  pub mostReferences : maxReferences ≡ 16
   -- "block under 5 bytes"
   pub fourBytes : read (replicate 4 0) ≡ refused 3 0
   pub fiveBytes : read (replicate 5 0) ≡ success 0
@@ -33,5 +35,4 @@ pub record ReadingCases : Type 0 where
   pub byteMore : read (fullyReferring 5 ++ (0 ∷ [])) ≡ refused 3 0
   -- six requests and no reference; 17 references and no request
   pub sixAlone : read (block 0 0 [] (listBelow (λ i. request i 1) 6)) ≡ refused 3 0
-  pub mostReferences : maxReferences ≡ 16
   pub seventeenAlone : read (block 0 0 (listBelow (λ i. toy (numbered i)) 17) []) ≡ refused 3 0

@@ -108,9 +108,9 @@ fn show_shortest() {
 
 fn show_longest() {
     let b = full();
-    show_front(b"the longest but a byte", b, MAX_BLOCK_SIZE - 1);
-    show_front(b"the longest", b, MAX_BLOCK_SIZE);
-    show_front(b"the longest and a byte", b, MAX_BLOCK_SIZE + 1);
+    show_front(b"p 16, r 5, a byte less", b, MAX_BLOCK_SIZE - 1);
+    show_front(b"p 16, r 5", b, MAX_BLOCK_SIZE);
+    show_front(b"p 16, r 5, a byte more", b, MAX_BLOCK_SIZE + 1);
 }
 
 // Shows a block of the most references and r requests.
@@ -125,7 +125,6 @@ fn show_requesting(name: &[u8], r: u8) {
 fn show_counts() {
     show_front(b"p 17, r 0", with_counts(full(), 17, 0), ROOM);
     show_requesting(b"p 16, r 0", 0);
-    show_requesting(b"p 16, r 5", 5);
     show_requesting(b"p 16, r 6", 6);
     show_requesting(b"p 16, r 8", 8);
     show(

@@ -204,7 +204,7 @@ pub const MISTAKES: &[Mistake] = &[
         };
         m.model.form.push(Condition { name: "no forks", holds: differ });
     }),
-    ("form: a place has no more requests than a block", |m| {
+    ("form: more requests than a block has don't pass", |m| {
         m.model.form.push(Condition {
             name: "few requests",
             holds: |table| every(table, |_, row| requested(row) <= MAX_REQUESTS),
