@@ -2,12 +2,12 @@
 -- check holds. Assumes nothing.
 use mathlib.Core.Path.{_≡_, refl, sym, ap, _∙_, subst}
 use mathlib.Core.Bool.{Bool, true, false}
-use mathlib.Core.Logic.{_↔_, _⊎_, inl, inr, Iff·rfl, Iff·trans, Iff·and}
+use mathlib.Core.Logic.{_↔_, _≢_, _⊎_, inl, inr, Iff·rfl, Iff·trans, Iff·and}
 use mathlib.Core.List.{List, [], _∷_, _++_}
-use Prim.Native.Nat.{ℕ, _<_}
+use Prim.Native.Nat.{ℕ, _+_, _<_}
 use native.Mathlib.Omega.{arith}
 use lib.Dec.{eqb, ltb}
-use lib.ListN.{drop}
+use lib.ListN.{length, take, drop}
 use borrow.Author.Tests.{eq-eqb, ne-eqb, eqb-true, eqb-false, lt-ltb, le-ltb, ltb-true, ltb-false}
 use Rattle.base.specs.Search.{firstBelow, anyBelow, First}
 use Rattle.base.specs.List.{someIn}
@@ -18,15 +18,14 @@ use Rattle.base.proofs.Bytes.{same-equal, equal-same}
 use Rattle.answer.specs.declared.Answer.{Answer}
 use Rattle.answer.specs.Checks.{Check, check, answerTo}
 use Rattle.answer.specs.Promises.{FirstHold, elsewhere, different, Decided}
-use Rattle.answer.proofs.Checks.{value-of, first-holds, first-fails, same-rest, valuedOnly, no-value, absent, present, missed}
-use Rattle.answer.proofs.Promises.{first-refused, second-refused, asOne, in-line, decided}
+use Rattle.answer.proofs.Checks.{number-of, value-of, first-holds, first-fails, same-rest, valuedOnly, no-value, absent, present, missed}
+use Rattle.answer.proofs.Promises.{both-hold, decides, first-refused, second-refused, asOne, in-line, handed-on, decided}
 use Rattle.setup.specs.Setup.{Setup}
 use Rattle.block.specs.Layout.{siteOf, referenceCount, referenceList, referenceAt}
 use Rattle.block.specs.Reading.{wellShaped, fieldsOf, reading, answerOf}
-use Rattle.block.specs.declared.Reading.{Reading}
-use Rattle.block.specs.declared.Reading.the-variants.{Block, Misshapen, BadRequest, RepeatedReference}
+use Rattle.block.specs.declared.Reading.the-variants.{Block}
 use Rattle.block.proofs.Shape.{shaped, well-shaped}
-use Rattle.block.proofs.Acceptance.{reading-accepted}
+use Rattle.block.proofs.Acceptance.{number-accepted}
 use Rattle.block.proofs.Causes as reader
 use Rattle.table.specs.View.{maxPlaces, View}
 use Rattle.table.specs.Layout.{setupOf, countOf, viewOf}
@@ -63,40 +62,30 @@ module _ (t b : Bytes) where
   missing-first : ReferenceMissing t b → First (MissingAt t b) (firstBelow (missing (viewOf t) b) (referenceCount b))
   missing-first m = first-such (missing (viewOf t) b) (referenceCount b) (MissingAt t b) missing-means (reference-missing .1 m)
 
--- the reader's number is 0 where it accepts
-reader-accepts : (b : Bytes) → (answerOf (reading b) .refusal ≡ 0) ↔ (reading b ≡ Block (fieldsOf b))
-reader-accepts b = (go (reading b) refl, λ e. rw e)
-  where
-    go : (r : Reading) → reading b ≡ r → answerOf r .refusal ≡ 0 → reading b ≡ Block (fieldsOf b)
-    go (Block f) e z = e ∙ ap Block (reading-accepted b f e .fields)
-    go Misshapen e z = absurd (omega arith)
-    go (BadRequest i) e z = absurd (omega arith)
-    go (RepeatedReference i) e z = absurd (omega arith)
-
 -- a table in form that has no room holds 64
 full : (t : Bytes) → inForm t ≡ true → (ltb (countOf t) maxPlaces ≡ false) ↔ (countOf t ≡ maxPlaces)
 full t f = (λ e. omega (arith, ltb-false (countOf t) maxPlaces e, table-form t f .held .fits), λ e. le-ltb (countOf t) maxPlaces (omega arith))
 
 -- ---- the checks in their order, each by itself
 
-module _ (digest : Bytes → Bytes) (formed : Bool) (s : Setup) (v : View) (b : Bytes) (verdict value : ℕ) where
-  -- the reader's checks after 3, and those of what is held
-  abbrev ownChecks : List Check
-  ownChecks = drop 1 (reader.checks b)
+-- the reader's checks after 3
+abbrev ownChecks : Bytes → List Check
+ownChecks b = drop 1 (reader.checks b)
 
+module _ (digest : Bytes → Bytes) (formed : Bool) (s : Setup) (v : View) (b : Bytes) (verdict value : ℕ) where
   abbrev held : List Check
   held = heldChecks digest v b
 
   abbrev pub checks : List Check
-  checks = check 2 formed 0 ∷ check 3 (wellShaped b) 0 ∷ check 4 (ltb (siteOf b) (s .sites)) 0 ∷ check 5 (eqb verdict 1) 0 ∷ (ownChecks ++ held)
+  checks = check 2 formed 0 ∷ check 3 (wellShaped b) 0 ∷ check 4 (ltb (siteOf b) (s .sites)) 0 ∷ check 5 (eqb verdict 1) 0 ∷ (ownChecks b ++ held)
 
   pub by-checks : answerTo (admissionChecks digest formed s v b verdict) value ≡ answerTo checks value
   unfolding different elsewhere
   by-checks =
       same-rest _ _ _ _ (by-test (wellShaped b)
       (λ y.
-      let own : answerOf (reading b) ≡ answerTo ownChecks 0 = reader.by-checks b ∙ first-holds _ _ 0 y in
-      same-rest _ _ _ _ (same-rest _ _ _ _ (same-rest _ _ _ _ (ap (λ (a : Answer). answerTo (asOne a ∷ held) value) own ∙ in-line ownChecks held value refl))))
+      let own : answerOf (reading b) ≡ answerTo (ownChecks b) 0 = reader.by-checks b ∙ first-holds _ _ 0 y in
+      same-rest _ _ _ _ (same-rest _ _ _ _ (same-rest _ _ _ _ (ap (λ (a : Answer). answerTo (asOne a ∷ held) value) own ∙ in-line (ownChecks b) held value refl))))
       (λ f. first-fails _ _ _ f ∙ sym (first-fails _ _ _ f)))
 
   pub decided-by : Decided (answerTo (admissionChecks digest formed s v b verdict) value) checks value
@@ -126,34 +115,53 @@ module _ (digest : Bytes → Bytes) (t b : Bytes) (verdict : ℕ) where
   vouched : FirstHold all 4 ↔ Vouched t b verdict
   vouched = (λ p. record { ofSite = of-site .0 (p .0); link = eqb-true _ _ (p .1) }, λ v. (of-site .1 (v .ofSite), eq-eqb _ _ (v .link)))
 
-  -- a block that is vouched for has the shape that the reader's checks 6 and 7 want
-  shape-of : Vouched t b verdict → FirstHold (reader.checks b) 1
-  shape-of v = (tt, well-shaped b (v .ofSite .blockShaped .shape))
+  -- the checks before the reader's, the reader's, those on what is held, and the place of the first of these
+  abbrev front : List Check
+  front = take 4 all
 
-  readable : FirstHold all 6 ↔ Readable t b verdict
-  readable = (
-    λ p.
-        let v = vouched .0 (p .0 .0) in
-        let o = v .ofSite in
-        let accepted = reader-accepts b .0 (reader.told b .none .1 ((shape-of v, p .0 .1), p .1)) in
-        record { formed = o .blockShaped .formed; site = o .site; link = v .link; accepted = accepted },
-    λ r.
-        let q = reader.told b .none .0 (reader-accepts b .1 (r .accepted)) in
-        let w : BlockShaped t b = record { formed = r .formed; shape = shaped b (q .0 .0 .1) } in
-        ((vouched .1 (record { ofSite = record { blockShaped = w; site = r .site }; link = r .link }), q .0 .1), q .1),
-  )
+  abbrev own : List Check
+  own = ownChecks b
 
-  new : FirstHold all 7 ↔ New digest t b verdict
+  abbrev onHeld : List Check
+  onHeld = heldChecks digest (viewOf t) b
+
+  abbrev behind : ℕ
+  behind = 4 + length own
+
+  -- the reader accepts where its checks hold, of which 3 is admission's too
+  accepted : ((wellShaped b ≡ true) × FirstHold own (length own)) ↔ (reading b ≡ Block (fieldsOf b))
+  accepted =
+      let shape-first = both-hold (take 1 (reader.checks b)) own (length own) (1 + length own) refl in
+      Iff·trans
+      (λ p. reader.told b .none .1 (shape-first .1 ((tt, p .0), p .1)), λ e. let p = shape-first .0 (reader.told b .none .0 e) in (p .0 .1, p .1))
+      (number-accepted b)
+
+  readable : FirstHold all behind ↔ Readable t b verdict
+  readable =
+      let halves = both-hold front (own ++ onHeld) (length own) behind refl in
+      let rest = both-hold own onHeld 0 (length own) refl in (
+        λ p.
+            let q = halves .0 p in
+            let v = vouched .0 (q .0) in
+            let o = v .ofSite in
+            record { formed = o .blockShaped .formed; site = o .site; link = v .link; accepted = accepted .0 (well-shaped b (o .blockShaped .shape), rest .0 (q .1) .0) },
+        λ r.
+            let q = accepted .1 (r .accepted) in
+            let w : BlockShaped t b = record { formed = r .formed; shape = shaped b (q .0) } in
+            halves .1 (vouched .1 (record { ofSite = record { blockShaped = w; site = r .site }; link = r .link }), rest .1 (q .1, tt)),
+      )
+
+  new : FirstHold all (behind + 1) ↔ New digest t b verdict
   new =
       let here = absent _ _ (digest-held t (digest b)) in
       (λ p. record { readable = readable .0 (p .0); new = here .0 (p .1) }, λ n. (readable .1 (n .readable), here .1 (n .new)))
 
-  linked : FirstHold all 8 ↔ Linked digest t b verdict
+  linked : FirstHold all (behind + 2) ↔ Linked digest t b verdict
   linked =
       let here = absent _ _ (reference-missing t b) in
       (λ p. record { isNew = new .0 (p .0); found = here .0 (p .1) }, λ l. (new .1 (l .isNew), here .1 (l .found)))
 
-  parented : FirstHold all 9 ↔ Parented digest t b verdict
+  parented : FirstHold all (behind + 3) ↔ Parented digest t b verdict
   parented = (λ p. record { linked = linked .0 (p .0); parent = p .1 }, λ q. (linked .1 (q .linked), q .parent))
 
   -- ---- each number
@@ -164,51 +172,54 @@ module _ (digest : Bytes → Bytes) (t b : Bytes) (verdict : ℕ) where
   abbrev value : ℕ
   value = answer digest t b verdict .value
 
-  six : (number ≡ 6) ↔ (Vouched t b verdict × (read .refusal ≡ 6))
-  six = Iff·trans (told .refused 4 (omega arith)) (
-    λ p. let v = vouched .0 (p .0) in (v, reader.told b .refused 1 (omega arith) .1 (shape-of v, p .1)),
-    λ p. (vouched .1 (p .0), reader.told b .refused 1 (omega arith) .0 (p .1) .1),
-  )
+  -- a number that only the reader has is handed on from it, with its value
+  module _ (n : ℕ) (f : elsewhere n front ≡ true) (h : elsewhere n onHeld ≡ true) where
+    of-reader : number ≡ n → FirstHold all 4 × (answer digest t b verdict ≡ read)
+    unfolding admission
+    of-reader = handed-on front onHeld read (countOf t) n f h
 
-  seven : (number ≡ 7) ↔ (Vouched t b verdict × (read .refusal ≡ 7))
-  seven = Iff·trans (told .refused 5 (omega arith)) (
-    λ p. let v = vouched .0 (p .0 .0) in (v, reader.told b .refused 2 (omega arith) .1 ((shape-of v, p .0 .1), p .1)),
-    λ p. let q = reader.told b .refused 2 (omega arith) .0 (p .1) in ((vouched .1 (p .0), q .0 .1), q .1),
-  )
+    by-reader : n ≢ 0 → (number ≡ n) ↔ (Vouched t b verdict × (read .refusal ≡ n))
+    unfolding admission
+    by-reader z = (
+      λ e. let p = of-reader e in (vouched .0 (p .0), sym (number-of (p .1)) ∙ e),
+      λ p. number-of (decides (admissionChecks digest (inForm t) (setupOf t) (viewOf t) b verdict) (countOf t) 4 (omega arith) (vouched .1 (p .0)) (ne-eqb _ 0 (λ e. z (sym (p .1) ∙ e)))) ∙ p .1,
+    )
 
   eight : (number ≡ 8) ↔ (Readable t b verdict × DigestHeld t (digest b))
-  eight = Iff·trans (told .refused 6 (omega arith)) (Iff·and readable (present _ _ (digest-held t (digest b))))
+  eight = Iff·trans (told .refused behind (omega arith)) (Iff·and readable (present _ _ (digest-held t (digest b))))
 
   nine : (number ≡ 9) ↔ (New digest t b verdict × ReferenceMissing t b)
-  nine = Iff·trans (told .refused 7 (omega arith)) (Iff·and new (present _ _ (reference-missing t b)))
+  nine = Iff·trans (told .refused (behind + 1) (omega arith)) (Iff·and new (present _ _ (reference-missing t b)))
 
   pub causes : Causes digest t b verdict
-  unfolding admission valuedOnly someIn
+  unfolding admission elsewhere valuedOnly someIn
   causes =
       record {
         two = first-refused told;
         three = Iff·trans (second-refused told) (Iff·and Iff·rfl (missed _ _ (shaped b, well-shaped b)));
         four = Iff·trans (told .refused 2 (omega arith)) (Iff·and whole (ltb-false _ _, le-ltb _ _));
         five = Iff·trans (told .refused 3 (omega arith)) (Iff·and of-site (eqb-false _ _, ne-eqb _ _));
-        six = six;
-        seven = seven;
+        six = by-reader 6 refl refl (λ z. omega arith);
+        eighteen = by-reader 18 refl refl (λ z. omega arith);
+        seven = by-reader 7 refl refl (λ z. omega arith);
         index = index;
         eight = eight;
-        heldPlace = λ e. subst (First (HeldAt t (digest b))) (sym (told .valued 6 (omega arith) e)) (held-first t (digest b) (eight .0 e .1));
+        heldPlace = λ e. subst (First (HeldAt t (digest b))) (sym (told .valued behind (omega arith) e)) (held-first t (digest b) (eight .0 e .1));
         nine = nine;
-        firstMissing = λ e. subst (First (MissingAt t b)) (sym (told .valued 7 (omega arith) e)) (missing-first t b (nine .0 e .1));
-        ten = Iff·trans (told .refused 8 (omega arith)) (Iff·and linked (missed _ _ Iff·rfl));
-        eleven = Iff·trans (told .refused 9 (omega arith))
+        firstMissing = λ e. subst (First (MissingAt t b)) (sym (told .valued (behind + 1) (omega arith) e)) (missing-first t b (nine .0 e .1));
+        ten = Iff·trans (told .refused (behind + 2) (omega arith)) (Iff·and linked (missed _ _ Iff·rfl));
+        eleven = Iff·trans (told .refused (behind + 3) (omega arith))
             (λ p. let q = parented .0 (p .0) in (q, full t (formed q) .0 (p .1)), λ p. (parented .1 (p .0), full t (formed (p .0)) .1 (p .1)));
         none = Iff·trans (told .none) (Iff·and parented (ltb-true _ _, lt-ltb _ _));
         place = told .returned;
-        noValue = λ z r q p i. value-of is-decided ∙ no-value (0 ∷ 6 ∷ 7 ∷ 8 ∷ 9 ∷ []) all (countOf t) refl
-            (rw (← is-decided, ne-eqb number 0 z, ne-eqb number 6 r, ne-eqb number 7 q, ne-eqb number 8 p, ne-eqb number 9 i));
+        noValue = λ z r s q p i. value-of is-decided ∙ no-value (0 ∷ 6 ∷ 18 ∷ 7 ∷ 8 ∷ 9 ∷ []) all (countOf t) refl
+            (rw (← is-decided, ne-eqb number 0 z, ne-eqb number 6 r, ne-eqb number 18 s, ne-eqb number 7 q, ne-eqb number 8 p, ne-eqb number 9 i));
       }
     where
-      index : (number ≡ 6) ⊎ (number ≡ 7) → value ≡ read .value
-      index (inl e) = told .valued 4 (omega arith) e ∙ sym (reader.told b .valued 1 (omega arith) (six .0 e .1))
-      index (inr e) = told .valued 5 (omega arith) e ∙ sym (reader.told b .valued 2 (omega arith) (seven .0 e .1))
+      index : (number ≡ 6) ⊎ ((number ≡ 18) ⊎ (number ≡ 7)) → value ≡ read .value
+      index (inl e) = value-of (of-reader 6 refl refl e .1)
+      index (inr (inl e)) = value-of (of-reader 18 refl refl e .1)
+      index (inr (inr e)) = value-of (of-reader 7 refl refl e .1)
 
       is-decided : answer digest t b verdict ≡ answerTo all (countOf t)
       is-decided = by-checks digest (inForm t) (setupOf t) (viewOf t) b verdict (countOf t)

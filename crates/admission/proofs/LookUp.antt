@@ -5,13 +5,13 @@ use mathlib.Core.Bool.{Bool, true, false, not}
 use Prim.Native.Nat.{ℕ, _+_, _*_, _%_, _^_, _≤_, _<_}
 use native.Mathlib.Omega.{arith}
 use lib.Bits.{bitOr}
-use lib.Dec.{eqb, ltb}
-use borrow.Author.Tests.{eq-eqb, eqb-true, lt-ltb, le-ltb}
+use lib.Dec.{eqb}
+use borrow.Author.Tests.{eq-eqb, eqb-true}
 use Rattle.base.specs.Search.{anyBelow}
 use Rattle.base.specs.Mask.{maskBelow}
 use Rattle.base.specs.Bytes.{Bytes, sameBytes}
 use Rattle.base.proofs.Tests.{same-tests}
-use Rattle.base.proofs.Search.{first-passes, first-before}
+use Rattle.base.proofs.Search.{first-passes, first-before, any-found, any-missed}
 use Rattle.base.proofs.Sets.{some-put, some-skip}
 use Rattle.base.proofs.Bytes.{same-equal, equal-same, other-same, same-other}
 use Rattle.block.specs.Layout.{referenceAt}
@@ -60,9 +60,7 @@ absent t k list i = not (anyBelow (hasDigest (viewOf t) (referenceAt list i)) k)
 -- what the place found says of it
 module _ (t : Bytes) (k : ℕ) (list : Bytes) (i place : ℕ) (e : place ≡ placeOf (viewOf t) k (referenceAt list i)) where
   pub is-absent : k ≤ place → absent t k list i ≡ true
-  unfolding anyBelow
-  is-absent h = ap (λ (n : ℕ). not (ltb n k)) (sym e) ∙ ap not (le-ltb place k h)
+  is-absent h = ap not (any-missed _ place k e h)
 
   pub is-there : place < k → absent t k list i ≡ false
-  unfolding anyBelow
-  is-there h = ap (λ (n : ℕ). not (ltb n k)) (sym e) ∙ ap not (lt-ltb place k h)
+  is-there h = ap not (any-found _ place k e h)

@@ -1,19 +1,19 @@
--- Document 01, "The table" and rows 2 to 11 of "What is turned down": what admission answers, and what it leaves. The checks are made over a view, so
--- that the ledger of crates/run makes the same checks; `digest` is SHA-256 in every contract.
+-- Document 01, "The table" and rows 2 to 11 of "What is turned down", and request Two's 18: what admission answers, and what it leaves. The checks are
+-- made over a view, so that the ledger of crates/run makes the same checks; `digest` is SHA-256 in every contract.
 use mathlib.Core.Bool.{Bool, cond, not, _&&_}
 use mathlib.Core.List.{List, [], _∷_}
 use Prim.Native.Nat.{ℕ}
 use lib.Dec.{eqb, ltb}
-use Rattle.base.specs.Search.{firstBelow, anyBelow}
+use Rattle.base.specs.Search.{anyBelow}
 use Rattle.base.specs.Bytes.{Bytes, sameBytes}
 use Rattle.answer.specs.declared.Answer.{Answer}
-use Rattle.answer.specs.Checks.{Check, check, answerTo}
+use Rattle.answer.specs.Checks.{Check, check, checkNone, answerTo}
 use Rattle.setup.specs.Setup.{Setup}
 use Rattle.block.specs.Layout.{siteOf, sequenceOf, referenceCount, referenceList, referenceAt, requestFor}
 use Rattle.block.specs.Reading.{wellShaped, reading, answerOf}
 use Rattle.table.specs.View.{maxPlaces, Row, View}
 use Rattle.table.specs.Layout.{setupOf, countOf, viewOf, withRow}
-use Rattle.table.specs.Rules.{hasDigest, placeOf, parentRule}
+use Rattle.table.specs.Rules.{hasDigest, parentRule}
 use Rattle.table.specs.Form.{inForm}
 
 -- the digest d is among the references of the block b
@@ -42,13 +42,14 @@ module _ (digest : Bytes → Bytes) where
   -- 8: digest held, with its place; 9: reference not held, with the index of the first such reference; 10: parent rule broken; 11: 64 held
   abbrev pub heldChecks : View → Bytes → List Check
   heldChecks v b =
-      check 8 (not (anyBelow (hasDigest v (digest b)) (v .held))) (placeOf v (v .held) (digest b))
-      ∷ check 9 (not (anyBelow (missing v b) (referenceCount b))) (firstBelow (missing v b) (referenceCount b))
+      checkNone 8 (hasDigest v (digest b)) (v .held)
+      ∷ checkNone 9 (missing v b) (referenceCount b)
       ∷ check 10 (parentRule v (v .held) (rowFor v b)) 0
       ∷ check 11 (ltb (v .held) maxPlaces) 0
       ∷ []
 
-  -- 2: table not in form; 3: no block; 4: site not below n; 5: link verdict not 1; then the reader's 6 and 7, and the checks 8 to 11 on what is held
+  -- 2: table not in form; 3: no block; 4: site not below n; 5: link verdict not 1; then the reader's 6, 18 and 7, and the checks 8 to 11 on what is
+  -- held
   abbrev pub admissionChecks : Bool → Setup → View → Bytes → ℕ → List Check
   admissionChecks formed s v b verdict =
       check 2 formed 0

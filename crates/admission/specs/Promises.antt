@@ -30,7 +30,7 @@ pub record Vouched (t b : Bytes) (verdict : ℕ) : Type 0 where
   pub ofSite : OfSite t b
   pub link : verdict ≡ 1
 
--- checks 2 to 7 hold; a block that the reader accepts has passed checks 3, 6 and 7
+-- checks 2 to 7 and 18 hold; a block that the reader accepts has passed checks 3, 6, 18 and 7
 pub record Readable (t b : Bytes) (verdict : ℕ) : Type 0 where
   pub formed : inForm t ≡ true
   pub site : siteOf b < setupOf t .sites
@@ -58,7 +58,7 @@ module _ (digest : Bytes → Bytes) where
   abbrev pub ParentRule : Bytes → Bytes → Type 0
   ParentRule t b = parentRule (viewOf t) (countOf t) (rowFor digest (viewOf t) b) ≡ true
 
-  -- New: checks 2 to 8 hold. Linked: check 9 holds too. Parented: check 10 holds too
+  -- New: check 8 holds too. Linked: check 9 holds too. Parented: check 10 holds too
   pub record New (t b : Bytes) (verdict : ℕ) : Type 0 where
     pub readable : Readable t b verdict
     pub new : DigestHeld t (digest b) → ⊥
@@ -81,10 +81,11 @@ module _ (digest : Bytes → Bytes) where
       pub three : (answer .refusal ≡ 3) ↔ ((inForm t ≡ true) × (Shaped b → ⊥))
       pub four : (answer .refusal ≡ 4) ↔ (BlockShaped t b × (setupOf t .sites ≤ siteOf b))
       pub five : (answer .refusal ≡ 5) ↔ (OfSite t b × (verdict ≢ 1))
-      -- 6 and 7 are those of reading the block, with the index that reading gives
+      -- 6, 18 and 7 are those of reading the block, with the index that reading gives
       pub six : (answer .refusal ≡ 6) ↔ (Vouched t b verdict × (answerOf (reading b) .refusal ≡ 6))
+      pub eighteen : (answer .refusal ≡ 18) ↔ (Vouched t b verdict × (answerOf (reading b) .refusal ≡ 18))
       pub seven : (answer .refusal ≡ 7) ↔ (Vouched t b verdict × (answerOf (reading b) .refusal ≡ 7))
-      pub index : (answer .refusal ≡ 6) ⊎ (answer .refusal ≡ 7) → answer .value ≡ answerOf (reading b) .value
+      pub index : (answer .refusal ≡ 6) ⊎ ((answer .refusal ≡ 18) ⊎ (answer .refusal ≡ 7)) → answer .value ≡ answerOf (reading b) .value
       pub eight : (answer .refusal ≡ 8) ↔ (Readable t b verdict × DigestHeld t (digest b))
       -- "its place"
       pub heldPlace : answer .refusal ≡ 8 → First (HeldAt t (digest b)) (answer .value)
@@ -96,8 +97,9 @@ module _ (digest : Bytes → Bytes) where
       pub none : (answer .refusal ≡ 0) ↔ (Parented t b verdict × (countOf t < maxPlaces))
       -- a success has refusal 0, "with the place from admission"
       pub place : answer .refusal ≡ 0 → answer .value ≡ countOf t
-      -- beside a refusal that is none of 6, 7, 8 and 9 the value is 0
-      pub noValue : answer .refusal ≢ 0 → answer .refusal ≢ 6 → answer .refusal ≢ 7 → answer .refusal ≢ 8 → answer .refusal ≢ 9 → answer .value ≡ 0
+      -- beside a refusal that is none of 6, 18, 7, 8 and 9 the value is 0
+      pub noValue : answer .refusal ≢ 0 → answer .refusal ≢ 6 → answer .refusal ≢ 18 → answer .refusal ≢ 7 → answer .refusal ≢ 8 → answer .refusal ≢ 9
+          → answer .value ≡ 0
 
   pub record Promises : Type 0 where
     pub causes : (t b : Bytes) (verdict : ℕ) → Causes t b verdict

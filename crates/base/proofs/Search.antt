@@ -101,6 +101,15 @@ module _ (f : ℕ → Bool) where
   unfolding anyBelow
   any-first k e = ltb-true (firstBelow f k) k e
 
+  -- the other way round: what a search that has come to i says
+  pub any-found : (i k : ℕ) → i ≡ firstBelow f k → i < k → anyBelow f k ≡ true
+  unfolding anyBelow
+  any-found i k e h = rw (← e) (lt-ltb i k h)
+
+  pub any-missed : (i k : ℕ) → i ≡ firstBelow f k → k ≤ i → anyBelow f k ≡ false
+  unfolding anyBelow
+  any-missed i k e h = rw (← e) (le-ltb i k h)
+
   pub any-true-at : (k : ℕ) → anyBelow f k ≡ true → (j : ℕ) × (j < k) × (f j ≡ true)
   any-true-at k e = (firstBelow f k, any-first k e, first-passes k (any-first k e))
 

@@ -1,42 +1,50 @@
 -- What holds of bytes that the reader accepts, as a record. Assumes nothing.
-use mathlib.Core.Path.{_≡_, refl}
-use mathlib.Core.Bool.{Bool, true, false, not, cond}
+use mathlib.Core.Path.{_≡_, sym, ap, _∙_}
+use mathlib.Core.Bool.{false}
+use mathlib.Core.Logic.{_↔_}
 use Prim.Native.Nat.{ℕ}
-use native.Mathlib.Omega.{arith}
-use Rattle.base.specs.Search.{firstBelow, anyBelow}
+use borrow.Author.Tests.{not-true}
+use Rattle.base.specs.Search.{anyBelow}
 use Rattle.base.specs.Bytes.{Bytes}
 use Rattle.block.specs.Layout.{referenceCount, requestCount, referenceList, requestList}
-use Rattle.block.specs.Reading.{wellShaped, badRequestAt, referenceRepeatedAt, fieldsOf, reading}
-use Rattle.block.specs.Promises.{Shaped}
+use Rattle.block.specs.Reading.{badRequestAt, slotRepeatedAt, referenceRepeatedAt, fieldsOf, reading, answerOf}
+use Rattle.block.specs.Promises.{Shaped, answer}
 use Rattle.block.specs.declared.Fields.{Fields}
-use Rattle.block.specs.declared.Reading.the-variants.{Block, Misshapen, BadRequest, RepeatedReference}
+use Rattle.block.specs.declared.Reading.{Reading}
+use Rattle.block.specs.declared.Reading.the-variants.{Block}
 use Rattle.block.proofs.Shape.{shaped, well-shaped}
+use Rattle.block.proofs.Causes.{told}
 
 pub record Accepted (b : Bytes) : Type 0 where
   pub shape : Shaped b
   pub requests : anyBelow (badRequestAt (requestList b)) (requestCount b) ≡ false
+  pub slots : anyBelow (slotRepeatedAt (requestList b)) (requestCount b) ≡ false
   pub references : anyBelow (referenceRepeatedAt (referenceList b)) (referenceCount b) ≡ false
 
 pub accepted-reading : (b : Bytes) → Accepted b → reading b ≡ Block (fieldsOf b)
 unfolding reading
-accepted-reading b a = rw (well-shaped b (a .shape), a .requests, a .references)
+accepted-reading b a = rw (well-shaped b (a .shape), a .requests, a .slots, a .references)
+
+-- the reader's number is 0 where all checks hold
+all-held : (b : Bytes) → answer b .refusal ≡ 0 → Accepted b
+all-held b e =
+    let held = told b .none .0 e in
+    record {
+      shape = shaped b (held .0 .0 .0 .1);
+      requests = not-true _ (held .0 .0 .1);
+      slots = not-true _ (held .0 .1);
+      references = not-true _ (held .1);
+    }
+
+pub number-accepted : (b : Bytes) → (answer b .refusal ≡ 0) ↔ (reading b ≡ Block (fieldsOf b))
+number-accepted b = (λ e. accepted-reading b (all-held b e), λ e. rw e)
 
 pub record AcceptedAs (b : Bytes) (f : Fields) : Type 0 where
   pub accepted : Accepted b
   pub fields : f ≡ fieldsOf b
 
 pub reading-accepted : (b : Bytes) (f : Fields) → reading b ≡ Block f → AcceptedAs b f
-unfolding reading
-reading-accepted b f =
-    go (wellShaped b) refl (anyBelow (badRequestAt (requestList b)) (requestCount b)) refl (anyBelow (referenceRepeatedAt (referenceList b)) (referenceCount b)) refl
-  where
-    go : (t : Bool) → wellShaped b ≡ t → (u : Bool) → anyBelow (badRequestAt (requestList b)) (requestCount b) ≡ u
-        → (v : Bool) → anyBelow (referenceRepeatedAt (referenceList b)) (referenceCount b) ≡ v
-        → cond (not t) Misshapen
-        (cond u (BadRequest (firstBelow (badRequestAt (requestList b)) (requestCount b)))
-        (cond v (RepeatedReference (firstBelow (referenceRepeatedAt (referenceList b)) (referenceCount b))) (Block (fieldsOf b)))) ≡ Block f
-        → AcceptedAs b f
-    go false t u p v q e = let z : _≡_ {A = ℕ} 0 1 = cc in absurd (omega arith)
-    go true t true p v q e = let z : _≡_ {A = ℕ} 0 1 = cc in absurd (omega arith)
-    go true t false p true q e = let z : _≡_ {A = ℕ} 0 1 = cc in absurd (omega arith)
-    go true t false p false q e = record { accepted = record { shape = shaped b t; requests = p; references = q }; fields = cc }
+reading-accepted b f e =
+    let a = all-held b (ap (λ (r : Reading). answerOf r .refusal) e) in
+    let same : Block f ≡ Block (fieldsOf b) = sym e ∙ accepted-reading b a in
+    record { accepted = a; fields = cc }

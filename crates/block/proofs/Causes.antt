@@ -1,31 +1,42 @@
 -- Each refusal of the reader comes under its cause and under no other, with the index of the first such entry. Assumes nothing.
 use mathlib.Core.Path.{_≡_, refl, sym, _∙_, subst}
-use mathlib.Core.Bool.{Bool, true, false, cond, not}
+use mathlib.Core.Bool.{Bool, true, false}
 use mathlib.Core.Logic.{_↔_, inl, inr, Iff·trans, Iff·and}
 use mathlib.Core.List.{List, [], _∷_}
 use Prim.Native.Nat.{ℕ, _<_}
 use native.Mathlib.Omega.{arith}
 use lib.Dec.{eqb, ltb}
+use lib.ListN.{drop}
 use borrow.Author.Tests.{ltb-true, lt-ltb, eqb-true, eq-eqb, ne-eqb}
-use Rattle.base.specs.Search.{firstBelow, anyBelow, First}
+use Rattle.base.specs.Search.{anyBelow, First}
 use Rattle.base.specs.List.{someIn}
 use Rattle.base.specs.Bytes.{Bytes, sameBytes}
-use Rattle.base.proofs.Tests.{or-cases, or-true}
+use Rattle.base.proofs.Tests.{by-test, or-cases, or-true}
 use Rattle.base.proofs.Search.{any-true, any-true-at, any-such, first-such}
 use Rattle.base.proofs.Bytes.{same-equal, equal-same}
-use Rattle.answer.specs.Checks.{Check, check, success, refused, answerTo}
+use Rattle.answer.specs.Checks.{Check, check, checkNone, success, refused, answerTo}
 use Rattle.answer.specs.Promises.{FirstHold, elsewhere, different, Decided}
-use Rattle.answer.proofs.Checks.{value-of, valuedOnly, no-value, absent, present, missed}
-use Rattle.answer.proofs.Promises.{first-refused, decided}
+use Rattle.answer.proofs.Checks.{value-of, first-holds, first-fails, valuedOnly, no-value, absent, present, missed}
+use Rattle.answer.proofs.Promises.{succeeds, first-refused, decided}
 use Rattle.setup.specs.Setup.{maxSlot}
 use Rattle.block.specs.Layout.{referenceCount, requestCount, referenceList, requestList, referenceAt, requestAt}
-use Rattle.block.specs.Reading.{wellShaped, badRequestAt, referenceRepeatedAt, reading, answerOf}
-use Rattle.block.specs.Promises.{Shaped, BadIn, BadAt, RepeatedAt, GoodRequests, answer, Causes}
-use Rattle.block.specs.declared.Fields.{Fields}
-use Rattle.block.specs.declared.Reading.the-variants.{Block, Misshapen, BadRequest, RepeatedReference}
+use Rattle.block.specs.Reading.{wellShaped, badRequestAt, slotRepeatedAt, referenceRepeatedAt, fieldsOf, eachEntry, reading, answerOf}
+use Rattle.block.specs.Promises.{Shaped, BadIn, BadAt, SlotRepeatedIn, SlotRepeatedAt, RepeatedAt, GoodRequests, DifferentSlots, answer, Causes}
+use Rattle.block.specs.Steps.{fromReferences, fromSlots}
+use Rattle.block.specs.declared.Reading.{Reading}
+use Rattle.block.specs.declared.Reading.the-variants.{Block, BadRequest, RepeatedSlot, RepeatedReference}
 use Rattle.block.proofs.Shape.{shaped, well-shaped}
 
--- ---- what the tests of checks 6 and 7 say
+-- ---- a check of entries, in reading and in a list of checks
+
+entries : (n : ℕ) (refusal : ℕ → Reading) (rest : Reading) (fails : ℕ → Bool) (count : ℕ) (cs : List Check) → ((i : ℕ) → answerOf (refusal i) ≡ refused n i)
+    → answerOf rest ≡ answerTo cs 0 → answerOf (eachEntry fails count refusal rest) ≡ answerTo (checkNone n fails count ∷ cs) 0
+entries n refusal rest fails count cs named e =
+    by-test (anyBelow fails count)
+    (λ y. rw y (named _) ∙ sym (first-fails _ cs 0 (rw y)))
+    (λ f. rw f e ∙ sym (first-holds _ cs 0 (rw f)))
+
+-- ---- what the tests of checks 6, 18 and 7 say
 
 module _ (list : Bytes) (count i : ℕ) where
   abbrev slot : ℕ
@@ -44,6 +55,16 @@ module _ (list : Bytes) (count i : ℕ) where
     λ r. (r .below, elim (r .bad) [ inl h ↦ rw (lt-ltb maxSlot slot h) | inr e ↦ rw (eq-eqb number 0 e) (or-true (ltb maxSlot slot)) ]),
   )
 
+  -- request j has this slot
+  abbrev hasSlot : ℕ → Bool
+  hasSlot j = eqb (requestAt list j .slot) slot
+
+  pub slot-repeated-means : ((i < count) × (slotRepeatedAt list i ≡ true)) ↔ SlotRepeatedIn list count i
+  slot-repeated-means = (
+    λ p. let w = any-true-at hasSlot i (p .1) in record { below = p .0; earlier = w .0; isEarlier = w .1; same = eqb-true _ _ (w .2) },
+    λ r. (r .below, any-true hasSlot i (r .earlier) (r .isEarlier) (eq-eqb _ _ (r .same))),
+  )
+
 module _ (b : Bytes) where
   -- reference j is reference i
   abbrev isSame : ℕ → ℕ → Bool
@@ -60,11 +81,17 @@ module _ (b : Bytes) where
   abbrev bad : ℕ → Bool
   bad = badRequestAt (requestList b)
 
+  abbrev slotMet : ℕ → Bool
+  slotMet = slotRepeatedAt (requestList b)
+
   abbrev repeated : ℕ → Bool
   repeated = referenceRepeatedAt (referenceList b)
 
   some-bad : (anyBelow bad (requestCount b) ≡ true) ↔ ((i : ℕ) × BadAt b i)
   some-bad = any-such bad (requestCount b) (BadAt b) (bad-means (requestList b) (requestCount b))
+
+  some-slot-met : (anyBelow slotMet (requestCount b) ≡ true) ↔ ((i : ℕ) × SlotRepeatedAt b i)
+  some-slot-met = any-such slotMet (requestCount b) (SlotRepeatedAt b) (slot-repeated-means (requestList b) (requestCount b))
 
   some-repeated : (anyBelow repeated (referenceCount b) ≡ true) ↔ ((i : ℕ) × RepeatedAt b i)
   some-repeated = any-such repeated (referenceCount b) (RepeatedAt b) repeated-means
@@ -72,20 +99,25 @@ module _ (b : Bytes) where
   abbrev pub checks : List Check
   checks =
       check 3 (wellShaped b) 0
-      ∷ check 6 (not (anyBelow bad (requestCount b))) (firstBelow bad (requestCount b))
-      ∷ check 7 (not (anyBelow repeated (referenceCount b))) (firstBelow repeated (referenceCount b))
+      ∷ checkNone 6 bad (requestCount b)
+      ∷ checkNone 18 slotMet (requestCount b)
+      ∷ checkNone 7 repeated (referenceCount b)
       ∷ []
 
+  misshapen : wellShaped b ≡ false → answer b ≡ refused 3 0
+  unfolding reading
+  misshapen f = rw f
+
+  well-shaped-answer : wellShaped b ≡ true → answer b ≡ answerTo (drop 1 checks) 0
+  unfolding reading
+  well-shaped-answer y =
+      rw y
+      (entries 6 BadRequest (fromSlots b) _ _ _ (λ i. refl)
+      (entries 18 RepeatedSlot (fromReferences b) _ _ _ (λ i. refl)
+      (entries 7 RepeatedReference (Block (fieldsOf b)) _ _ _ (λ i. refl) (sym (succeeds [] 0 tt)))))
+
   pub by-checks : answer b ≡ answerTo checks 0
-  unfolding reading answerTo
-  by-checks = go (wellShaped b) (anyBelow bad (requestCount b)) (anyBelow repeated (referenceCount b)) _ _ _
-    where
-      go : (x y z : Bool) (i j : ℕ) (f : Fields) → answerOf (cond (not x) Misshapen (cond y (BadRequest i) (cond z (RepeatedReference j) (Block f))))
-          ≡ cond x (cond (not y) (cond (not z) (success 0) (refused 7 j)) (refused 6 i)) (refused 3 0)
-      go false y z i j f = refl
-      go true true z i j f = refl
-      go true false true i j f = refl
-      go true false false i j f = refl
+  by-checks = by-test (wellShaped b) (λ y. well-shaped-answer y ∙ sym (first-holds _ _ 0 y)) (λ f. misshapen f ∙ sym (first-fails _ _ 0 f))
 
   pub told : Decided (answer b) checks 0
   unfolding different elsewhere
@@ -95,10 +127,23 @@ module _ (b : Bytes) where
   shape = (λ p. shaped b (p .1), λ s. (tt, well-shaped b s))
 
   good : FirstHold checks 2 ↔ GoodRequests b
-  good = (
-    λ p. record { shape = shape .0 (p .0); noneBad = absent _ _ some-bad .0 (p .1) },
-    λ g. (shape .1 (g .shape), absent _ _ some-bad .1 (g .noneBad)),
-  )
+  good =
+      let here = absent _ _ some-bad in
+      (λ p. record { shape = shape .0 (p .0); noneBad = here .0 (p .1) }, λ g. (shape .1 (g .shape), here .1 (g .noneBad)))
+
+  slots : FirstHold checks 3 ↔ DifferentSlots b
+  slots =
+      let here = absent _ _ some-slot-met in
+      (λ p. record { good = good .0 (p .0); noneRepeated = here .0 (p .1) }, λ d. (good .1 (d .good), here .1 (d .noneRepeated)))
+
+  six : (answer b .refusal ≡ 6) ↔ (Shaped b × ((i : ℕ) × BadAt b i))
+  six = Iff·trans (told .refused 1 (omega arith)) (Iff·and shape (present _ _ some-bad))
+
+  eighteen : (answer b .refusal ≡ 18) ↔ (GoodRequests b × ((i : ℕ) × SlotRepeatedAt b i))
+  eighteen = Iff·trans (told .refused 2 (omega arith)) (Iff·and good (present _ _ some-slot-met))
+
+  seven : (answer b .refusal ≡ 7) ↔ (DifferentSlots b × ((i : ℕ) × RepeatedAt b i))
+  seven = Iff·trans (told .refused 3 (omega arith)) (Iff·and slots (present _ _ some-repeated))
 
   pub causes : Causes b
   unfolding valuedOnly someIn
@@ -106,19 +151,17 @@ module _ (b : Bytes) where
       record {
         three = Iff·trans (first-refused told) (missed _ _ (shaped b, well-shaped b));
         six = six;
+        eighteen = eighteen;
         seven = seven;
-        none = Iff·trans (told .none) (Iff·and good (absent _ _ some-repeated));
+        none = Iff·trans (told .none) (Iff·and slots (absent _ _ some-repeated));
         firstBad = λ e.
             subst (First (BadAt b)) (sym (told .valued 1 (omega arith) e))
             (first-such bad (requestCount b) (BadAt b) (bad-means (requestList b) (requestCount b)) (some-bad .1 (six .0 e .1)));
+        firstSlot = λ e.
+            subst (First (SlotRepeatedAt b)) (sym (told .valued 2 (omega arith) e))
+            (first-such slotMet (requestCount b) (SlotRepeatedAt b) (slot-repeated-means (requestList b) (requestCount b)) (some-slot-met .1 (eighteen .0 e .1)));
         firstRepeated = λ e.
-            subst (First (RepeatedAt b)) (sym (told .valued 2 (omega arith) e))
+            subst (First (RepeatedAt b)) (sym (told .valued 3 (omega arith) e))
             (first-such repeated (referenceCount b) (RepeatedAt b) repeated-means (some-repeated .1 (seven .0 e .1)));
-        noValue = λ k l. value-of by-checks ∙ no-value (6 ∷ 7 ∷ []) checks 0 refl (rw (← by-checks, ne-eqb _ 6 k, ne-eqb _ 7 l));
+        noValue = λ k m l. value-of by-checks ∙ no-value (6 ∷ 18 ∷ 7 ∷ []) checks 0 refl (rw (← by-checks, ne-eqb _ 6 k, ne-eqb _ 18 m, ne-eqb _ 7 l));
       }
-    where
-      six : (answer b .refusal ≡ 6) ↔ (Shaped b × ((i : ℕ) × BadAt b i))
-      six = Iff·trans (told .refused 1 (omega arith)) (Iff·and shape (present _ _ some-bad))
-
-      seven : (answer b .refusal ≡ 7) ↔ (GoodRequests b × ((i : ℕ) × RepeatedAt b i))
-      seven = Iff·trans (told .refused 2 (omega arith)) (Iff·and good (present _ _ some-repeated))

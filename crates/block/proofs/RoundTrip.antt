@@ -6,8 +6,10 @@ use mathlib.Core.Logic.{_≢_}
 use mathlib.Core.List.{List, [], _∷_, _++_, map}
 use Prim.Native.Nat.{ℕ, zero, suc, _+_, _*_, _/_, _≤_, _<_, suc-le-suc}
 use native.Mathlib.Omega.{arith}
+use lib.Dec.{eqb}
 use lib.ListN.{length, getD, drop, length-drop}
 use lib.Seq.{length-take-le}
+use borrow.Author.Tests.{ne-eqb}
 use Rattle.base.specs.Bytes.{Bytes, AllBytes, sameBytes, concat}
 use Rattle.base.proofs.Search.{any-false, any-false-at}
 use Rattle.base.proofs.Bytes.{other-same, same-other, bytes-take, bytes-drop, bytes-append, bytes-concat}
@@ -15,7 +17,7 @@ use Rattle.base.proofs.Parts.{part-and-rest}
 use Rattle.base.proofs.Number.{number-pair, number-below, number-high, number-low, high-below}
 use Rattle.block.specs.Limits.{headerSize, referenceSize, requestSize}
 use Rattle.block.specs.Layout.{Content, siteOf, sequenceOf, referenceCount, requestCount, referenceList, requestList, referenceAt, requestAt, requestBytes, referencesIn, requestsIn, content, contentOf, encode}
-use Rattle.block.specs.Reading.{badRequest, badRequestAt, referenceRepeatedAt, fieldsOf, reading}
+use Rattle.block.specs.Reading.{badRequest, badRequestAt, slotRepeatedAt, referenceRepeatedAt, fieldsOf, reading}
 use Rattle.block.specs.Codec.{Digest, AdmissibleRequest, noRequest, Fitting, Gives, RoundTrip}
 use Rattle.block.specs.Promises.{Shaped}
 use Rattle.block.specs.declared.Request.{Request}
@@ -26,6 +28,7 @@ use Rattle.block.proofs.RequestCheck.{good-request, request-good}
 use Rattle.block.proofs.Shape.{reference-list-length, request-list-length, references-counted, requests-counted}
 use Rattle.block.proofs.Encoding.{encode-content, encode-length, encode-references, encode-requests, references-held, requests-held}
 use Rattle.block.proofs.Acceptance.{Accepted, accepted-reading, reading-accepted}
+use Rattle.block.proofs.Counting.{apart}
 
 -- ---- from a fitting content to bytes
 
@@ -78,7 +81,15 @@ module _ (c : Content) (f : Fitting c) where
   not-repeated : (i : ℕ) → i < length (c .references) → referenceRepeatedAt (referenceList (encode c)) i ≡ false
   not-repeated i h =
       any-false (λ j. sameBytes (referenceAt (referenceList (encode c)) j) (referenceAt (referenceList (encode c)) i)) i
-      (λ j l. rw (reference-there j (omega arith), reference-there i h) (other-same _ _ (f .different i j l h)))
+      (λ j l. rw (reference-there j (omega arith), reference-there i h) (other-same _ _ (f .differentReferences i j l h)))
+
+  slot-there : (i : ℕ) → i < length (c .requests) → requestAt (requestList (encode c)) i .slot ≡ getD (c .requests) i noRequest .slot
+  slot-there i h = ap (λ (q : Request). q .slot) (request-there i h)
+
+  slot-not-repeated : (i : ℕ) → i < length (c .requests) → slotRepeatedAt (requestList (encode c)) i ≡ false
+  slot-not-repeated i h =
+      any-false (λ j. eqb (requestAt (requestList (encode c)) j .slot) (requestAt (requestList (encode c)) i .slot)) i
+      (λ j l. ne-eqb _ _ (λ e. f .differentSlots i j l h (sym (slot-there j (omega arith)) ∙ e ∙ slot-there i h)))
 
   encode-accepted : Accepted (encode c)
   unfolding encode
@@ -86,6 +97,7 @@ module _ (c : Content) (f : Fitting c) where
       record {
         shape = encode-shaped;
         requests = any-false (badRequestAt (requestList (encode c))) (length (c .requests)) (λ i h. ap badRequest (request-there i h) ∙ good-request _ (f .admissible i h));
+        slots = any-false (slotRepeatedAt (requestList (encode c))) (length (c .requests)) slot-not-repeated;
         references = any-false (referenceRepeatedAt (referenceList (encode c))) (length (c .references)) not-repeated;
       }
 
@@ -132,14 +144,17 @@ module _ (b : Bytes) (a : AllBytes b) (r : Accepted b) where
       let q : length (requestsIn (requestList b)) ≡ requestCount b = requests-length (requestList b) ∙ requests-counted b s in
       let at : (i : ℕ) → i < referenceCount b → getD (referencesIn (referenceList b)) i [] ≡ referenceAt (referenceList b) i =
       λ i h. references-at (referenceList b) i (omega (arith, references-counted b s)) in
+      let asked : (i : ℕ) → i < requestCount b → getD (requestsIn (requestList b)) i noRequest ≡ requestAt (requestList b) i =
+      λ i h. requests-at (requestList b) i (omega (arith, requests-counted b s)) in
       record {
         site = a 0;
         sequence = number-below _ _ (a 1) (a 2);
         fewReferences = omega (arith, s .references);
         digests = λ i h. rw (at i (omega arith)) (digest-there i (omega arith));
-        different = λ i j l h. rw (at i (omega arith), at j (omega arith)) (different-there i j l (omega arith));
+        differentReferences = λ i j l h. rw (at i (omega arith), at j (omega arith)) (different-there i j l (omega arith));
         fewRequests = omega (arith, s .requests);
-        admissible = λ i h. rw (requests-at (requestList b) i (omega (arith, requests-counted b s))) (admissible-there i (omega arith));
+        admissible = λ i h. rw (asked i (omega arith)) (admissible-there i (omega arith));
+        differentSlots = λ i j l h. rw (asked i (omega arith), asked j (omega arith)) (apart b r i j l (omega arith));
       }
 
   -- and the bytes are its encoding

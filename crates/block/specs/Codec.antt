@@ -1,4 +1,5 @@
--- Document 01, "The block": "bytes and fields determine each other". `RoundTrip` is the promise; proofs/RoundTrip.antt shows it.
+-- Document 01, "The block": "bytes and fields determine each other"; and request Two: "Round trips cover blocks with different slots". `RoundTrip` is
+-- the promise; proofs/RoundTrip.antt shows it.
 use mathlib.Core.Path.{_≡_}
 use mathlib.Core.Logic.{_≢_}
 use mathlib.Core.List.{[]}
@@ -34,9 +35,10 @@ pub record Fitting (c : Content) : Type 0 where
   pub sequence : c .sequence < 65536
   pub fewReferences : length (c .references) ≤ maxReferences
   pub digests : (i : ℕ) → i < length (c .references) → Digest (getD (c .references) i [])
-  pub different : (i j : ℕ) → j < i → i < length (c .references) → getD (c .references) j [] ≢ getD (c .references) i []
+  pub differentReferences : (i j : ℕ) → j < i → i < length (c .references) → getD (c .references) j [] ≢ getD (c .references) i []
   pub fewRequests : length (c .requests) ≤ maxRequests
   pub admissible : (i : ℕ) → i < length (c .requests) → AdmissibleRequest (getD (c .requests) i noRequest)
+  pub differentSlots : (i j : ℕ) → j < i → i < length (c .requests) → getD (c .requests) j noRequest .slot ≢ getD (c .requests) i noRequest .slot
 
 -- reading accepts b, and c is its content
 pub record Reads (b : Bytes) (c : Content) : Type 0 where

@@ -72,7 +72,8 @@ content site sequence references requests =
 unfoldable pub contentOf : Bytes → Content
 contentOf b = content (siteOf b) (sequenceOf b) (referenceList b) (requestList b)
 
--- document 01, 'counted request': the number of the first request of the slot, 0 if there is none
+-- document 01, 'counted request': the number of the first request of the slot, 0 if there is none. In a block that reading accepts it is the only one
+-- (`OnceEach`)
 unfoldable pub countedRequest : List Request → ℕ → ℕ
 countedRequest [] slot = 0
 countedRequest (q ∷ qs) slot = cond (eqb (q .slot) slot) (q .number) (countedRequest qs slot)

@@ -1,4 +1,4 @@
-// A block's bytes: reading, the fields and the two lists as parts, the entries of the lists, and writing. Promises: reading is document 01's, each
+// A block's bytes: reading, the fields and the two lists as parts, the entries of the lists, and writing. Promises: reading is the documents', each
 // refusal comes under its cause and under no other (specs/Promises.antt), every block that the reader accepts is the one encoding of its content, and
 // writing gives that encoding (specs/Codec.antt). Assumes nothing: any bytes are read or refused.
 pub mod parts;
@@ -43,15 +43,16 @@ pub struct Fields {
     pub requests: usize,
 }
 
-// What reading a block gives: its fields, or the check that fails, of 6 and 7 with the index of the first entry that fails it.
+// What reading a block gives: its fields, or the check that fails, of 6, 18 and 7 with the index of the first entry that fails it.
 pub enum Reading {
     Block(Fields),
     Misshapen,
     BadRequest(usize),
+    RepeatedSlot(usize),
     RepeatedReference(usize),
 }
 
-// Document 01's number and value for a result of reading.
+// The documents' number and value for a result of reading.
 pub fn answer_of(r: Reading) -> Answer
     ensures { λ a. ⌜ a ≡ answerOf r ⌝ }
 {
@@ -59,6 +60,7 @@ pub fn answer_of(r: Reading) -> Answer
         Reading::Block(_) => answer::success(0),
         Reading::Misshapen => answer::refused(3, 0),
         Reading::BadRequest(i) => answer::refused(6, i),
+        Reading::RepeatedSlot(i) => answer::refused(18, i),
         Reading::RepeatedReference(i) => answer::refused(7, i),
     }
 }
@@ -81,16 +83,21 @@ pub fn well_shaped(block: &[u8]) -> bool
     block.len() == HEADER_SIZE + REFERENCE_SIZE * p + REQUEST_SIZE * r
 }
 
-// Checks 6 and 7, and then the fields, for a block that passes check 3.
+// Checks 6, 18 and 7, and then the fields, for a block that passes check 3.
 fn read_shaped(block: &[u8]) -> Reading
     requires { ⌜ Shaped (now block) ⌝ }
     ensures { λ r. ⌜ r ≡ reading (now (block .entry)) ⌝ }
 {
     let p = parts::reference_count(block);
     let r = parts::request_count(block);
-    let bad = requests::first_bad(parts::request_list(block));
+    let list = parts::request_list(block);
+    let bad = requests::first_bad(list);
     if bad < r {
         return Reading::BadRequest(bad);
+    }
+    let repeated_slot = requests::first_of_repeated_slot(list);
+    if repeated_slot < r {
+        return Reading::RepeatedSlot(repeated_slot);
     }
     let repeated = references::first_repeated(parts::reference_list(block));
     if repeated < p {
@@ -104,7 +111,7 @@ fn read_shaped(block: &[u8]) -> Reading
     })
 }
 
-// Reads a block: its fields, or the first check that it fails, of 6 and 7 with the index of the first entry that fails it.
+// Reads a block: its fields, or the first check that it fails, of 6, 18 and 7 with the index of the first entry that fails it.
 pub fn read_block(block: &[u8]) -> Reading
     ensures { λ r. ⌜ r ≡ reading (now (block .entry)) ⌝ }
 {

@@ -8,7 +8,7 @@ ghost use lib.ListN.{length};
 ghost use Rattle.block.specs.Limits.{requestSize};
 ghost use Rattle.block.specs.Layout.{requestAt, requestsIn, countedRequest};
 ghost use Rattle.block.specs.Reading.{badRequest};
-ghost use Rattle.block.specs.Steps.{firstBad};
+ghost use Rattle.block.specs.Steps.{firstBad, firstOfRepeatedSlot, NoneBad};
 
 // Request i of the list.
 pub fn request(list: &[u8], i: usize) -> Request
@@ -42,6 +42,26 @@ pub fn first_bad(list: &[u8]) -> usize
         if is_bad(request(list, i)) {
             return i;
         }
+        i += 1;
+    }
+    k
+}
+
+// The index of the first request of the list whose slot an earlier one has, which is check 18; the number of requests if there is none. A mask keeps
+// the slots met, so that one pass is enough.
+pub fn first_of_repeated_slot(list: &[u8]) -> usize
+    requires { ⌜ NoneBad (now list) ⌝ }
+    ensures { λ r. ⌜ r ≡ firstOfRepeatedSlot (now (list .entry)) ⌝ }
+{
+    let k = list.len() / REQUEST_SIZE;
+    let mut met: u64 = 0;
+    let mut i = 0;
+    while i < k {
+        let slot = base::wide(request(list, i).slot);
+        if base::in_mask(met, slot) {
+            return i;
+        }
+        met = met | (1u64 << slot);
         i += 1;
     }
     k

@@ -18,17 +18,17 @@ use Rattle.answer.specs.Promises.{FirstHold, elsewhere, different, Decided}
 use Rattle.answer.proofs.Checks.{valuedOnly, no-value as checks-no-value, absent, present, either-fails}
 use Rattle.answer.proofs.Promises.{first-refused, second-refused, decided}
 use Rattle.block.specs.Limits.{requestSize, maxRequestListSize}
-use Rattle.block.specs.Reading.{badRequestAt}
-use Rattle.block.proofs.Causes.{bad-means}
+use Rattle.block.specs.Reading.{badRequestAt, slotRepeatedAt}
+use Rattle.block.proofs.Causes.{bad-means, slot-repeated-means}
 use Rattle.table.specs.Layout.{setupOf, viewOf}
 use Rattle.table.specs.Form.{inForm}
 use Rattle.watch.specs.Promises.{Shares}
 use Rattle.watch.proofs.ForkTest.{forked-shares}
 use Rattle.build.specs.Building.{maxSequence, nextSequence, wellListed, buildingChecks, buildingFrom}
-use Rattle.build.specs.Promises.{BySite, WholeList, BadRequest, Asked, answer, needed, Able, Ended, Lasting}
+use Rattle.build.specs.Promises.{BySite, WholeList, BadRequest, RepeatedSlot, GoodList, Asked, answer, needed, Able, Ended, Lasting}
 use Rattle.build.proofs.Sequence.{greatest-own, greatest-before, next-above, some-greatest}
 
--- ---- what checks 3 and 6 say of the requests
+-- ---- what checks 3, 6 and 18 say of the requests
 
 module _ (requests : Bytes) where
   pub well-listed : (wellListed requests ≡ true) ↔ ((length requests ≤ maxRequestListSize) × (length requests % requestSize ≡ 0))
@@ -50,6 +50,9 @@ module _ (requests : Bytes) where
 
   some-bad : (anyBelow (badRequestAt requests) count ≡ true) ↔ ((i : ℕ) × BadRequest requests i)
   some-bad = any-such (badRequestAt requests) count (BadRequest requests) (bad-means requests count)
+
+  some-repeated : (anyBelow (slotRepeatedAt requests) count ≡ true) ↔ ((i : ℕ) × RepeatedSlot requests i)
+  some-repeated = any-such (slotRepeatedAt requests) count (RepeatedSlot requests) (slot-repeated-means requests count)
 
 -- ---- the checks in their order
 
@@ -78,21 +81,29 @@ module _ (seen : ℕ → Bool) (t : Bytes) (p : ℕ) (requests output : Bytes) w
     λ l. (by-site .1 (l .bySite), well-listed requests .1 (l .fits, l .whole)),
   )
 
-  asked : FirstHold checks 4 ↔ Asked t p requests
+  good : FirstHold checks 4 ↔ GoodList t p requests
+  good =
+      let here = absent _ _ (some-bad requests) in
+      (λ q. record { wholeList = listed .0 (q .0); noneBad = here .0 (q .1) }, λ g. (listed .1 (g .wholeList), here .1 (g .noneBad)))
+
+  asked : FirstHold checks 5 ↔ Asked t p requests
   asked =
-      let here = absent _ _ (some-bad requests) in (
+      let here = absent _ _ (some-repeated requests) in (
         λ q.
-            let l = listed .0 (q .0) in
-            record { formed = l .bySite .formed; site = l .bySite .site; fits = l .fits; whole = l .whole; noneBad = here .0 (q .1) },
-        λ a. (listed .1 (record { bySite = record { formed = a .formed; site = a .site }; fits = a .fits; whole = a .whole }), here .1 (a .noneBad)),
+            let g = good .0 (q .0) in
+            let l = g .wholeList in
+            record { formed = l .bySite .formed; site = l .bySite .site; fits = l .fits; whole = l .whole; noneBad = g .noneBad; noneRepeated = here .0 (q .1) },
+        λ a.
+            let l : WholeList t p requests = record { bySite = record { formed = a .formed; site = a .site }; fits = a .fits; whole = a .whole } in
+            (good .1 (record { wholeList = l; noneBad = a .noneBad }), here .1 (a .noneRepeated)),
       )
 
-  able : FirstHold checks 5 ↔ Able seen t p requests output
+  able : FirstHold checks 6 ↔ Able seen t p requests output
   able =
       let here = absent _ _ (forked-shares (viewOf t) seen p) in
       (λ q. record { asked = asked .0 (q .0); unforked = here .0 (q .1) }, λ a. (asked .1 (a .asked), here .1 (a .unforked)))
 
-  lasting : FirstHold checks 6 ↔ Lasting seen t p requests output
+  lasting : FirstHold checks 7 ↔ Lasting seen t p requests output
   lasting = (λ q. record { able = able .0 (q .0); within = leb-true _ _ (q .1) }, λ l. (able .1 (l .able), le-leb _ _ (l .within)))
 
   abbrev sequence : ℕ
@@ -124,14 +135,17 @@ module _ (seen : ℕ → Bool) (t : Bytes) (p : ℕ) (requests output : Bytes) w
   pub six : (number ≡ 6) ↔ (WholeList t p requests × ((i : ℕ) × BadRequest requests i))
   six = Iff·trans (told .refused 3 (omega arith)) (Iff·and listed (present _ _ (some-bad requests)))
 
+  pub eighteen : (number ≡ 18) ↔ (GoodList t p requests × ((i : ℕ) × RepeatedSlot requests i))
+  eighteen = Iff·trans (told .refused 4 (omega arith)) (Iff·and good (present _ _ (some-repeated requests)))
+
   pub sixteen : (number ≡ 16) ↔ (Asked t p requests × Shares (viewOf t) seen p)
-  sixteen = Iff·trans (told .refused 4 (omega arith)) (Iff·and asked (present _ _ (forked-shares (viewOf t) seen p)))
+  sixteen = Iff·trans (told .refused 5 (omega arith)) (Iff·and asked (present _ _ (forked-shares (viewOf t) seen p)))
 
   pub thirty : (number ≡ 30) ↔ (Able seen t p requests output × Ended seen t p)
-  thirty = Iff·trans (told .refused 5 (omega arith)) (Iff·and able ended)
+  thirty = Iff·trans (told .refused 6 (omega arith)) (Iff·and able ended)
 
   pub seventeen : (number ≡ 17) ↔ (Lasting seen t p requests output × (length output < size))
-  seventeen = Iff·trans (told .refused 6 (omega arith)) (Iff·and lasting (leb-false _ _, lt-leb _ _))
+  seventeen = Iff·trans (told .refused 7 (omega arith)) (Iff·and lasting (leb-false _ _, lt-leb _ _))
 
   pub none : (number ≡ 0) ↔ (Lasting seen t p requests output × (size ≤ length output))
   none = Iff·trans (told .none) (Iff·and lasting (leb-true _ _, le-leb _ _))
@@ -143,10 +157,15 @@ module _ (seen : ℕ → Bool) (t : Bytes) (p : ℕ) (requests output : Bytes) w
       subst (First (BadRequest requests)) (sym (told .valued 3 (omega arith) e))
       (first-such (badRequestAt requests) (count requests) (BadRequest requests) (bad-means requests (count requests)) (some-bad requests .1 (six .0 e .1)))
 
+  pub first-slot : number ≡ 18 → First (RepeatedSlot requests) (answer seen t p requests output .value)
+  first-slot e =
+      subst (First (RepeatedSlot requests)) (sym (told .valued 4 (omega arith) e))
+      (first-such (slotRepeatedAt requests) (count requests) (RepeatedSlot requests) (slot-repeated-means requests (count requests)) (some-repeated requests .1 (eighteen .0 e .1)))
+
   pub value : (number ≡ 0) ⊎ (number ≡ 17) → answer seen t p requests output .value ≡ size
   value (inl e) = told .returned e
-  value (inr e) = told .valued 6 (omega arith) e
+  value (inr e) = told .valued 7 (omega arith) e
 
-  pub no-value : number ≢ 0 → number ≢ 6 → number ≢ 17 → answer seen t p requests output .value ≡ 0
+  pub no-value : number ≢ 0 → number ≢ 6 → number ≢ 18 → number ≢ 17 → answer seen t p requests output .value ≡ 0
   unfolding buildingFrom valuedOnly someIn
-  no-value z b s = checks-no-value (0 ∷ 6 ∷ 17 ∷ []) checks size refl (rw (ne-eqb number 0 z, ne-eqb number 6 b, ne-eqb number 17 s))
+  no-value z b r s = checks-no-value (0 ∷ 6 ∷ 18 ∷ 17 ∷ []) checks size refl (rw (ne-eqb number 0 z, ne-eqb number 6 b, ne-eqb number 18 r, ne-eqb number 17 s))

@@ -11,8 +11,9 @@ use Rattle.base.proofs.Tests.{not-true-false}
 use Rattle.base.proofs.List.{map-at}
 use Rattle.base.proofs.Bytes.{bytes-take, bytes-drop}
 use Rattle.block.specs.Limits.{headerSize, referenceSize, requestSize, blockSize}
-use Rattle.block.specs.Layout.{Content}
-use Rattle.block.specs.Codec.{Digest, Fitting, Reads}
+use Rattle.block.specs.Layout.{Content, requestAt}
+use Rattle.block.specs.Codec.{Digest, noRequest, Fitting, Reads}
+use Rattle.block.specs.declared.Request.{Request}
 use Rattle.block.proofs.Lists.{requests-length, requests-at}
 use Rattle.block.proofs.RequestCheck.{request-good}
 use Rattle.block.proofs.Causes.{bad-means}
@@ -78,6 +79,10 @@ module _ (seen : ℕ → Bool) (t : Bytes) (p : ℕ) (requests : Bytes) where
           size = reference-size form i h;
         }
 
+    slot-is : (i : ℕ) → i < length requests / requestSize → requestAt requests i .slot ≡ getD (next .requests) i noRequest .slot
+    unfolding nextContent
+    slot-is i h = ap (λ (q : Request). q .slot) (sym (requests-at requests i h))
+
     pub next-fits : Fitting next
     unfolding nextContent
     next-fits =
@@ -86,11 +91,14 @@ module _ (seen : ℕ → Bool) (t : Bytes) (p : ℕ) (requests : Bytes) where
           sequence = omega (arith, last);
           fewReferences = omega (arith, as-many-references, picked-few seen (viewOf t) p);
           digests = digest-there;
-          different = references-different form;
+          differentReferences = references-different form;
           fewRequests = omega (arith, as-many-requests, asked .fits);
           admissible = λ i h.
               let l : i < length requests / requestSize = omega (arith, as-many-requests) in
               rw (requests-at requests i l) (request-good requests allRequests i (not-true-false _ (λ y. asked .noneBad (i, bad-means requests (length requests / requestSize) i .0 (l, y)))));
+          differentSlots = λ i j h k e.
+              let l : i < length requests / requestSize = omega (arith, as-many-requests) in
+              asked .noneRepeated (i, record { below = l; earlier = j; isEarlier = h; same = slot-is j (omega arith) ∙ e ∙ sym (slot-is i l) });
         }
 
     pub next-reads : Reads (nextBlock seen (viewOf t) p requests) next

@@ -11,7 +11,7 @@ use Rattle.table.specs.Layout.{viewOf}
 use Rattle.build.specs.Building.{nextBlock, builtFrom}
 use Rattle.build.specs.Promises.{Admissible, answer, outputAfter, Promised}
 use Rattle.build.proofs.NextContent.{next-reads}
-use Rattle.build.proofs.Causes.{two, four, three, six, first-bad, sixteen, thirty, seventeen, none, value, no-value}
+use Rattle.build.proofs.Causes.{two, four, three, six, first-bad, eighteen, first-slot, sixteen, thirty, seventeen, none, value, no-value}
 use Rattle.build.proofs.Admission.{next-admissible}
 
 module _ (seen : ℕ → Bool) (t : Bytes) (p : ℕ) (requests output : Bytes) (done : answer seen t p requests output .refusal ≡ 0) where
@@ -43,6 +43,8 @@ promised seen t p requests output =
       three = three seen t p requests output;
       six = six seen t p requests output;
       firstBad = first-bad seen t p requests output;
+      eighteen = eighteen seen t p requests output;
+      firstSlot = first-slot seen t p requests output;
       sixteen = sixteen seen t p requests output;
       thirty = thirty seen t p requests output;
       seventeen = seventeen seen t p requests output;

@@ -1,19 +1,19 @@
--- Document 01, "Building", and rows 16 and 17 of "What is turned down": a site's next block, what building answers, and what it leaves. `seen` says
--- which places are looked at: the call `build` looks at every place.
+-- Document 01, "Building", rows 16 and 17 of "What is turned down", and request Two's 18: a site's next block, what building answers, and what it
+-- leaves. `seen` says which places are looked at: the call `build` looks at every place.
 use mathlib.Core.Bool.{Bool, cond, not, _&&_}
 use mathlib.Core.List.{List, [], _∷_, _++_, map}
 use Prim.Native.Nat.{ℕ, zero, suc, _+_, _/_, _%_, max}
 use lib.Dec.{eqb, leb, ltb}
 use lib.ListN.{length, take}
-use Rattle.base.specs.Search.{firstBelow, anyBelow}
+use Rattle.base.specs.Search.{anyBelow}
 use Rattle.base.specs.List.{passingBelow}
 use Rattle.base.specs.Bytes.{Bytes, splice}
 use Rattle.answer.specs.declared.Answer.{Answer}
-use Rattle.answer.specs.Checks.{Check, check, answerTo}
+use Rattle.answer.specs.Checks.{Check, check, checkNone, answerTo}
 use Rattle.setup.specs.Setup.{Setup}
 use Rattle.block.specs.Limits.{requestSize, maxReferences, maxRequestListSize}
 use Rattle.block.specs.Layout.{Content, requestsIn, encode}
-use Rattle.block.specs.Reading.{badRequestAt}
+use Rattle.block.specs.Reading.{badRequestAt, slotRepeatedAt}
 use Rattle.table.specs.View.{View}
 use Rattle.table.specs.Layout.{setupOf, viewOf}
 use Rattle.table.specs.Form.{inForm}
@@ -72,14 +72,16 @@ module _ (seen : ℕ → Bool) (v : View) (p : ℕ) where
 unfoldable pub wellListed : Bytes → Bool
 wellListed requests = leb (length requests) maxRequestListSize && eqb (length requests % requestSize) 0
 
--- 2: table not in form; 4: site not below n; 3: no request list; 6: slot over 7, or number 0, with the index of the first such request; 16: two held
--- blocks of the site share a sequence number; 30: building past sequence 65,535; 17: output shorter than the block, with the length needed
+-- 2: table not in form; 4: site not below n; 3: no request list; 6: slot over 7, or number 0, with the index of the first such request; 18: a slot
+-- equal to an earlier one, with the index of the first such request; 16: two held blocks of the site share a sequence number; 30: building past
+-- sequence 65,535; 17: output shorter than the block, with the length needed
 abbrev pub buildingChecks : (ℕ → Bool) → Bool → Setup → View → ℕ → Bytes → ℕ → List Check
 buildingChecks seen formed s v p requests room =
     check 2 formed 0
     ∷ check 4 (ltb p (s .sites)) 0
     ∷ check 3 (wellListed requests) 0
-    ∷ check 6 (not (anyBelow (badRequestAt requests) (length requests / requestSize))) (firstBelow (badRequestAt requests) (length requests / requestSize))
+    ∷ checkNone 6 (badRequestAt requests) (length requests / requestSize)
+    ∷ checkNone 18 (slotRepeatedAt requests) (length requests / requestSize)
     ∷ check 16 (not (forkedIn v seen p)) 0
     ∷ check 30 (leb (nextSequence seen v p) maxSequence) 0
     ∷ check 17 (leb (length (nextBlock seen v p requests)) room) (length (nextBlock seen v p requests))

@@ -8,7 +8,7 @@ use Rattle.base.specs.Search.{First}
 use Rattle.base.specs.Bytes.{Bytes, AllBytes}
 use Rattle.answer.specs.declared.Answer.{Answer}
 use Rattle.block.specs.Limits.{requestSize, maxRequestListSize}
-use Rattle.block.specs.Promises.{BadIn}
+use Rattle.block.specs.Promises.{BadIn, SlotRepeatedIn}
 use Rattle.block.specs.Codec.{Reads}
 use Rattle.table.specs.View.{maxPlaces}
 use Rattle.table.specs.Layout.{setupOf, countOf, sequenceAt, viewOf}
@@ -33,13 +33,23 @@ pub record WholeList (t : Bytes) (p : ℕ) (requests : Bytes) : Type 0 where
 abbrev pub BadRequest : Bytes → ℕ → Type 0
 BadRequest requests = BadIn requests (length requests / requestSize)
 
+-- request i of the request list has the slot of an earlier one
+abbrev pub RepeatedSlot : Bytes → ℕ → Type 0
+RepeatedSlot requests = SlotRepeatedIn requests (length requests / requestSize)
+
 -- checks 2, 4, 3 and 6 hold
+pub record GoodList (t : Bytes) (p : ℕ) (requests : Bytes) : Type 0 where
+  pub wholeList : WholeList t p requests
+  pub noneBad : ((i : ℕ) × BadRequest requests i) → ⊥
+
+-- checks 2, 4, 3, 6 and 18 hold
 pub record Asked (t : Bytes) (p : ℕ) (requests : Bytes) : Type 0 where
   pub formed : inForm t ≡ true
   pub site : p < setupOf t .sites
   pub fits : length requests ≤ maxRequestListSize
   pub whole : length requests % requestSize ≡ 0
   pub noneBad : ((i : ℕ) × BadRequest requests i) → ⊥
+  pub noneRepeated : ((i : ℕ) × RepeatedSlot requests i) → ⊥
 
 -- a held block of the site has sequence number 65,535, so no block can follow it
 pub record Ended (seen : ℕ → Bool) (t : Bytes) (p : ℕ) : Type 0 where
@@ -68,12 +78,12 @@ module _ (seen : ℕ → Bool) (t : Bytes) (p : ℕ) (requests output : Bytes) w
   abbrev pub needed : ℕ
   needed = length (nextBlock seen (viewOf t) p requests)
 
-  -- checks 2, 4, 3, 6 and 16 hold
+  -- checks 2, 4, 3, 6, 18 and 16 hold
   pub record Able : Type 0 where
     pub asked : Asked t p requests
     pub unforked : Shares (viewOf t) seen p → ⊥
 
-  -- checks 2, 4, 3, 6, 16 and 30 hold
+  -- checks 2, 4, 3, 6, 18, 16 and 30 hold
   pub record Lasting : Type 0 where
     pub able : Able
     pub within : nextSequence seen (viewOf t) p ≤ maxSequence
@@ -86,14 +96,17 @@ module _ (seen : ℕ → Bool) (t : Bytes) (p : ℕ) (requests output : Bytes) w
     pub six : (answer .refusal ≡ 6) ↔ (WholeList t p requests × ((i : ℕ) × BadRequest requests i))
     -- "index of first such request"
     pub firstBad : answer .refusal ≡ 6 → First (BadRequest requests) (answer .value)
+    pub eighteen : (answer .refusal ≡ 18) ↔ (GoodList t p requests × ((i : ℕ) × RepeatedSlot requests i))
+    -- "the index of the first such request"
+    pub firstSlot : answer .refusal ≡ 18 → First (RepeatedSlot requests) (answer .value)
     pub sixteen : (answer .refusal ≡ 16) ↔ (Asked t p requests × Shares (viewOf t) seen p)
     pub thirty : (answer .refusal ≡ 30) ↔ (Able × Ended seen t p)
     pub seventeen : (answer .refusal ≡ 17) ↔ (Lasting × (length output < needed))
     pub none : (answer .refusal ≡ 0) ↔ (Lasting × (needed ≤ length output))
     -- the value of a success is the block's length, and the value of 17 the length needed
     pub value : (answer .refusal ≡ 0) ⊎ (answer .refusal ≡ 17) → answer .value ≡ needed
-    -- beside a refusal that is neither 6 nor 17 the value is 0
-    pub noValue : answer .refusal ≢ 0 → answer .refusal ≢ 6 → answer .refusal ≢ 17 → answer .value ≡ 0
+    -- beside a refusal that is none of 6, 18 and 17 the value is 0
+    pub noValue : answer .refusal ≢ 0 → answer .refusal ≢ 6 → answer .refusal ≢ 18 → answer .refusal ≢ 17 → answer .value ≡ 0
     -- the block that is built reads back to the content of the next block
     pub read : AllBytes t → AllBytes requests → answer .refusal ≡ 0 → Reads (take needed outputAfter) (nextContent seen (viewOf t) p requests)
     -- bytes of the output after the block stay

@@ -58,7 +58,7 @@ pub record RequestList (requests : Bytes) : Type 0 where
 module _ (seen : ℕ → Bool) (t : Bytes) (p : ℕ) (requests output : Bytes) where
   unfoldable pub nextAnswer : Answer
   nextAnswer =
-      answerTo (drop 5 (buildingChecks seen true (setupOf t) (viewOf t) p requests (length output))) (length (nextBlock seen (viewOf t) p requests))
+      answerTo (drop 6 (buildingChecks seen true (setupOf t) (viewOf t) p requests (length output))) (length (nextBlock seen (viewOf t) p requests))
 
   unfoldable pub nextOutput : Bytes
   nextOutput = cond (eqb (nextAnswer .refusal) 0) (splice output 0 (nextBlock seen (viewOf t) p requests)) output

@@ -1,6 +1,6 @@
 // Building a site's next block from its table. Promises: `build` answers and leaves what specs/Building.antt says, for any table, site, request list
 // and output; the block reads back to its content, the table that it was built from admits it unless that is full or holds the same digest, and each
-// of 2, 4, 3, 6, 16, 30 and 17 comes under its cause and under no other (specs/Promises.antt). Assumes nothing; the table is read only.
+// of 2, 4, 3, 6, 18, 16, 30 and 17 comes under its cause and under no other (specs/Promises.antt). Assumes nothing; the table is read only.
 mod next;
 mod picking;
 
@@ -44,6 +44,10 @@ pub fn build_from(table: &[u8], seen: u64, site: u8, requests: &[u8], output: &m
     let bad = block::requests::first_bad(requests);
     if bad < requests.len() / block::REQUEST_SIZE {
         return answer::refused(6, bad);
+    }
+    let repeated_slot = block::requests::first_of_repeated_slot(requests);
+    if repeated_slot < requests.len() / block::REQUEST_SIZE {
+        return answer::refused(18, repeated_slot);
     }
     if watch::sites::forked(table, seen, site) {
         return answer::refused(16, 0);

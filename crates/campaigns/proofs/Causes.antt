@@ -99,13 +99,13 @@ module _ (digest : Bytes → Bytes) (t s : Bytes) (c : ℕ) (b : Bytes) (verdict
       (λ h e. absurd (omega arith)) (λ l h e. refl) (λ l h n e. absurd (omega arith)) (λ g y e. absurd (omega arith)) (λ g n m e. absurd (omega arith))
       (λ g n y e. absurd (other .not17 e)) (λ k z e. absurd (other .not17 e)) (λ k n z e. absurd (other .not17 e))
 
-  no-value : number ≢ 17 → number ≢ 0 → number ≢ 6 → number ≢ 7 → number ≢ 8 → number ≢ 9 → all digest t s c b verdict room .answer .value ≡ 0
+  no-value : number ≢ 17 → number ≢ 0 → number ≢ 6 → number ≢ 18 → number ≢ 7 → number ≢ 8 → number ≢ 9 → all digest t s c b verdict room .answer .value ≡ 0
   no-value =
       by-way digest t s c b verdict room
-      (λ x. x .answer .refusal ≢ 17 → x .answer .refusal ≢ 0 → x .answer .refusal ≢ 6 → x .answer .refusal ≢ 7 → x .answer .refusal ≢ 8 → x .answer .refusal ≢ 9
+      (λ x. x .answer .refusal ≢ 17 → x .answer .refusal ≢ 0 → x .answer .refusal ≢ 6 → x .answer .refusal ≢ 18 → x .answer .refusal ≢ 7 → x .answer .refusal ≢ 8 → x .answer .refusal ≢ 9
       → x .answer .value ≡ 0)
-      (λ h n17 n0 n6 n7 n8 n9. refl) (λ l h n17 n0 n6 n7 n8 n9. absurd (n17 refl)) (λ l h n n17 n0 n6 n7 n8 n9. refl) (λ g y n17 n0 n6 n7 n8 n9. refl) (λ g n m n17 n0 n6 n7 n8 n9. refl)
-      (λ g n y n17 n0 n6 n7 n8 n9. absurd (n9 (g .missing))) (λ k z n17 n0 n6 n7 n8 n9. absurd (n0 z)) (λ k n z n17. own .noValue)
+      (λ h n17 n0 n6 n18 n7 n8 n9. refl) (λ l h n17 n0 n6 n18 n7 n8 n9. absurd (n17 refl)) (λ l h n n17 n0 n6 n18 n7 n8 n9. refl) (λ g y n17 n0 n6 n18 n7 n8 n9. refl) (λ g n m n17 n0 n6 n18 n7 n8 n9. refl)
+      (λ g n y n17 n0 n6 n18 n7 n8 n9. absurd (n9 (g .missing))) (λ k z n17 n0 n6 n18 n7 n8 n9. absurd (n0 z)) (λ k n z n17. own .noValue)
 
   pub causes : Causes digest t s c b verdict room
   causes =

@@ -78,9 +78,9 @@ module _ (digest : Bytes → Bytes) where
       -- answers 9
       pub others : Tested → admission digest t b verdict .refusal ≢ 9 → called .answer ≡ admission digest t b verdict
       pub index : answered ≡ 9 → called .answer ≡ admission digest t b verdict
-      -- the value of 17 is how many numbers the outcomes need; beside any refusal but 17, 6, 7, 8 and 9 the value is 0
+      -- the value of 17 is how many numbers the outcomes need; beside any refusal but 17, 6, 18, 7, 8 and 9 the value is 0
       pub needed : answered ≡ 17 → called .answer .value ≡ outcomesSize
-      pub noValue : answered ≢ 17 → answered ≢ 0 → answered ≢ 6 → answered ≢ 7 → answered ≢ 8 → answered ≢ 9 → called .answer .value ≡ 0
+      pub noValue : answered ≢ 17 → answered ≢ 0 → answered ≢ 6 → answered ≢ 18 → answered ≢ 7 → answered ≢ 8 → answered ≢ 9 → called .answer .value ≡ 0
 
     -- what one call of `arrive` promises
     pub record CallKeeps : Type 0 where

@@ -79,6 +79,7 @@ missing =
     record {
       waitsBehind = refl;
       waitsInBytes = refl;
+      slotTwice = refl;
       waitsAlready = refl;
       waitsAlreadyInBytes = refl;
       waitsForAnother = refl;

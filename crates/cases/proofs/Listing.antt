@@ -27,6 +27,7 @@ listingCases =
       longerSkipped = refl;
       lowerSlotFirst = refl;
       refusedCounted = refl;
+      slotTwice = refl;
       setupShort = refl;
       setupUnlawful = refl;
     }

@@ -1,4 +1,4 @@
--- Reading at a block's limits, by computing. Assumes nothing.
+-- Reading at a block's limits, and where two checks fail, by computing. Assumes nothing.
 use mathlib.Core.Path.{refl}
 use Rattle.cases.specs.Reading.{ReadingCases}
 use Rattle.cases.proofs.Computing.{openedTable}
@@ -20,4 +20,12 @@ readingCases =
       byteMore = refl;
       sixAlone = refl;
       seventeenAlone = refl;
+      sameRequests = refl;
+      otherNumber = refl;
+      thriceStated = refl;
+      firstAndLast = refl;
+      twoRepeated = refl;
+      oneNumber = refl;
+      requestFirst = (refl, refl);
+      slotFirst = (refl, refl);
     }

@@ -77,6 +77,7 @@ shelfForm =
       readable = refl;
       unreadable = refl;
       misshapen = refl;
+      repeatedSlot = refl;
       repeatedReference = refl;
       lengthOver = refl;
       sixRequestsWait = refl;

@@ -27,6 +27,5 @@ slots =
     record {
       notOwned = campaign sharedOut 0 _ refl (omega arith) refl refl refl;
       owned = campaign sharedOut 1 _ refl (omega arith) refl refl refl;
-      firstCounts = campaign (sites 4) 0 _ refl (omega arith) refl refl refl;
       echoOnce = campaign (sites 4) 0 _ refl (omega arith) refl refl refl;
     }

@@ -14,7 +14,7 @@ use Rattle.cases.specs.Toy.{toy, request, block}
 use Rattle.cases.specs.Run.{good, judged, placed, tableAfter, answers}
 use Rattle.cases.specs.Blocks.{fresh, unlawful, first, fork, second, both, stranger, third, fourth, numbered, four, holding}
 
--- "checks 2 to 11 in that order": a row for each two neighbours. Of the last two arrivals the first has both causes and gets the earlier
+-- "checks 2 to 11 in that order", and 18 "straight after 6": a row for each two neighbours, and one for 5 and 18. Of the last two arrivals the first has both causes and gets the earlier
 -- number; in the second only the earlier cause is mended, and it gets the later number.
 pub record OrderCases : Type 0 where
   -- 2, 3: four bytes, brought to a table of three sites, then to a table of four
@@ -34,13 +34,27 @@ pub record OrderCases : Type 0 where
       ∷ good (block 0 0 [] (request 7 1 ∷ request 8 1 ∷ []))
       ∷ [])
       ≡ refused 5 0 ∷ refused 6 1 ∷ []
-  -- 6, 7: a repeated reference and a request of number 0, then of number 1
-  pub requestBeforeRepeated :
+  -- 5, 18: slot 3 requested twice, with verdict 0, then with verdict 1
+  pub verdictBeforeSlot :
       answers toy fresh
-      (good (block 1 0 (toy first ∷ toy first ∷ []) (request 0 0 ∷ []))
-      ∷ good (block 1 0 (toy first ∷ toy first ∷ []) (request 0 1 ∷ []))
+      (judged 0 (block 0 0 [] (request 3 1 ∷ request 3 1 ∷ []))
+      ∷ good (block 0 0 [] (request 3 1 ∷ request 3 1 ∷ []))
       ∷ [])
-      ≡ refused 6 0 ∷ refused 7 1 ∷ []
+      ≡ refused 5 0 ∷ refused 18 1 ∷ []
+  -- 6, 18: slot 3 requested twice, and a third request of number 0, then of number 1
+  pub requestBeforeSlot :
+      answers toy fresh
+      (good (block 0 0 [] (request 3 1 ∷ request 3 1 ∷ request 4 0 ∷ []))
+      ∷ good (block 0 0 [] (request 3 1 ∷ request 3 1 ∷ request 4 1 ∷ []))
+      ∷ [])
+      ≡ refused 6 2 ∷ refused 18 1 ∷ []
+  -- 18, 7: a repeated reference, and slot 3 requested twice, then slots 3 and 4
+  pub slotBeforeRepeated :
+      answers toy fresh
+      (good (block 1 0 (toy first ∷ toy first ∷ []) (request 3 1 ∷ request 3 1 ∷ []))
+      ∷ good (block 1 0 (toy first ∷ toy first ∷ []) (request 3 1 ∷ request 4 1 ∷ []))
+      ∷ [])
+      ≡ refused 18 1 ∷ refused 7 1 ∷ []
   -- 7, 8: a block that shares a held block's digest and repeats a reference, then the held block once more
   pub repeatedBeforeHeld :
       answers toy fresh (good first ∷ good fork ∷ good both ∷ good (block 1 0 (toy first ∷ toy first ∷ []) []) ∷ good both ∷ [])
@@ -71,7 +85,7 @@ pub record OrderCases : Type 0 where
 -- What admission puts into the table.
 pub record RowCases : Type 0 where
   -- the bytes of the fourth block, field after field
-  pub written : fourth ≡ 3 ∷ 0 ∷ 1 ∷ 2 ∷ 3 ∷ (toy third ++ (toy first ++ (5 ∷ 3 ∷ 4 ∷ 5 ∷ 3 ∷ 5 ∷ 7 ∷ 0 ∷ 1 ∷ [])))
+  pub written : fourth ≡ 3 ∷ 0 ∷ 1 ∷ 2 ∷ 2 ∷ (toy third ++ (toy first ++ (5 ∷ 3 ∷ 4 ∷ 7 ∷ 0 ∷ 1 ∷ [])))
   -- the table `four`: its count, and each field at places 0 to 3
   pub count : countOf four ≡ 4
   pub digests : listBelow (digestAt four) 4 ≡ toy first ∷ toy fork ∷ toy third ∷ toy fourth ∷ []
@@ -79,9 +93,9 @@ pub record RowCases : Type 0 where
   pub sequences : listBelow (sequenceAt four) 4 ≡ 0 ∷ 0 ∷ 0 ∷ 1 ∷ []
   -- the references as masks: place 2 refers to place 1, and place 3 to places 0 and 2
   pub references : listBelow (referencesAt four) 4 ≡ 0 ∷ 0 ∷ 2 ∷ 5 ∷ []
-  pub requestedOnce : listBelow (countedRequestAt four 0) slotCount ≡ 42 ∷ 0 ∷ 0 ∷ 0 ∷ 0 ∷ 0 ∷ 0 ∷ 0 ∷ []
-  -- "If a slot is requested twice in a block, the first counts"
-  pub requestedTwice : listBelow (countedRequestAt four 3) slotCount ≡ 0 ∷ 0 ∷ 0 ∷ 0 ∷ 0 ∷ 772 ∷ 0 ∷ 1 ∷ []
+  -- the request of each slot, 0 where there is none
+  pub oneRequest : listBelow (countedRequestAt four 0) slotCount ≡ 42 ∷ 0 ∷ 0 ∷ 0 ∷ 0 ∷ 0 ∷ 0 ∷ 0 ∷ []
+  pub twoRequests : listBelow (countedRequestAt four 3) slotCount ≡ 0 ∷ 0 ∷ 0 ∷ 0 ∷ 0 ∷ 772 ∷ 0 ∷ 1 ∷ []
   -- "uninterpreted"
   pub marks : listBelow (markAt four) 4 ≡ 0 ∷ 0 ∷ 0 ∷ 0 ∷ []
   -- "Entries from the count on are zero"
@@ -119,6 +133,10 @@ pub record ValueCases : Type 0 where
   -- 6: "slot over 7, or number 0", with the index of the first such request
   pub slotEight : answers toy fresh (good (block 0 0 [] (request 7 1 ∷ request 8 1 ∷ request 0 0 ∷ [])) ∷ []) ≡ refused 6 1 ∷ []
   pub numberNone : answers toy fresh (good (block 0 0 [] (request 7 1 ∷ request 6 256 ∷ request 0 0 ∷ [])) ∷ []) ≡ refused 6 2 ∷ []
+  -- 18: "a slot equal to an earlier one in the same block", with the index of the first such request, which is the later of the two
+  pub requestedTwice : answers toy fresh (good (block 0 0 [] (request 0 43 ∷ request 0 42 ∷ [])) ∷ []) ≡ refused 18 1 ∷ []
+  pub repeatedSlots :
+      answers toy fresh (good (block 0 0 [] (request 7 1 ∷ request 0 2 ∷ request 1 3 ∷ request 0 4 ∷ request 7 5 ∷ [])) ∷ []) ≡ refused 18 3 ∷ []
   -- 7: "a reference equal to an earlier one", with the index of the first such
   pub repeatedLater :
       answers toy fresh (good (block 1 0 (toy first ∷ toy fork ∷ toy fork ∷ toy first ∷ []) []) ∷ []) ≡ refused 7 2 ∷ []

@@ -120,6 +120,9 @@ pub record MissingCases : Type 0 where
   pub waitsInBytes :
       arrival toy (chainBlock 1) ofThree 1 partly 1 20
       ≡ calling (lacks 1) (chainBlock 1) (shelfBytes (lackingReference 0 for 0 ∷ lackingReference 0 for 3 ∷ longest for 0 ∷ partly for 1 ∷ [])) []
+  -- a block that states a slot twice and lacks a reference would not get 9: it gets 18, and does not wait
+  pub slotTwice :
+      arrives fresh [] 0 (block 2 0 (toy stranger ∷ []) (request 0 1 ∷ request 0 2 ∷ [])) 1 ≡ leaving (refused 18 1) fresh [] []
   -- "instead of it 20, its bytes already wait for that campaign", with 0 beside it
   pub waitsAlready :
       arrives (chainBlock 1) (lackingReference 0 for 0 ∷ partly for 0 ∷ []) 0 partly 1

@@ -51,9 +51,9 @@ stranger = block 3 0 [] (request 0 99 ∷ [])
 unfoldable pub third : Bytes
 third = block 3 0 (toy fork ∷ []) []
 
--- site 3's next block, which refers to its third and to the first, and requests slot 5 twice
+-- site 3's next block, which refers to its third and to the first, and requests in slots 5 and 7
 unfoldable pub fourth : Bytes
-fourth = block 3 1 (toy third ∷ toy first ∷ []) (request 5 772 ∷ request 5 773 ∷ request 7 1 ∷ [])
+fourth = block 3 1 (toy third ∷ toy first ∷ []) (request 5 772 ∷ request 7 1 ∷ [])
 
 -- blocks of site 0 and sequence 0 that differ in the number requested
 unfoldable pub numbered : ℕ → Bytes

@@ -46,7 +46,7 @@ returnedRow (suc (suc (suc i))) = interpretedRow 3 3 0 (λ j. false)
 unfoldable pub returned : Bytes
 returned = layout (sites 4) (record { retired = 1; held = 4; row = returnedRow })
 
--- "Checks 2, 4, 3, 6, 16, 17", and 30 "straight after 16": a row for each two neighbours. Of the two calls the first has both causes and gets
+-- "Checks 2, 4, 3, 6, 16, 17", 18 "straight after 6" and 30 "straight after 16": a row for each two neighbours. Of the two calls the first has both causes and gets
 -- the earlier number; in the second only the earlier cause is mended, and it gets the later number.
 pub record BuildingOrderCases : Type 0 where
   -- 2, 4: site 4, on a table of three sites, then on a table of four
@@ -55,9 +55,13 @@ pub record BuildingOrderCases : Type 0 where
   pub siteBeforeList : (building fresh 4 (0 ∷ []) [] ≡ refused 4 0) × (building fresh 3 (0 ∷ []) [] ≡ refused 3 0)
   -- 3, 6: a request of slot 8 and a byte more, then without that byte
   pub listBeforeRequest : (building fresh 3 (requestWritten 8 1 ++ (0 ∷ [])) [] ≡ refused 3 0) × (building fresh 3 (requestWritten 8 1) [] ≡ refused 6 0)
-  -- 6, 16: a site that forked, with a second request of number 0, then of number 1
-  pub requestBeforeFork :
-      (building four 0 (requestWritten 0 1 ++ requestWritten 1 0) [] ≡ refused 6 1) × (building four 0 (requestWritten 0 1 ++ requestWritten 1 1) [] ≡ refused 16 0)
+  -- 6, 18: slot 0 twice, and a third request of number 0, then of number 1
+  pub requestBeforeSlot :
+      (building four 0 (requestWritten 0 1 ++ requestWritten 0 1 ++ requestWritten 1 0) [] ≡ refused 6 2)
+      × (building four 0 (requestWritten 0 1 ++ requestWritten 0 1 ++ requestWritten 1 1) [] ≡ refused 18 1)
+  -- 18, 16: a site that forked, with slot 0 twice, then with slots 0 and 1
+  pub slotBeforeFork :
+      (building four 0 (requestWritten 0 1 ++ requestWritten 0 2) [] ≡ refused 18 1) × (building four 0 (requestWritten 0 1 ++ requestWritten 1 2) [] ≡ refused 16 0)
   -- 16, 17: an output of no bytes, for a site that forked, then for a site that did not
   pub forkBeforeOutput : (building four 0 [] [] ≡ refused 16 0) × (building four 3 [] [] ≡ refused 17 (blockSize 1 0))
   -- 16, 30: two blocks of sequence number 65,535, then one
@@ -75,6 +79,10 @@ pub record BuildingCases : Type 0 where
   pub sixteenBytes : building fresh 3 (fiveWritten ++ (5 ∷ [])) (room 29) ≡ refused 3 0
   pub sixListed : building fresh 3 (fiveWritten ++ requestWritten 5 1) (room 29) ≡ refused 3 0
   pub eightListed : building fresh 3 (replicate 24 1) (room 29) ≡ refused 3 0
+  -- 18, "with the index of the first such request": slots 1 and 0 again; the output stays
+  pub slotsRepeated :
+      building fresh 3 (requestWritten 0 1 ++ requestWritten 1 1 ++ requestWritten 2 1 ++ requestWritten 1 2 ++ requestWritten 0 2) (room 20) ≡ refused 18 3
+  pub repeatedStays : built fresh 3 (requestWritten 0 1 ++ requestWritten 0 2) (room 20) ≡ room 20
   -- "A block is then at most 532 bytes": 16 references and five requests, with an output of that length and of one byte less
   pub longestBuilt : building (holding 18) 1 fiveWritten (room 532) ≡ success 532
   pub longestShort : building (holding 18) 1 fiveWritten (room 531) ≡ refused 17 532

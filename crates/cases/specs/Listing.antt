@@ -85,6 +85,10 @@ pub record ListingCases : Type 0 where
       ++ (0 ∷ 4 ∷ 1 ∷ 0 ∷ 0 ∷ 0 ∷ 0
       ∷ 0 ∷ 5 ∷ 1 ∷ 0 ∷ []))))
       ≡ namesText ++ (shortLine 48 53 ++ (shortLine 49 51 ++ (shortLine 50 51 ++ shortLine 51 51)))
+  -- 18: a block that requests 1 and 2 in slot 3. "0 - - - - - 18"
+  pub slotTwice :
+      listing toy [] (fourSitesInput ++ (0 ∷ 11 ∷ 1 ∷ 0 ∷ 0 ∷ 0 ∷ 0 ∷ 2 ∷ 3 ∷ 0 ∷ 1 ∷ 3 ∷ 0 ∷ 2 ∷ []))
+      ≡ namesText ++ (48 ∷ 32 ∷ 45 ∷ 32 ∷ 45 ∷ 32 ∷ 45 ∷ 32 ∷ 45 ∷ 32 ∷ 45 ∷ 32 ∷ 49 ∷ 56 ∷ 10 ∷ [])
   -- "A setup that is short or unlawful gives, after the names, `- - - - - - 1` and the end": eight bytes; n 3
   pub setupShort : listing toy [] (4 ∷ replicate 7 0) ≡ namesText ++ shortLine 45 49
   pub setupUnlawful : listing toy [] (3 ∷ (replicate 8 0 ++ (0 ∷ 5 ∷ 1 ∷ replicate 5 0))) ≡ namesText ++ shortLine 45 49

@@ -1,4 +1,4 @@
--- Document 01, "The block", with the limits of request One: the limits, and reading at each of them.
+-- Document 01, "The block", with the limits of request One and the check of request Two: reading at each limit, and where two checks fail.
 use mathlib.Core.Path.{_≡_}
 use mathlib.Core.List.{[], _∷_, _++_}
 use Prim.Native.Nat.{ℕ}
@@ -36,3 +36,20 @@ pub record ReadingCases : Type 0 where
   -- six requests and no reference; 17 references and no request
   pub sixAlone : read (block 0 0 [] (listBelow (λ i. request i 1) 6)) ≡ refused 3 0
   pub seventeenAlone : read (block 0 0 (listBelow (λ i. toy (numbered i)) 17) []) ≡ refused 3 0
+  -- "18, a slot equal to an earlier one in the same block, with the index of the first such request": a request twice; one slot with two numbers, and
+  -- with three; the first slot again at the end; two slots again
+  pub sameRequests : read (block 0 0 [] (request 5 1 ∷ request 5 1 ∷ [])) ≡ refused 18 1
+  pub otherNumber : read (block 0 0 [] (request 0 1 ∷ request 0 2 ∷ [])) ≡ refused 18 1
+  pub thriceStated : read (block 0 0 [] (request 7 1 ∷ request 7 2 ∷ request 7 3 ∷ [])) ≡ refused 18 1
+  pub firstAndLast : read (block 0 0 [] (request 7 1 ∷ request 0 1 ∷ request 1 1 ∷ request 2 1 ∷ request 7 2 ∷ [])) ≡ refused 18 4
+  pub twoRepeated : read (block 0 0 [] (request 0 1 ∷ request 1 1 ∷ request 2 1 ∷ request 1 2 ∷ request 0 2 ∷ [])) ≡ refused 18 3
+  -- one number in different slots is no cause
+  pub oneNumber : read (block 0 0 [] (request 7 9 ∷ request 0 9 ∷ request 6 9 ∷ request 3 9 ∷ request 1 9 ∷ [])) ≡ success 0
+  -- 6, 18: a slot again at index 1, and number 0 at index 4, then number 1
+  pub requestFirst :
+      (read (block 0 0 [] (request 0 1 ∷ request 0 1 ∷ request 1 1 ∷ request 2 1 ∷ request 3 0 ∷ [])) ≡ refused 6 4)
+      × (read (block 0 0 [] (request 0 1 ∷ request 0 1 ∷ request 1 1 ∷ request 2 1 ∷ request 3 1 ∷ [])) ≡ refused 18 1)
+  -- 18, 7: a reference again at index 1, and a slot again at index 4, then another slot
+  pub slotFirst :
+      (read (block 0 0 (toy (numbered 0) ∷ toy (numbered 0) ∷ []) (request 0 1 ∷ request 1 1 ∷ request 2 1 ∷ request 3 1 ∷ request 0 1 ∷ [])) ≡ refused 18 4)
+      × (read (block 0 0 (toy (numbered 0) ∷ toy (numbered 0) ∷ []) (request 0 1 ∷ request 1 1 ∷ request 2 1 ∷ request 3 1 ∷ request 4 1 ∷ [])) ≡ refused 7 1)

@@ -158,8 +158,9 @@ pub record ShelfFormCases : Type 0 where
   -- "one that the reader accepts": the first block requests slot 7; it requests slot 8, for which the reader has 6
   pub readable : shelfInForm (changed ofThree (entryStart 0 + entryHeader + 37) 7) ≡ true
   pub unreadable : shelfInForm (changed ofThree (entryStart 0 + entryHeader + 37) 8) ≡ false
-  -- blocks for which the reader has 3 and 7: one byte is missing; a reference is repeated
+  -- blocks for which the reader has 3, 18 and 7: one byte is missing; a slot is repeated; a reference is repeated
   pub misshapen : rulesHold (take 7 first for 0 ∷ []) ≡ false
+  pub repeatedSlot : rulesHold (block 2 0 [] (request 0 1 ∷ request 0 2 ∷ []) for 0 ∷ []) ≡ false
   pub repeatedReference : rulesHold (block 2 0 (toy first ∷ toy first ∷ []) [] for 0 ∷ []) ≡ false
   -- a length over 532; a block of six requests, for which the reader has 3
   pub lengthOver : shelfInForm (splice ofThree (entryStart 2 + 1) (2 ∷ 21 ∷ [])) ≡ false

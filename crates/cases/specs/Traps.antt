@@ -174,8 +174,6 @@ pub record SlotCases : Type 0 where
   -- each slot has its owner: of site 1's two requests only the one in slot 1, which site 1 owns, is sent
   pub notOwned : Campaign sharedOut 0 (twoSlots making none ∷ [])
   pub owned : Campaign sharedOut 1 (twoSlots making sends 43 ∷ [])
-  -- "If a slot is requested twice in a block, the first counts"
-  pub firstCounts : Campaign (sites 4) 0 (block 0 0 [] (request 0 43 ∷ request 0 42 ∷ []) making sends 43 ∷ [])
   -- "SEND v from the owner, ECHO not sent": a second SEND, heard a block later, brings no second ECHO
   pub echoOnce : Campaign (sites 4) 0
       (first making sends 42

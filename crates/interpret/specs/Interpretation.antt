@@ -5,10 +5,9 @@ use mathlib.Core.List.{List, [], _∷_}
 use Prim.Native.Nat.{ℕ, zero, suc}
 use lib.Dec.{eqb, ltb}
 use lib.ListN.{length}
-use Rattle.base.specs.Search.{firstBelow, anyBelow}
 use Rattle.base.specs.Bytes.{Bytes, splice}
 use Rattle.answer.specs.declared.Answer.{Answer}
-use Rattle.answer.specs.Checks.{Check, check, answerTo}
+use Rattle.answer.specs.Checks.{Check, check, checkNone, answerTo}
 use Rattle.setup.specs.Setup.{Setup}
 use Rattle.broadcast.specs.declared.SlotRecord.{SlotRecord}
 use Rattle.table.specs.View.{Row, interpreted, View}
@@ -48,7 +47,7 @@ interpretationChecks formed v size i =
     ∷ check 12 (eqb size bufferSize) 0
     ∷ check 13 (ltb i (v .held)) 0
     ∷ check 14 (not (interpreted (v .row i))) 0
-    ∷ check 15 (not (anyBelow (refersUninterpreted v (v .row i)) i)) (firstBelow (refersUninterpreted v (v .row i)) i)
+    ∷ checkNone 15 (refersUninterpreted v (v .row i)) i
     ∷ []
 
 -- the answer of an interpretation

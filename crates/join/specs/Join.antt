@@ -5,11 +5,11 @@ use mathlib.Core.List.{List, [], _∷_}
 use Prim.Native.Nat.{ℕ, zero, suc, _+_}
 use lib.Dec.{eqb, leb, ltb}
 use lib.ListN.{length}
-use Rattle.base.specs.Search.{firstBelow, anyBelow, allBelow}
+use Rattle.base.specs.Search.{anyBelow, allBelow}
 use Rattle.base.specs.Count.{countBelow}
 use Rattle.base.specs.Bytes.{Bytes, sameBytes, splice}
 use Rattle.answer.specs.declared.Answer.{Answer}
-use Rattle.answer.specs.Checks.{Check, check, answerTo}
+use Rattle.answer.specs.Checks.{Check, check, checkNone, answerTo}
 use Rattle.setup.specs.Setup.{Setup, slotCount}
 use Rattle.table.specs.View.{maxPlaces, Row, interpreted, View}
 use Rattle.table.specs.Layout.{setupOf, retiredOf, countOf, digestAt, viewOf, withRow, withMark}
@@ -72,7 +72,7 @@ joinChecks left right leftSize rightSize size =
     ∷ check 12 (eqb leftSize bufferSize && (eqb rightSize bufferSize && eqb size bufferSize)) 0
     ∷ check 31 (neitherRetired left right) 0
     ∷ check 23 (sameSetup (setupOf left) (setupOf right)) 0
-    ∷ check 24 (not (anyBelow (clashAt (viewOf left) (viewOf right)) (countOf left))) (firstBelow (clashAt (viewOf left) (viewOf right)) (countOf left))
+    ∷ checkNone 24 (clashAt (viewOf left) (viewOf right)) (countOf left)
     ∷ check 25 (leb (joinedCount (viewOf left) (viewOf right)) maxPlaces) 0
     ∷ []
 

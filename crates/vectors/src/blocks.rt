@@ -10,10 +10,10 @@ use block::Reading;
 use setup::SLOTS;
 
 // Room for a block of one reference too many.
-const ROOM: usize = HEADER_SIZE + REFERENCE_SIZE * (MAX_REFERENCES + 1);
+pub const ROOM: usize = HEADER_SIZE + REFERENCE_SIZE * (MAX_REFERENCES + 1);
 
 // Where the requests of a block of the most references begin.
-const REQUESTS: usize = HEADER_SIZE + REFERENCE_SIZE * MAX_REFERENCES;
+pub const REQUESTS: usize = HEADER_SIZE + REFERENCE_SIZE * MAX_REFERENCES;
 
 fn show(name: &[u8], bytes: &[u8]) {
     let line = Line::new()
@@ -51,7 +51,7 @@ fn show_front(name: &[u8], block: [u8; ROOM], n: usize) {
 
 // A block of the most references and requests, and behind it requests of the other slots: reference i is 32 times the byte i + 1, request i asks for
 // i + 1 in slot i.
-fn full() -> [u8; ROOM] {
+pub fn full() -> [u8; ROOM] {
     let mut b = [0u8; ROOM];
     b[0] = 3;
     b[1] = 1;
@@ -178,13 +178,39 @@ fn show_counted_of(list: &[u8], slot: u8) {
         .show();
 }
 
-// Slot 0 is requested twice, and slot 3 not at all.
+// Slot 5 is not requested.
 fn show_counted() {
-    let b = with_request(full(), 3, 0, 9);
-    show_front(b"slot 0 at 0 and at 3", b, MAX_BLOCK_SIZE);
+    let b = full();
     show_counted_of(&b[REQUESTS..MAX_BLOCK_SIZE], 0);
     show_counted_of(&b[REQUESTS..MAX_BLOCK_SIZE], 4);
-    show_counted_of(&b[REQUESTS..MAX_BLOCK_SIZE], 3);
+    show_counted_of(&b[REQUESTS..MAX_BLOCK_SIZE], 5);
+}
+
+fn show_slots() {
+    let b = full();
+    show_front(
+        b"slot 0 at 0 and at 3",
+        with_request(b, 3, 0, 9),
+        MAX_BLOCK_SIZE,
+    );
+    show_front(
+        b"slot 1 at 0 and at 1",
+        with_request(b, 0, 1, 2),
+        MAX_BLOCK_SIZE,
+    );
+    let c = with_request(b, 3, 1, 9);
+    show_front(
+        b"slot 1 at 1 and at 3, 0 at 0 and at 4",
+        with_request(c, 4, 0, 9),
+        MAX_BLOCK_SIZE,
+    );
+    let d = with_request(b, 0, 7, 1);
+    show_front(b"slot 7 at 0", d, MAX_BLOCK_SIZE);
+    show_front(
+        b"slot 7 at 0 and at 4",
+        with_request(d, 4, 7, 1),
+        MAX_BLOCK_SIZE,
+    );
 }
 
 fn show_references() {
@@ -205,6 +231,17 @@ fn show_references() {
 
 fn show_orders() {
     let b = with_reference(full(), 1, 0);
+    show_front(
+        b"slot 0 at 0 and at 4, reference 1 as 0",
+        with_request(b, 4, 0, 1),
+        MAX_BLOCK_SIZE,
+    );
+    let a = with_request(b, 1, 0, 1);
+    show_front(
+        b"number 0 at 4, slot 0 at 0 and at 1",
+        with_request(a, 4, 4, 0),
+        MAX_BLOCK_SIZE,
+    );
     show_front(
         b"number 0 at 4, reference 1 as 0",
         with_request(b, 4, 4, 0),
@@ -251,6 +288,7 @@ pub fn show_all() {
     show_counts();
     show_requests();
     show_counted();
+    show_slots();
     show_references();
     show_orders();
     show_written();

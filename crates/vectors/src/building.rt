@@ -1,6 +1,7 @@
 // Campaigns in which sites build their own blocks, what the watch says of them, and what building refuses. campaigns.rt says how a campaign is
 // written.
 use crate::admissions::admit_up_to;
+use crate::blocks;
 use crate::campaigns::show;
 use crate::line::show_answer;
 use block::MAX_BLOCK_SIZE;
@@ -94,6 +95,14 @@ fn show_list_refusals(table: &[u8]) {
         b"build, slot 8 in the second request",
         build::build(table, 3, &[0, 0, 1, 8, 0, 1], &mut room),
     );
+    show_answer(
+        b"build, slot 0 in the first and second request, number 0 in the third",
+        build::build(table, 3, &[0, 0, 1, 0, 0, 2, 1, 0, 0], &mut room),
+    );
+    show_answer(
+        b"build, slot 0 in the first and third request",
+        build::build(table, 3, &[0, 0, 1, 1, 0, 1, 0, 0, 2], &mut room),
+    );
 }
 
 fn show_output_refusal(table: &[u8]) {
@@ -109,16 +118,17 @@ fn show_longest() {
     let fresh = table::fresh(4, [0; SLOTS]);
     let mut table = fresh.table;
     admit_up_to(&mut table, 18);
-    let requests = [1u8; MAX_REQUEST_LIST_SIZE];
+    let full = blocks::full();
+    let requests = &full[blocks::REQUESTS..MAX_BLOCK_SIZE];
     let mut short = [0u8; MAX_BLOCK_SIZE - 1];
     show_answer(
         b"build, room for the longest but a byte",
-        build::build(&table, 1, &requests, &mut short),
+        build::build(&table, 1, requests, &mut short),
     );
     let mut room = [0u8; MAX_BLOCK_SIZE];
     show_answer(
         b"build, room for the longest",
-        build::build(&table, 1, &requests, &mut room),
+        build::build(&table, 1, requests, &mut room),
     );
 }
 

@@ -1,12 +1,9 @@
 -- `admit` meets its contract: one law for each way out. Assumes nothing.
 use mathlib.Core.Path.{_≡_, refl, sym, _∙_}
 use mathlib.Core.Bool.{true, false}
-use mathlib.Core.Logic.{_≢_, inl, inr}
-use mathlib.Core.List.{[], _∷_}
+use mathlib.Core.Logic.{_≢_}
 use Prim.Native.Nat.{ℕ, _≤_, _<_}
 use native.Mathlib.Omega.{arith}
-use types.Run.{OneOf}
-use denote.Enum.Declared.{tagOf}
 use borrow.Author.Needs.{needs}
 use borrow.Author.Tests.{eq-eqb, ne-eqb, lt-ltb, le-ltb, not-true, not-false}
 use Rattle.base.specs.Bytes.{Bytes}
@@ -18,10 +15,10 @@ use Rattle.block.specs.Layout.{siteOf}
 use Rattle.block.specs.Reading.{wellShaped, fieldsOf, reading, answerOf}
 use Rattle.block.specs.declared.Fields.{Fields}
 use Rattle.block.specs.declared.Reading.{Reading}
-use Rattle.block.specs.declared.Reading.the-variants.{Block, Misshapen, BadRequest, RepeatedReference}
-use Rattle.block.proofs.Reading.{the-type}
+use Rattle.block.specs.declared.Reading.the-variants.{Block}
 use Rattle.block.proofs.Shape.{shaped}
 use Rattle.block.proofs.Acceptance.{reading-accepted}
+use Rattle.block.proofs.LetElse.{Refuses, refusal-number}
 use Rattle.table.specs.Layout.{setupOf}
 use Rattle.table.specs.Form.{inForm}
 use Rattle.table.proofs.InForm.{formed-places}
@@ -29,15 +26,6 @@ use Rattle.admission.specs.Admission.{admission, admitted}
 use Rattle.admission.specs.Steps.{heldAnswer, entered}
 use Rattle.admission.proofs.admit.Statement.{statement}
 use Rattle.admission.proofs.admit.Tie as tie
-
--- a reading that is no block has a refusal's number
-refused-number : (r : Reading) → OneOf (1 ∷ 2 ∷ 3 ∷ []) (tagOf the-type r) → answerOf r .refusal ≢ 0
-refused-number (Block f) (inl e) = absurd (omega arith)
-refused-number (Block f) (inr (inl e)) = absurd (omega arith)
-refused-number (Block f) (inr (inr e)) = absurd (omega arith)
-refused-number Misshapen k = λ e. omega arith
-refused-number (BadRequest i) k = λ e. omega arith
-refused-number (RepeatedReference i) k = λ e. omega arith
 
 module _ (t b : Bytes) (verdict : ℕ) where
   -- what a call promises
@@ -68,10 +56,10 @@ module _ (t b : Bytes) (verdict : ℕ) where
         way5 n = refusing (refused 5 0) (rw (formed, shape, lt-ltb (siteOf b) (setupOf t .sites) site, ne-eqb verdict 1 n)) (λ z. omega arith)
 
         module _ (link : verdict ≡ 1) (r : Reading) (er : r ≡ reading b) where
-          way-reader : OneOf (1 ∷ 2 ∷ 3 ∷ []) (tagOf the-type r) → (a : Answer) → a ≡ answerOf r → Promised a t
+          way-reader : Refuses r → (a : Answer) → a ≡ answerOf r → Promised a t
           unfolding admission answerTo
           way-reader k a e =
-              let n = refused-number r k in
+              let n = refusal-number r k in
               refusing a
               (e ∙ rw (formed, shape, lt-ltb (siteOf b) (setupOf t .sites) site, eq-eqb verdict 1 link, ← er, ne-eqb (answerOf r .refusal) 0 n) refl)
               (λ z. n (number-of (sym e) ∙ z))

@@ -15,6 +15,9 @@ returns-3 c = rw (c .before .before .r .given .1) (c .refused2 .ensures)
 returns-4 : tie.Need-returns-4
 returns-4 c = rw (c .before .before .r2 .given .1) (c .refused3 .ensures)
 
+returns-5 : tie.Need-returns-5
+returns-5 c = rw (c .before .before .r3 .given .1) (c .refused4 .ensures)
+
 pub answer-of-spec : {M : Type 1} → statement M
 answer-of-spec =
     tie.close
@@ -27,7 +30,10 @@ answer-of-spec =
     (λ c κs. search needs)
     (λ c. search needs)
     (λ c κs. search needs)
+    (λ c. search needs)
+    (λ c κs. search needs)
     returns
     returns-2
     returns-3
-    returns-4)
+    returns-4
+    returns-5)

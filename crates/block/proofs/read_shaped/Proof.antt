@@ -1,81 +1,122 @@
--- `read_shaped` meets its contract: one law for each way out. Assumes nothing.
-use mathlib.Core.Path.{_≡_, ap, _∙_}
-use Prim.Native.Nat.{ℕ, _≤_, _<_}
+-- `read_shaped` meets its contract: what is left of reading at each place of the walk. Assumes nothing.
+use mathlib.Core.Path.{_≡_, sym, ap, _∙_}
+use mathlib.Core.Bool.{Bool}
+use Prim.Native.Nat.{ℕ, _/_, _≤_, _<_}
 use native.Mathlib.Omega.{arith}
+use lib.ListN.{length}
 use borrow.Author.Needs.{needs}
-use borrow.Author.Tests.{lt-ltb, le-ltb}
-use Rattle.base.specs.Search.{firstBelow, anyBelow}
+use Rattle.base.specs.Search.{firstBelow}
 use Rattle.base.specs.Bytes.{Bytes}
+use Rattle.base.proofs.Search.{any-found, any-missed}
+use Rattle.block.specs.Limits.{requestSize}
 use Rattle.block.specs.Layout.{siteOf, sequenceOf, referenceCount, requestCount, referenceList, requestList}
-use Rattle.block.specs.Reading.{badRequestAt, referenceRepeatedAt, reading}
+use Rattle.block.specs.Reading.{badRequestAt, slotRepeatedAt, referenceRepeatedAt, fieldsOf, eachEntry, reading}
 use Rattle.block.specs.Promises.{Shaped}
-use Rattle.block.specs.Steps.{firstBad, firstRepeated}
-use Rattle.block.specs.declared.Reading.the-variants.{Block, BadRequest, RepeatedReference}
+use Rattle.block.specs.Steps.{fromReferences, fromSlots}
+use Rattle.block.specs.declared.Fields.{Fields}
+use Rattle.block.specs.declared.Reading.{Reading}
+use Rattle.block.specs.declared.Reading.the-variants.{Block, BadRequest, RepeatedSlot, RepeatedReference}
+use Rattle.block.proofs.RequestCheck.{none-bad}
 use Rattle.block.proofs.Shape.{well-shaped, references-counted, requests-counted}
 use Rattle.block.proofs.read_shaped.Statement.{statement}
 use Rattle.block.proofs.read_shaped.Tie as tie
 
+-- a check of entries, by the first that fails; the code has the count in n
+module _ (fails : ℕ → Bool) (count n i : ℕ) (en : n ≡ count) (e : i ≡ firstBelow fails count) (refusal : ℕ → Reading) (rest : Reading) where
+  failed : i < n → refusal i ≡ eachEntry fails count refusal rest
+  failed h = rw (any-found fails i count e (omega arith), ← e)
+
+  passed : n ≤ i → rest ≡ eachEntry fails count refusal rest
+  passed h = rw (any-missed fails i count e (omega arith))
+
+-- a search over a list by its own length, where the code has the block's list and count
+first-is : (fails : Bytes → ℕ → Bool) (list own : Bytes) (size count i : ℕ) → list ≡ own → length own / size ≡ count → i ≡ firstBelow (fails list) (length list / size)
+    → i ≡ firstBelow (fails own) count
+first-is fails list own size count i l n e = e ∙ rw (l, n)
+
 module _ (b : Bytes) (s : Shaped b) where
-  -- the two searches, over the lists by their own length
-  bad-is : (list : Bytes) (i : ℕ) → list ≡ requestList b → i ≡ firstBad list → i ≡ firstBelow (badRequestAt (requestList b)) (requestCount b)
-  bad-is list i l e = e ∙ ap firstBad l ∙ ap (firstBelow (badRequestAt (requestList b))) (requests-counted b s)
+  from-requests : eachEntry (badRequestAt (requestList b)) (requestCount b) BadRequest (fromSlots b) ≡ reading b
+  unfolding reading
+  from-requests = rw (well-shaped b s)
 
-  repeated-is : (list : Bytes) (j : ℕ) → list ≡ referenceList b → j ≡ firstRepeated list → j ≡ firstBelow (referenceRepeatedAt (referenceList b)) (referenceCount b)
-  repeated-is list j l e = e ∙ ap firstRepeated l ∙ ap (firstBelow (referenceRepeatedAt (referenceList b))) (references-counted b s)
+  counted-in : (list : Bytes) → list ≡ requestList b → length list / requestSize ≡ requestCount b
+  counted-in list l = rw l (requests-counted b s)
 
-  module _ (p r i : ℕ) (ep : p ≡ referenceCount b) (er : r ≡ requestCount b) (ei : i ≡ firstBelow (badRequestAt (requestList b)) (requestCount b)) where
-    way-bad : i < r → BadRequest i ≡ reading b
-    unfolding reading anyBelow
-    way-bad l = rw (well-shaped b s, ← ei, lt-ltb i (requestCount b) (omega arith))
+  fields : (f : Fields) → f .site ≡ siteOf b → f .sequence ≡ sequenceOf b → f .references ≡ referenceCount b → f .requests ≡ requestCount b → f ≡ fieldsOf b
+  fields f es en ep er = rw (← es, ← en, ← ep, ← er)
 
-    module _ (good : r ≤ i) (j : ℕ) (ej : j ≡ firstBelow (referenceRepeatedAt (referenceList b)) (referenceCount b)) where
-      way-repeated : j < p → RepeatedReference j ≡ reading b
-      unfolding reading anyBelow
-      way-repeated l = rw (well-shaped b s, ← ei, le-ltb i (requestCount b) (omega arith), ← ej, lt-ltb j (referenceCount b) (omega arith))
+-- ---- the places of the walk, and what is left of reading there
 
-      way-block : p ≤ j → (site n : ℕ) → site ≡ siteOf b → n ≡ sequenceOf b
-          → Block (record { site = site; sequence = n; references = p; requests = r }) ≡ reading b
-      unfolding reading anyBelow
-      way-block l site n es en =
-          rw (well-shaped b s, ← ei, le-ltb i (requestCount b) (omega arith), ← ej, le-ltb j (referenceCount b) (omega arith), ep, er, es, en)
-
--- the places on the way, from the end of each search back
 abbrev counted : tie.After-first-bad → tie.After-reference-count
 counted c = c .before .before .before
 
 abbrev start : tie.After-first-bad → tie.Start
 start c = counted c .before .before
 
-abbrev searched : tie.After-first-repeated → tie.Else1
-searched c = c .before .before
+abbrev block : tie.After-first-bad → Bytes
+block c = start c .args .block .now
 
--- what each search found
-bad : (c : tie.After-first-bad) → c .first-bad .result ≡ firstBelow (badRequestAt (requestList (start c .args .block .now))) (requestCount (start c .args .block .now))
-bad c = bad-is _ (start c .pre) _ _ (c .before .request-list .ensures) (c .first-bad .ensures)
+searched : (c : tie.After-first-bad) → let b = block c in c .first-bad .result ≡ firstBelow (badRequestAt (requestList b)) (requestCount b)
+searched c = first-is badRequestAt _ _ _ _ _ (c .before .request-list .ensures) (requests-counted _ (start c .pre)) (c .first-bad .ensures)
 
-repeated : (c : tie.After-first-repeated) → let b = start (searched c .before) .args .block .now in
+-- after check 6
+good : (c : tie.Else1) → fromSlots (block (c .before)) ≡ reading (block (c .before))
+good c =
+    let q = c .before in
+    passed _ _ _ _ (q .before .before .request-count .ensures) (searched q) BadRequest _ (c .if1 .left) ∙ from-requests _ (start q .pre)
+
+slot-searched : (c : tie.After-first-of-repeated-slot) → let b = block (c .before .before) in
+    c .first-of-repeated-slot .result ≡ firstBelow (slotRepeatedAt (requestList b)) (requestCount b)
+slot-searched c =
+    let q = c .before .before in
+    first-is slotRepeatedAt _ _ _ _ _ (q .before .request-list .ensures) (requests-counted _ (start q .pre)) (c .first-of-repeated-slot .ensures)
+
+-- after check 18
+apart : (c : tie.Else2) → let b = block (c .before .before .before) in fromReferences b ≡ reading b
+apart c =
+    let f = c .before in
+    let q = f .before .before in
+    passed _ _ _ _ (q .before .before .request-count .ensures) (slot-searched f) RepeatedSlot _ (c .if2 .left) ∙ good (f .before)
+
+abbrev with-slots : tie.After-first-repeated → tie.Else2
+with-slots c = c .before .before
+
+abbrev with-bad : tie.After-first-repeated → tie.After-first-bad
+with-bad c = with-slots c .before .before .before
+
+repeated : (c : tie.After-first-repeated) → let b = block (with-bad c) in
     c .first-repeated .result ≡ firstBelow (referenceRepeatedAt (referenceList b)) (referenceCount b)
-repeated c = repeated-is _ (start (searched c .before) .pre) _ _ (c .before .reference-list .ensures) (c .first-repeated .ensures)
+repeated c =
+    first-is referenceRepeatedAt _ _ _ _ _ (c .before .reference-list .ensures) (references-counted _ (start (with-bad c) .pre)) (c .first-repeated .ensures)
 
 returns : tie.Need-returns
 returns c =
     let q = c .before in
-    way-bad _ (start q .pre) _ _ _ (counted q .reference-count .ensures) (q .before .before .request-count .ensures) (bad q) (c .if1 .taken)
+    failed _ _ _ _ (q .before .before .request-count .ensures) (searched q) BadRequest _ (c .if1 .taken) ∙ from-requests _ (start q .pre)
+
+first-of-repeated-slot-requires : tie.Need-first-of-repeated-slot-requires
+first-of-repeated-slot-requires c κs =
+    let q = c .before in
+    none-bad _ _ (q .first-bad .ensures) (omega (arith, c .if1 .left, q .before .before .request-count .ensures, counted-in _ (start q .pre) _ (q .before .request-list .ensures)))
 
 returns-2 : tie.Need-returns-2
 returns-2 c =
-    let k = searched (c .before) in
-    let q = k .before in
-    way-repeated _ (start q .pre) _ _ _ (counted q .reference-count .ensures) (q .before .before .request-count .ensures) (bad q) (k .if1 .left)
-    _ (repeated (c .before)) (c .if2 .taken)
+    let f = c .before in
+    let q = f .before .before in
+    failed _ _ _ _ (q .before .before .request-count .ensures) (slot-searched f) RepeatedSlot _ (c .if2 .taken) ∙ good (f .before)
 
 returns-3 : tie.Need-returns-3
 returns-3 c =
+    let f = c .before in
+    failed _ _ _ _ (counted (with-bad f) .reference-count .ensures) (repeated f) RepeatedReference _ (c .if3 .taken) ∙ apart (with-slots f)
+
+returns-4 : tie.Need-returns-4
+returns-4 c =
     let g = c .before .before in
-    let k = searched (g .before) in
-    let q = k .before in
-    way-block _ (start q .pre) _ _ _ (counted q .reference-count .ensures) (q .before .before .request-count .ensures) (bad q) (k .if1 .left)
-    _ (repeated (g .before)) (g .if2 .left) _ _ (c .before .site-of .ensures) (c .sequence-of .ensures)
+    let f = g .before in
+    let q = with-bad f in
+    ap Block (fields _ (start q .pre) _ (c .before .site-of .ensures) (c .sequence-of .ensures) (counted q .reference-count .ensures) (q .before .before .request-count .ensures))
+    ∙ passed _ _ _ _ (counted (with-bad f) .reference-count .ensures) (repeated f) RepeatedReference _ (g .if3 .left) ∙ apart (with-slots f)
 
 pub read-shaped-spec : {M : Type 1} → statement M
 read-shaped-spec =
@@ -86,9 +127,11 @@ read-shaped-spec =
     (λ c κs. search needs)
     (λ c κs. search needs)
     returns
-    (λ c κs. search needs)
-    (λ c κs. search needs)
+    first-of-repeated-slot-requires
     returns-2
     (λ c κs. search needs)
     (λ c κs. search needs)
-    returns-3)
+    returns-3
+    (λ c κs. search needs)
+    (λ c κs. search needs)
+    returns-4)

@@ -8,17 +8,15 @@ use native.Mathlib.Omega.{arith}
 use lib.ListN.{length}
 use borrow.Author.Needs.{needs}
 use borrow.Author.Tests.{ne-eqb, lt-ltb, le-ltb, not-true, not-false}
-use Rattle.base.specs.Search.{anyBelow}
 use Rattle.base.specs.Mask.{inMask}
 use Rattle.base.specs.Bytes.{Bytes}
+use Rattle.base.proofs.Search.{any-found, any-missed}
 use Rattle.answer.specs.declared.Answer.{Answer}
 use Rattle.answer.specs.Checks.{Check, refused}
 use Rattle.answer.specs.Promises.{checkAt, FirstHold}
 use Rattle.answer.proofs.Checks.{number-of}
 use Rattle.answer.proofs.Promises.{decides, past}
-use Rattle.block.specs.Limits.{requestSize}
-use Rattle.block.specs.Reading.{badRequestAt}
-use Rattle.block.specs.Steps.{firstBad}
+use Rattle.block.proofs.RequestCheck.{none-bad}
 use Rattle.table.specs.Layout.{setupOf, viewOf}
 use Rattle.table.specs.Form.{inForm}
 use Rattle.table.proofs.InForm.{table-form, formed-places}
@@ -30,17 +28,6 @@ use Rattle.build.proofs.build_from.Tie as tie
 
 listed : (requests : Bytes) → wellListed requests ≡ true → RequestList requests
 listed requests e = let w = well-listed requests .0 e in record { fits = w .0; whole = omega (arith, w .1) }
-
--- the test of check 6, by the first bad request
-some-bad : (requests : Bytes) (i : ℕ) → i ≡ firstBad requests → i < length requests / requestSize
-    → not (anyBelow (badRequestAt requests) (length requests / requestSize)) ≡ false
-unfolding anyBelow
-some-bad requests i e h = rw (← e, lt-ltb i (length requests / requestSize) h)
-
-none-bad : (requests : Bytes) (i : ℕ) → i ≡ firstBad requests → length requests / requestSize ≤ i
-    → not (anyBelow (badRequestAt requests) (length requests / requestSize)) ≡ true
-unfolding anyBelow
-none-bad requests i e h = rw (← e, le-ltb i (length requests / requestSize) h)
 
 module _ (seen : ℕ) (t : Bytes) (p : ℕ) (requests output : Bytes) where
   abbrev checks : List Check
@@ -61,11 +48,11 @@ module _ (seen : ℕ) (t : Bytes) (p : ℕ) (requests output : Bytes) where
   way-refused k h n passed fails a e =
       refusing a (e ∙ sym (decides checks (length (nextBlock (inMask seen) (viewOf t) p requests)) k h passed fails)) (λ z. n (sym (number-of e) ∙ z))
 
-  through : FirstHold checks 5 → buildingFrom (inMask seen) t p requests output ≡ nextAnswer (inMask seen) t p requests output
+  through : FirstHold checks 6 → buildingFrom (inMask seen) t p requests output ≡ nextAnswer (inMask seen) t p requests output
   unfolding buildingFrom nextAnswer
-  through e = past checks _ 5 e
+  through e = past checks _ 6 e
 
-  way-written : FirstHold checks 5 → (a : Answer) (output′ : Bytes) → a ≡ nextAnswer (inMask seen) t p requests output → output′ ≡ nextOutput (inMask seen) t p requests output
+  way-written : FirstHold checks 6 → (a : Answer) (output′ : Bytes) → a ≡ nextAnswer (inMask seen) t p requests output → output′ ≡ nextOutput (inMask seen) t p requests output
       → Promised a output′
   unfolding builtFrom nextOutput
   way-written passed a output′ e e′ = (e ∙ sym (through passed), rw (through passed) e′)
@@ -97,13 +84,19 @@ abbrev with-list : tie.Else4 → tie.Else3
 with-list c = c .before .before
 
 good : (c : tie.Else4) → Holding (start (in-form (of-site (with-list c)))) 4
-good c = (list (with-list c), none-bad _ _ (c .before .first-bad .ensures) (c .if4 .left))
+good c = (list (with-list c), ap not (any-missed _ _ _ (c .before .first-bad .ensures) (c .if4 .left)))
 
 abbrev with-good : tie.Else5 → tie.Else4
 with-good c = c .before .before
 
-unforked : (c : tie.Else5) → Holding (start (in-form (of-site (with-list (with-good c))))) 5
-unforked c = (good (with-good c), ap not (sym (c .before .forked .ensures) ∙ c .if5 .left))
+apart : (c : tie.Else5) → Holding (start (in-form (of-site (with-list (with-good c))))) 5
+apart c = (good (with-good c), ap not (any-missed _ _ _ (c .before .first-of-repeated-slot .ensures) (c .if5 .left)))
+
+abbrev with-apart : tie.Else6 → tie.Else5
+with-apart c = c .before .before
+
+unforked : (c : tie.Else6) → Holding (start (in-form (of-site (with-list (with-good (with-apart c)))))) 6
+unforked c = (apart (with-apart c), ap not (sym (c .before .forked .ensures) ∙ c .if6 .left))
 
 pub build-from-spec : {M : Type 1} → statement M
 build-from-spec =
@@ -120,13 +113,16 @@ build-from-spec =
     (λ c. let d = c .before in way-refused _ _ _ _ _ 2 (omega arith) (λ z. omega arith) (site (d .before .before)) (sym (d .before .well-listed .ensures) ∙ not-true _ (d .if3 .taken)) _ (c .refused3 .ensures))
     (λ c κs. search needs)
     (λ c κs. search needs)
-    (λ c. let d = c .before in way-refused _ _ _ _ _ 3 (omega arith) (λ z. omega arith) (list (d .before .before)) (some-bad _ _ (d .before .first-bad .ensures) (d .if4 .taken)) _ (c .refused4 .ensures ∙ ap (refused 6) (d .before .first-bad .ensures)))
-    (λ c κs. formed-places _ (formed (in-form (of-site (with-list c))) .1))
+    (λ c. let d = c .before in way-refused _ _ _ _ _ 3 (omega arith) (λ z. omega arith) (list (d .before .before)) (ap not (any-found _ _ _ (d .before .first-bad .ensures) (d .if4 .taken))) _ (c .refused4 .ensures ∙ ap (refused 6) (d .before .first-bad .ensures)))
+    (λ c κs. none-bad _ _ (c .before .first-bad .ensures) (c .if4 .left))
     (λ c κs. search needs)
-    (λ c. let d = c .before in way-refused _ _ _ _ _ 4 (omega arith) (λ z. omega arith) (good (d .before .before)) (ap not (sym (d .before .forked .ensures) ∙ d .if5 .taken)) _ (c .refused5 .ensures))
+    (λ c. let d = c .before in way-refused _ _ _ _ _ 4 (omega arith) (λ z. omega arith) (good (d .before .before)) (ap not (any-found _ _ _ (d .before .first-of-repeated-slot .ensures) (d .if5 .taken))) _ (c .refused5 .ensures ∙ ap (refused 18) (d .before .first-of-repeated-slot .ensures)))
+    (λ c κs. formed-places _ (formed (in-form (of-site (with-list (with-good c)))) .1))
+    (λ c κs. search needs)
+    (λ c. let d = c .before in way-refused _ _ _ _ _ 5 (omega arith) (λ z. omega arith) (apart (d .before .before)) (ap not (sym (d .before .forked .ensures) ∙ d .if6 .taken)) _ (c .refused6 .ensures))
     (λ c κs.
     let u = c .before in
     let h = unforked u in
-    (record { formed = h .0 .0 .0 .0 .1; sized = formed-places _ (h .0 .0 .0 .0 .1); unforked = sym (u .before .forked .ensures) ∙ u .if5 .left }, listed _ (h .0 .0 .1)))
+    (record { formed = h .0 .0 .0 .0 .0 .1; sized = formed-places _ (h .0 .0 .0 .0 .0 .1); unforked = sym (u .before .forked .ensures) ∙ u .if6 .left }, listed _ (h .0 .0 .0 .1)))
     (λ c. search needs)
     (λ c. let w = c .before .before in way-written _ _ _ _ _ (unforked (w .before .before)) _ _ (w .write-next .ensures .0) (w .write-next .ensures .1)))

@@ -1,8 +1,5 @@
 -- `gt_read_block` meets its contract: the reader accepted, or it refused. Assumes nothing.
 use mathlib.Core.Path.{_≡_, sym}
-use mathlib.Core.List.{[], _∷_}
-use types.Run.{OneOf}
-use denote.Enum.Declared.{tagOf}
 use borrow.Author.Needs.{needs}
 use Rattle.base.specs.Bytes.{Bytes}
 use Rattle.answer.specs.Checks.{success}
@@ -11,14 +8,13 @@ use Rattle.block.specs.Reading.{reading, answerOf}
 use Rattle.block.specs.declared.Fields.{Fields}
 use Rattle.block.specs.declared.Reading.{Reading}
 use Rattle.block.specs.declared.Reading.the-variants.{Block}
-use Rattle.block.proofs.Reading.{the-type}
-use Rattle.block.proofs.LetElse.{when-refused, when-accepted}
+use Rattle.block.proofs.LetElse.{Refuses, when-refused, when-accepted}
 use Rattle.c_interface.specs.Calls.{noFields, blockReading}
 use Rattle.c_interface.specs.declared.BlockReading.{BlockReading}
 use Rattle.c_interface.proofs.gt_read_block.Statement.{statement}
 use Rattle.c_interface.proofs.gt_read_block.Tie as tie
 
-way-refused : (b : Bytes) (r : Reading) (a : Answer) → r ≡ reading b → OneOf (1 ∷ 2 ∷ 3 ∷ []) (tagOf the-type r) → a ≡ answerOf r
+way-refused : (b : Bytes) (r : Reading) (a : Answer) → r ≡ reading b → Refuses r → a ≡ answerOf r
     → _≡_ {A = BlockReading} (record { answer = a; fields = noFields }) (blockReading b)
 unfolding blockReading
 way-refused b r a e k q = rw q (sym (when-refused _ _ b r e k))

@@ -1,10 +1,8 @@
 -- `gt_reference` meets its contract: one law for each way out. Assumes nothing.
 use mathlib.Core.Path.{_≡_, ap, sym, _∙_}
-use mathlib.Core.List.{[], _∷_}
+use mathlib.Core.List.{[]}
 use Prim.Native.Nat.{ℕ, _+_, _*_, _≤_, _<_}
 use native.Mathlib.Omega.{arith}
-use types.Run.{OneOf}
-use denote.Enum.Declared.{tagOf}
 use lib.ListN.{length, drop, length-drop}
 use lib.Seq.{length-take-le}
 use borrow.Author.Needs.{needs}
@@ -18,16 +16,15 @@ use Rattle.block.specs.Promises.{Shaped}
 use Rattle.block.specs.declared.Fields.{Fields}
 use Rattle.block.specs.declared.Reading.{Reading}
 use Rattle.block.specs.declared.Reading.the-variants.{Block}
-use Rattle.block.proofs.Reading.{the-type}
 use Rattle.block.proofs.Shape.{reference-list-length}
-use Rattle.block.proofs.LetElse.{when-refused, when-accepted}
+use Rattle.block.proofs.LetElse.{Refuses, when-refused, when-accepted}
 use Rattle.block.proofs.Acceptance.{AcceptedAs, reading-accepted}
 use Rattle.c_interface.specs.Calls.{noSuchEntry, digestAnswer, putOutput, referenceAnswer, referenceOutput}
 use Rattle.c_interface.proofs.gt_reference.Statement.{statement}
 use Rattle.c_interface.proofs.gt_reference.Tie as tie
 
 module _ (b o : Bytes) (i : ℕ) (r : Reading) (e : r ≡ reading b) where
-  way-refused : (a : Answer) → OneOf (1 ∷ 2 ∷ 3 ∷ []) (tagOf the-type r) → a ≡ answerOf r → (a ≡ referenceAnswer b i o) × (o ≡ referenceOutput b i o)
+  way-refused : (a : Answer) → Refuses r → a ≡ answerOf r → (a ≡ referenceAnswer b i o) × (o ≡ referenceOutput b i o)
   unfolding referenceAnswer referenceOutput
   way-refused a k q = (q ∙ sym (when-refused _ _ b r e k), sym (when-refused _ _ b r e k))
 

@@ -1,10 +1,7 @@
 -- `gt_request` meets its contract: one law for each way out. Assumes nothing.
 use mathlib.Core.Path.{_≡_, ap, sym, _∙_}
-use mathlib.Core.List.{[], _∷_}
 use Prim.Native.Nat.{ℕ, _+_, _*_, _≤_, _<_}
 use native.Mathlib.Omega.{arith}
-use types.Run.{OneOf}
-use denote.Enum.Declared.{tagOf}
 use lib.ListN.{length}
 use borrow.Author.Needs.{needs}
 use borrow.Author.Tests.{le-leb, lt-leb}
@@ -19,9 +16,8 @@ use Rattle.block.specs.declared.Fields.{Fields}
 use Rattle.block.specs.declared.Request.{Request}
 use Rattle.block.specs.declared.Reading.{Reading}
 use Rattle.block.specs.declared.Reading.the-variants.{Block}
-use Rattle.block.proofs.Reading.{the-type}
 use Rattle.block.proofs.Shape.{request-list-length}
-use Rattle.block.proofs.LetElse.{when-refused, when-accepted}
+use Rattle.block.proofs.LetElse.{Refuses, when-refused, when-accepted}
 use Rattle.block.proofs.Acceptance.{AcceptedAs, reading-accepted}
 use Rattle.c_interface.specs.Calls.{noSuchEntry, withoutRequest, requested}
 use Rattle.c_interface.specs.declared.Requested.{Requested}
@@ -29,7 +25,7 @@ use Rattle.c_interface.proofs.gt_request.Statement.{statement}
 use Rattle.c_interface.proofs.gt_request.Tie as tie
 
 module _ (b : Bytes) (i : ℕ) (r : Reading) (e : r ≡ reading b) where
-  way-refused : (a : Answer) → OneOf (1 ∷ 2 ∷ 3 ∷ []) (tagOf the-type r) → a ≡ answerOf r → withoutRequest a ≡ requested b i
+  way-refused : (a : Answer) → Refuses r → a ≡ answerOf r → withoutRequest a ≡ requested b i
   unfolding requested
   way-refused a k q = rw q (sym (when-refused _ _ b r e k))
 

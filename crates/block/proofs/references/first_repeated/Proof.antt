@@ -5,10 +5,9 @@ use mathlib.Core.Bool.{true, false}
 use Prim.Native.Nat.{ℕ, _≤_, _<_, _-_, _/_}
 use lib.ListN.{length}
 use borrow.Author.Needs.{needs}
-use borrow.Author.Tests.{lt-ltb, le-ltb}
-use Rattle.base.specs.Search.{firstBelow, anyBelow}
+use Rattle.base.specs.Search.{firstBelow}
 use Rattle.base.specs.Bytes.{Bytes}
-use Rattle.base.proofs.Search.{first-none, first-past, first-hit, first-end}
+use Rattle.base.proofs.Search.{first-none, first-past, first-hit, first-end, any-found, any-missed}
 use Rattle.block.specs.Limits.{referenceSize}
 use Rattle.block.specs.Layout.{referenceAt}
 use Rattle.block.specs.Reading.{referenceRepeatedAt}
@@ -18,12 +17,10 @@ use Rattle.block.proofs.references.first_repeated.Tie as tie
 
 -- what a search for reference i among those before it shows
 found : (list key : Bytes) (i j : ℕ) → key ≡ referenceAt list i → j ≡ firstSame list i key → j < i → referenceRepeatedAt list i ≡ true
-unfolding anyBelow
-found list key i j e s h = lt-ltb _ i (rw (s, e) at h)
+found list key i j e s h = any-found _ j i (rw e at s) h
 
 unfound : (list key : Bytes) (i j : ℕ) → key ≡ referenceAt list i → j ≡ firstSame list i key → i ≤ j → referenceRepeatedAt list i ≡ false
-unfolding anyBelow
-unfound list key i j e s h = le-ltb _ i (rw (s, e) at h)
+unfound list key i j e s h = any-missed _ j i (rw e at s) h
 
 abbrev Inv-loop : tie.InvT-loop
 Inv-loop list k i₀ i = (i ≤ k) × (k ≡ length list / referenceSize) × (firstBelow (referenceRepeatedAt list) i ≡ i)

@@ -2,35 +2,15 @@
 -- Assumes nothing.
 use native.Mathlib.Omega.{arith}
 use mathlib.Core.Path.{_≡_, refl, sym, ap, _∙_}
-use mathlib.Core.List.{List}
-use Prim.Native.Nat.{ℕ, _+_, _≤_, _<_, _-_, _/_}
-use native.Mathlib.Numerals.{add-one}
-use lib.ListN.{length, drop, drop-of-length-le}
+use Prim.Native.Nat.{_≤_, _-_, _/_}
+use lib.ListN.{length}
 use borrow.Author.Needs.{needs}
-use borrow.Author.Tests.{eq-eqb, ne-eqb}
-use Rattle.base.specs.Bytes.{Bytes}
 use Rattle.block.specs.Limits.{requestSize}
-use Rattle.block.specs.Layout.{requestAt, requestsIn, countedRequest}
+use Rattle.block.specs.Layout.{requestsIn, countedRequest}
 use Rattle.block.specs.declared.Request.{Request}
-use Rattle.block.proofs.Lists.{requests-length, requests-drop}
+use Rattle.block.proofs.Counting.{from, here, past, none}
 use Rattle.block.proofs.requests.counted_request.Statement.{statement}
 use Rattle.block.proofs.requests.counted_request.Tie as tie
-
--- the requests from index i on
-abbrev from : Bytes → ℕ → List Request
-from list i = drop i (requestsIn list)
-
-here : (list : Bytes) (slot i : ℕ) → i < length list / requestSize → requestAt list i .slot ≡ slot → countedRequest (from list i) slot ≡ requestAt list i .number
-unfolding countedRequest
-here list slot i h e = rw (requests-drop list i h, eq-eqb _ _ e)
-
-past : (list : Bytes) (slot i : ℕ) → i < length list / requestSize → (requestAt list i .slot ≡ slot → ⊥) → countedRequest (from list i) slot ≡ countedRequest (from list (i + 1)) slot
-unfolding countedRequest
-past list slot i h n = rw (add-one i, requests-drop list i h, ne-eqb _ _ n)
-
-none : (list : Bytes) (slot i : ℕ) → length list / requestSize ≤ i → countedRequest (from list i) slot ≡ 0
-unfolding countedRequest
-none list slot i h = rw (drop-of-length-le (requestsIn list) {i = i} (omega (arith, requests-length list)))
 
 abbrev Inv-loop : tie.InvT-loop
 Inv-loop list slot k i₀ i = (i ≤ k) × (k ≡ length list / requestSize) × (countedRequest (requestsIn list) slot ≡ countedRequest (from list i) slot)
