@@ -4,7 +4,7 @@
  * block. Writes one line for each to standard output:
  *
  *   DIGEST site S seq Q references R requests T   a block that reads; R and T are lists, '-' where empty
- *   DIGEST refusal N [index I]                    a block that the reader refuses; 6 and 7 have an index
+ *   DIGEST refusal N [index I]                    a block that the reader refuses; 6, 18 and 7 have an index
  *   - refusal 3                                   no block: an over-long length, or the input ends inside the arrival
  *
  * Ends with exit status 0 at the input's end, and with 1 and a message if reading or writing fails.
@@ -21,7 +21,7 @@
 #include <stdlib.h>
 
 /* Refusal numbers of docs/FORMATS.md. */
-enum { WRONG_LENGTH = 3, BAD_REQUEST = 6, REPEATED_REFERENCE = 7 };
+enum { WRONG_LENGTH = 3, BAD_REQUEST = 6, REPEATED_SLOT = 18, REPEATED_REFERENCE = 7 };
 
 typedef enum {
     NO_ARRIVAL, /* the input had ended */
@@ -112,10 +112,15 @@ static void write_fields(const uint8_t *block, size_t length, gt_fields fields)
     write_requests(block, length, fields.requests);
 }
 
+static bool has_index(uint8_t refusal)
+{
+    return refusal == BAD_REQUEST || refusal == REPEATED_SLOT || refusal == REPEATED_REFERENCE;
+}
+
 static void write_refusal(gt_answer answer)
 {
     printf(" refusal %" PRIu8, answer.refusal);
-    if (answer.refusal == BAD_REQUEST || answer.refusal == REPEATED_REFERENCE)
+    if (has_index(answer.refusal))
         printf(" index %zu", answer.value);
 }
 

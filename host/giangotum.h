@@ -22,7 +22,7 @@ extern "C" {
 
 /* The version. A program that was written for a lower second number goes on working, but for what CHANGELOG.md says. */
 #define GT_VERSION_MAJOR 1
-#define GT_VERSION_MINOR 10
+#define GT_VERSION_MINOR 11
 
 /* Bytes of a digest, and so of a reference. */
 #define GT_DIGEST_BYTES 32
@@ -69,15 +69,17 @@ gt_answer gt_digest(const uint8_t *message, size_t message_length, uint8_t *outp
 /* Reads a block.
  *   3: under 5 bytes, more references or requests than a block has, or a length other than the two counts give;
  *   6, value the index of the first such request: a slot over 7, or number 0;
+ *   18, value the index of the first such request: a slot equal to an earlier one in the same block;
  *   7, value the index of the first such reference: a reference equal to an earlier one. */
 gt_reading gt_read_block(const uint8_t *block, size_t block_length);
 
 /* Writes reference `index` of a block to the first 32 bytes of the output; the bytes after them stay.
- *   3, 6, 7: as gt_read_block; then 13: the block has no such reference; then 17, value 32: the output is shorter than 32 bytes. */
+ *   3, 6, 18, 7: as gt_read_block; then 13: the block has no such reference; then 17, value 32: the output is shorter than 32
+ *   bytes. */
 gt_answer gt_reference(const uint8_t *block, size_t block_length, size_t index, uint8_t *output, size_t output_length);
 
 /* Request `index` of a block.
- *   3, 6, 7: as gt_read_block; then 13: the block has no such request. */
+ *   3, 6, 18, 7: as gt_read_block; then 13: the block has no such request. */
 gt_requested gt_request(const uint8_t *block, size_t block_length, size_t index);
 
 #ifdef __cplusplus

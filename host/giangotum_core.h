@@ -99,6 +99,7 @@ bool gt_in_form(const uint8_t *table, size_t table_length);
  *   4: its site is not below n;
  *   5: the verdict is not 1;
  *   6, value the index of the first such request: a slot over 7, or number 0;
+ *   18, value the index of the first such request: a slot equal to an earlier one in the same block;
  *   7, value the index of the first such reference: a reference equal to an earlier one;
  *   8, value its place: a block of the same digest is held;
  *   9, value the index of the first such reference: a reference to no held block;
@@ -154,6 +155,7 @@ gt_ancestor_places gt_ancestors(const uint8_t *table, size_t table_length, size_
  *   4: the site is not below n;
  *   3: the request list is over GT_MAX_REQUEST_LIST_BYTES or no multiple of 3;
  *   6, value the index of the first such request: a slot over 7, or number 0;
+ *   18, value the index of the first such request: a slot equal to an earlier one in the list;
  *   16: two held blocks of the site share a sequence number;
  *   30: the site's greatest sequence number is 65,535, and no number follows;
  *   17, value the length needed: the output is shorter than the block. */
@@ -185,7 +187,7 @@ bool gt_shelf_in_form(const uint8_t *shelf, size_t shelf_length);
  *   21: the campaign is above 3;
  *   17, value GT_OUTCOMES_NUMBERS: the outcomes have room for fewer numbers than that;
  *   2: the shelf is not in form, or the table;
- *   3 to 8: as gt_admit;
+ *   3 to 6, 18, 7, 8: as gt_admit;
  *   20: a reference is not held, and the same bytes wait for this campaign already;
  *   19: a reference is not held, and the shelf has no place for the campaign: it holds GT_SHELF_MOST, or the free places would no
  *       longer cover what the other campaigns lack of their GT_SHELF_RESERVED. One that holds fewer than these never gets 19;

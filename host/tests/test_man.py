@@ -43,7 +43,7 @@ def test_columns_and_refusals():
     text = rendered("giangotum-listing")
     expect(re.search(rf"^ +{NAMES}$", text, re.MULTILINE), "the line of names")
     described = re.findall(r"^\.TP.*\n\.B (\w+)$", source("giangotum-listing"), re.MULTILINE)
-    expect(described == [*NAMES.split(), "1", "3", "4", "5", "6", "7", "8", "9", "10", "11"], f"{described}")
+    expect(described == [*NAMES.split(), "1", "3", "4", "5", "6", "18", "7", "8", "9", "10", "11"], f"{described}")
     for word in described:
         expect(re.search(rf"^ +{word}\b", text, re.MULTILINE), word)
 
