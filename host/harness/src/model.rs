@@ -98,12 +98,7 @@ impl Model {
             replay: Replay::document(),
             shelving: Shelving::document(),
             joining: Joining::document(),
-            // "Reading checks 3, 6 and 7".
-            reading: vec![
-                Check { number: 3, finds: block::misshapen },
-                Check { number: 6, finds: block::bad_request },
-                Check { number: 7, finds: block::repeated_reference },
-            ],
+            reading: block::CHECKS.to_vec(),
             fields: block::fields,
             digest: sha256,
             listing: Listing::document(),

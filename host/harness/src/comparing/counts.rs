@@ -46,14 +46,14 @@ pub enum Call {
 
 /// Each with its name and the refusal numbers that it answers, in the order of the summary.
 const CALLS: [(Call, &str, &[u8]); 9] = [
-    (Call::Admit, "gt_admit", &[0, 2, 3, 4, 5, 6, 7, 8, 9, 10, 11]),
+    (Call::Admit, "gt_admit", &[0, 2, 3, 4, 5, 6, 7, 8, 9, 10, 11, 18]),
     (Call::Interpret, "gt_interpret", &[0, 2, 12, 13, 14, 15]),
     (Call::Retire, "gt_retire", &[0, 2, 12, 13, 29]),
     (Call::TakeBack, "gt_take_back", &[0, 2, 32, 33]),
     (Call::Forks, "gt_forks", &[0, 2]),
     (Call::Ancestors, "gt_ancestors", &[0, 2, 13]),
-    (Call::Build, "gt_build", &[0, 2, 3, 4, 6, 16, 17, 30]),
-    (Call::Arrive, "gt_arrive", &[0, 2, 3, 4, 5, 6, 7, 8, 9, 10, 11, 17, 19, 20, 21]),
+    (Call::Build, "gt_build", &[0, 2, 3, 4, 6, 16, 17, 18, 30]),
+    (Call::Arrive, "gt_arrive", &[0, 2, 3, 4, 5, 6, 7, 8, 9, 10, 11, 17, 18, 19, 20, 21]),
     (Call::Join, "gt_join", &[0, 2, 12, 23, 24, 25, 31]),
 ];
 

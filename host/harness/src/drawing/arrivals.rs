@@ -114,7 +114,8 @@ fn damage(random: &Random, block: &mut Vec<u8>) {
     }
 }
 
-/// Two short lists of the right length with little in them, so that equal references and bad requests abound.
+/// Two short lists of the right length with little in them, so that equal references, equal slots and bad requests
+/// abound.
 fn little_bytes(random: &Random) -> Vec<u8> {
     let (references, requests) = (random.between(0, 2), random.between(0, 3));
     let mut block = random.bytes(HEADER_BYTES);

@@ -221,8 +221,7 @@ impl Builder<'_> {
     }
 }
 
-/// What a site asks for in a round. Owners ask early; now and then again, or twice in one block. Others ask too, in
-/// vain.
+/// What a site asks for in a round. Owners ask early, and now and then again. Others ask too, in vain.
 pub fn requests_of(random: &Random, owners: &[u8; SLOTS], numbers: &[u16], site: u8, round: usize) -> Vec<Request> {
     let request = |slot: u8| Request { slot, number: random.pick(numbers) };
     let asks = |slot: &u8| match (owners[usize::from(*slot)] == site, round) {
@@ -233,9 +232,6 @@ pub fn requests_of(random: &Random, owners: &[u8; SLOTS], numbers: &[u16], site:
     };
     let mut requests: Vec<Request> = (0..SLOTS as u8).filter(asks).map(request).collect();
     random.shuffle(&mut requests);
-    if !requests.is_empty() && random.one_in(4) {
-        requests.push(request(random.pick(&requests).slot));
-    }
     requests.truncate(MAX_REQUESTS);
     requests
 }

@@ -79,7 +79,7 @@ pub fn lawful(random: &Random, table: &Table) -> Draft {
 pub fn longest(random: &Random, table: &Table) -> Draft {
     let mut draft = lawful(random, table);
     fill_references(random, &mut draft, MAX_REFERENCES);
-    fill_requests(random, &mut draft, MAX_REQUESTS);
+    fill_requests(random, &mut draft.requests, MAX_REQUESTS);
     draft
 }
 
@@ -90,7 +90,7 @@ pub fn longest_lawful(random: &Random, table: &Table) -> Draft {
     let others = table.held().iter().filter(|row| !parent(row) && !draft.references.contains(&row.digest));
     let others: Vec<Digest> = others.map(|row| row.digest).collect();
     draft.references.extend(others.iter().take(MAX_REFERENCES - draft.references.len()));
-    fill_requests(random, &mut draft, MAX_REQUESTS);
+    fill_requests(random, &mut draft.requests, MAX_REQUESTS);
     draft
 }
 
@@ -100,20 +100,19 @@ fn fill_references(random: &Random, draft: &mut Draft, count: usize) {
     }
 }
 
-fn fill_requests(random: &Random, draft: &mut Draft, count: usize) {
-    while draft.requests.len() < count {
-        draft.requests.push(Request { slot: 0, number: some_number(random) });
-    }
+/// Adds requests of other slots, in any order, up to so many in all, of which there aren't more than slots.
+fn fill_requests(random: &Random, requests: &mut Vec<Request>, count: usize) {
+    let mut slots: Vec<u8> = (0..SLOTS as u8).filter(|slot| requests.iter().all(|other| other.slot != *slot)).collect();
+    random.shuffle(&mut slots);
+    slots.truncate(count.saturating_sub(requests.len()));
+    requests.extend(slots.into_iter().map(|slot| Request { slot, number: some_number(random) }));
 }
 
-/// As many requests as a block may have.
+/// As many requests as a block may have, of different slots.
 pub fn some_requests(random: &Random) -> Vec<Request> {
-    let count = some_count(random, MAX_REQUESTS);
-    // Few slots make it likely that one is requested twice.
-    let slots = random.pick(&[1, 2, SLOTS, SLOTS]);
-    let first = random.between(0, SLOTS - slots);
-    let request = |random: &Random| Request { slot: (first + random.below(slots)) as u8, number: some_number(random) };
-    (0..count).map(|_| request(random)).collect()
+    let mut requests = Vec::new();
+    fill_requests(random, &mut requests, some_count(random, MAX_REQUESTS));
+    requests
 }
 
 // ---- Faults. Each breaks one rule, where the draft and the table have what it takes.
@@ -121,11 +120,13 @@ pub fn some_requests(random: &Random) -> Vec<Request> {
 type Fault = fn(&Random, &Table, &mut Draft);
 
 // Some stand here twice: they are the ones that other faults most often come before.
-const FAULTS: [Fault; 14] = [
+const FAULTS: [Fault; 16] = [
     bad_site,
     bad_verdict,
     |random, _, draft| bad_request(random, &mut draft.requests),
     |random, _, draft| bad_request(random, &mut draft.requests),
+    |random, _, draft| repeated_slot(random, &mut draft.requests),
+    |random, _, draft| repeated_slot(random, &mut draft.requests),
     repeated_reference,
     repeated_reference,
     missing_reference,
@@ -178,6 +179,14 @@ pub fn bad_request(random: &Random, requests: &mut Vec<Request>) {
     put_in(random, requests, MAX_REQUESTS, Request { slot, number });
 }
 
+/// With another number or the same.
+pub fn repeated_slot(random: &Random, requests: &mut Vec<Request>) {
+    fill_requests(random, requests, 1);
+    let Request { slot, number } = random.pick(requests);
+    let number = random.pick(&[number, some_number(random)]);
+    put_in(random, requests, MAX_REQUESTS, Request { slot, number });
+}
+
 fn repeated_reference(random: &Random, _: &Table, draft: &mut Draft) {
     if draft.references.is_empty() {
         draft.references.push(random.array());
@@ -227,6 +236,6 @@ fn long_list(random: &Random, _: &Table, draft: &mut Draft) {
     if random.one_in(2) {
         fill_references(random, draft, MAX_REFERENCES + 1);
     } else {
-        fill_requests(random, draft, MAX_REQUESTS + 1);
+        fill_requests(random, &mut draft.requests, MAX_REQUESTS + 1);
     }
 }

@@ -40,7 +40,8 @@ impl Feed {
 
 /// Some blocks of which later ones mostly refer to earlier ones.
 pub fn batch(random: &Random, table: &Table) -> Vec<Vec<u8>> {
-    let count = random.pick(&[2, 4, random.between(2, MOST_BLOCKS), MOST_BLOCKS]);
+    // As many as can wait and one that lets them in, which is held or among them.
+    let count = random.pick(&[2, 4, random.between(2, MOST_BLOCKS), MOST_HELD, MOST_HELD + 1, MOST_BLOCKS]);
     let mut blocks = match random.below(4) {
         0 => chain(random, table, count),
         1 => across(random, table, count),

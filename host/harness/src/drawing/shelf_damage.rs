@@ -5,7 +5,8 @@ use crate::drawing::random::Random;
 use crate::drawing::shelves::{holding, some_block};
 use crate::model::shelf::{entry_at, Entry, Shelf};
 use crate::model::sizes::{
-    CAMPAIGNS, ENTRY_BYTES, HEADER_BYTES, MAX_BLOCK_BYTES, MOST_HELD, RESERVED, SHELF_BYTES, SHELF_PLACES,
+    CAMPAIGNS, ENTRY_BYTES, HEADER_BYTES, MAX_BLOCK_BYTES, MOST_HELD, REQUEST_BYTES, RESERVED, SHELF_BYTES,
+    SHELF_PLACES,
 };
 use crate::model::table::Table;
 
@@ -56,7 +57,7 @@ fn random_bytes(random: &Random, shelf: &Shelf) -> Vec<u8> {
 
 type Damage = fn(&Random, &mut Shelf, &Table);
 
-const DAMAGES: [Damage; 20] = [
+const DAMAGES: [Damage; 21] = [
     count,
     count_beyond,
     rest,
@@ -75,6 +76,7 @@ const DAMAGES: [Damage; 20] = [
     one_short,
     gap,
     bad_request,
+    repeated_slot,
     repeated_reference,
     exchanged,
 ];
@@ -232,6 +234,17 @@ fn bad_request(random: &Random, shelf: &mut Shelf, _: &Table) {
             let (slot, low) = random.pick(&[(8, 1), (255, 1), (0, 0)]);
             block[length - 3..].copy_from_slice(&[slot, 0, low]);
             *entry = Entry::of(entry.campaign, &block);
+        }
+    });
+}
+
+/// The last request gets the slot of an earlier one.
+fn repeated_slot(random: &Random, shelf: &mut Shelf, _: &Table) {
+    change(random, shelf, |random, entry| {
+        let requests = usize::from(entry.bytes[4]);
+        if requests > 1 {
+            let last = usize::from(entry.length) - REQUEST_BYTES;
+            entry.bytes[last] = entry.bytes[last - REQUEST_BYTES * random.between(1, requests - 1)];
         }
     });
 }

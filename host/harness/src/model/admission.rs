@@ -15,13 +15,14 @@ pub struct AdmissionInput {
     pub verdict: u8,
 }
 
-/// "Admission takes a table, block bytes and a link verdict, checks 2 to 11 in that order".
-pub const CHECKS: [Check<AdmissionInput>; 10] = [
+/// "Admission takes a table, block bytes and a link verdict, checks 2 to 11 in that order", and 18 "straight after 6".
+pub const CHECKS: [Check<AdmissionInput>; 11] = [
     Check { number: 2, finds: |input| (!input.in_form).then_some(0) },
     Check { number: 3, finds: |input| block::misshapen(&input.block) },
     Check { number: 4, finds: site_unknown },
     Check { number: 5, finds: |input| (input.verdict != 1).then_some(0) },
     Check { number: 6, finds: |input| block::bad_request(&input.block) },
+    Check { number: 18, finds: |input| block::repeated_slot(&input.block) },
     Check { number: 7, finds: |input| block::repeated_reference(&input.block) },
     Check { number: 8, finds: digest_held },
     Check { number: 9, finds: reference_not_held },

@@ -1,13 +1,22 @@
-//! Document 01, "The block": its fields, its bytes, and the reader's checks 3, 6 and 7.
+//! Document 01, "The block": its fields, its bytes, and the reader's checks 3, 6 and 7, with 18 of document 02.
 //!
 //! The fields are there for any bytes: of a list that is cut there are the whole items, of a missing byte a 0. So the
 //! checks can be made in any order, which the self-test needs; the document's order refuses such bytes first.
 
 use crate::model::answer::Fields;
+use crate::model::checks::{first_refusal, Check};
 use crate::model::sha256::Digest;
 use crate::model::sizes::{DIGEST_BYTES, HEADER_BYTES, MAX_REFERENCES, MAX_REQUESTS, REQUEST_BYTES, SLOTS};
 
-#[derive(Clone, Copy)]
+/// "Reading checks 3, 6 and 7", and 18 "straight after 6".
+pub const CHECKS: [Check<[u8]>; 4] = [
+    Check { number: 3, finds: misshapen },
+    Check { number: 6, finds: bad_request },
+    Check { number: 18, finds: repeated_slot },
+    Check { number: 7, finds: repeated_reference },
+];
+
+#[derive(Clone, Copy, PartialEq, Eq)]
 pub struct Request {
     pub slot: u8,
     pub number: u16,
@@ -89,7 +98,7 @@ pub fn requests(block: &[u8]) -> Vec<Request> {
     items(block, requests_at(block), REQUEST_BYTES, request_count(block)).map(Request::from_bytes).collect()
 }
 
-/// "If a slot is requested twice in a block, the first counts." 0 if none.
+/// The number requested in each slot, 0 if none. A block that the reader accepts has at most one request of a slot.
 pub fn counted_requests(block: &[u8]) -> [u16; SLOTS] {
     let requests = requests(block);
     std::array::from_fn(|slot| {
@@ -120,13 +129,28 @@ pub fn bad_request(block: &[u8]) -> Option<usize> {
     requests(block).iter().position(Request::bad)
 }
 
+/// 18: "a slot equal to an earlier one in the same block, with the index of the first such request".
+pub fn repeated_slot(block: &[u8]) -> Option<usize> {
+    repeated_slot_in(&requests(block))
+}
+
+/// The same in a list that stands alone.
+pub fn repeated_slot_in(requests: &[Request]) -> Option<usize> {
+    let slots: Vec<u8> = requests.iter().map(|request| request.slot).collect();
+    first_repeated(&slots)
+}
+
 /// 7: "a reference equal to an earlier one", with the index of the first such.
 pub fn repeated_reference(block: &[u8]) -> Option<usize> {
-    let references = references(block);
-    (0..references.len()).find(|&index| references[..index].contains(&references[index]))
+    first_repeated(&references(block))
+}
+
+/// The index of the first item that is equal to an earlier one.
+fn first_repeated<T: PartialEq>(items: &[T]) -> Option<usize> {
+    (0..items.len()).find(|&index| items[..index].contains(&items[index]))
 }
 
 /// Whether the reader accepts it.
 pub fn accepted(block: &[u8]) -> bool {
-    misshapen(block).is_none() && bad_request(block).is_none() && repeated_reference(block).is_none()
+    first_refusal(&CHECKS, block).is_none()
 }

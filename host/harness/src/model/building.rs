@@ -1,6 +1,7 @@
-//! Document 01, "Building", with the last sequence number of document 02: a site's next block. The table is only read.
+//! Document 01, "Building", with the repeated slot and the last sequence number of document 02: a site's next block. The
+//! table is only read.
 
-use crate::model::block::{self, list_of, Request};
+use crate::model::block::{self, list_of, repeated_slot_in, Request};
 use crate::model::checks::Check;
 use crate::model::sha256::Digest;
 use crate::model::sizes::{MAX_REFERENCES, MAX_REQUEST_LIST_BYTES, REQUEST_BYTES};
@@ -36,12 +37,13 @@ pub struct Building {
     pub write: fn(&mut [u8], &[u8]),
 }
 
-/// "Checks 2, 4, 3, 6, 16, 17", and 30 "straight after 16".
-pub const CHECKS: [Check<BuildingInput>; 7] = [
+/// "Checks 2, 4, 3, 6, 16, 17", with 18 "straight after 6" and 30 "straight after 16".
+pub const CHECKS: [Check<BuildingInput>; 8] = [
     Check { number: 2, finds: |input| (!input.in_form).then_some(0) },
     Check { number: 4, finds: |input| (input.site >= input.table.sites).then_some(0) },
     Check { number: 3, finds: |input| long_or_cut(&input.requests).then_some(0) },
     Check { number: 6, finds: |input| list_of(&input.requests).iter().position(Request::bad) },
+    Check { number: 18, finds: |input| repeated_slot_in(&list_of(&input.requests)) },
     Check { number: 16, finds: |input| shared_sequence(&input.table, input.site).then_some(0) },
     Check { number: 30, finds: |input| past_last_sequence(&input.table, input.site).then_some(0) },
     Check { number: 17, finds: |input| (input.room < input.block.len()).then_some(input.block.len()) },

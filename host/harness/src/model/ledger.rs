@@ -102,6 +102,9 @@ impl Ledger {
         if let Some(index) = block::bad_request(bytes) {
             return Some(refused(6, index));
         }
+        if let Some(index) = block::repeated_slot(bytes) {
+            return Some(refused(18, index));
+        }
         if let Some(index) = block::repeated_reference(bytes) {
             return Some(refused(7, index));
         }

@@ -32,6 +32,19 @@ pub fn failed(calls: &dyn Calls) -> Vec<&'static str> {
         ("the longest block: read", read(calls, &most_of_both(MAX_REQUESTS)) == 0),
         ("a request more: 3", read(calls, &most_of_both(MAX_REQUESTS + 1)) == 3),
         ("a byte more: 3", read(calls, &[most_of_both(MAX_REQUESTS), vec![0]].concat()) == 3),
+        ("slots 3 and 3: 18 with 1", reads(calls, &[(3, 1), (3, 2)], 0) == (18, 1)),
+        ("slots 0, 3, 3 and 0: 18 with 2", reads(calls, &[(0, 1), (3, 1), (3, 2), (0, 2)], 0) == (18, 2)),
+        ("slots 0, 1, 2, 3 and 0: 18 with 4", reads(calls, &FIFTH_IS_FIRST, 0) == (18, 4)),
+        ("slot 7 twice with one number: 18 with 1", reads(calls, &[(7, 9), (7, 9)], 0) == (18, 1)),
+        ("five slots with one number: read", reads(calls, &[(7, 9), (0, 9), (3, 9), (6, 9), (1, 9)], 0) == (0, 0)),
+        (
+            "slots 3 and 3, and number 0 in the fifth request: 6",
+            reads(calls, &[(3, 1), (3, 1), (0, 1), (1, 1), (2, 0)], 0) == (6, 4),
+        ),
+        ("slot 8 twice: 6", reads(calls, &[(8, 1), (8, 1)], 0) == (6, 0)),
+        ("two equal references, and slot 0 in the fifth request: 18", reads(calls, &FIFTH_IS_FIRST, 2) == (18, 4)),
+        ("two equal references: 7", reads(calls, &FIFTH_IS_FIRST[..4], 2) == (7, 1)),
+        ("admission of slots 3 and 3: 18 with 1", admitted(calls, &[requesting(&[(3, 1), (3, 2)])]) == [(18, 1)]),
         ("sequence 1 without references: 10", admitted(calls, &[chained(1, &[])]) == [(10, 0)]),
         (
             "sequence 1 with both forks of sequence 0: 10",
@@ -73,6 +86,20 @@ fn read(calls: &dyn Calls, block: &[u8]) -> u8 {
     calls.read_block(&mut block.to_vec()).answer.refusal
 }
 
+const FIFTH_IS_FIRST: [(u8, u16); 5] = [(0, 1), (1, 1), (2, 1), (3, 1), (0, 2)];
+
+/// The answer to a block with these requests, slot and number, and so many references, all equal.
+fn reads(calls: &dyn Calls, requests: &[(u8, u16)], references: usize) -> (u8, usize) {
+    let references = vec![[0; DIGEST_BYTES]; references];
+    let mut block = Draft { site: 0, sequence: 0, references, requests: listed(requests), verdict: 1 }.to_bytes();
+    let answer = calls.read_block(&mut block).answer;
+    (answer.refusal, answer.value)
+}
+
+fn listed(requests: &[(u8, u16)]) -> Vec<Request> {
+    requests.iter().map(|&(slot, number)| Request { slot, number }).collect()
+}
+
 /// A block with as many references as a block can have, and so many requests.
 fn most_of_both(requests: usize) -> Vec<u8> {
     let references = (0..MAX_REFERENCES).map(|i| [i as u8; DIGEST_BYTES]).collect();
@@ -88,8 +115,7 @@ fn chained(sequence: u16, before: &[Vec<u8>]) -> Vec<u8> {
 
 /// A block of site 0 that refers to nothing, with these requests: slot and number.
 fn requesting(requests: &[(u8, u16)]) -> Vec<u8> {
-    let requests = requests.iter().map(|&(slot, number)| Request { slot, number }).collect();
-    Draft { site: 0, sequence: 0, references: Vec::new(), requests, verdict: 1 }.to_bytes()
+    Draft { site: 0, sequence: 0, references: Vec::new(), requests: listed(requests), verdict: 1 }.to_bytes()
 }
 
 /// Blocks of site 0, each referring to the one before.

@@ -20,6 +20,7 @@ mod replay;
 mod retiring;
 mod shelf_form;
 mod shelf_rule;
+mod slots;
 mod taking_back;
 mod tries;
 mod watch;
@@ -340,6 +341,7 @@ pub fn lawless_in_retirings() -> Vec<(Mutant, &'static str)> {
         (&[process::ECHO_QUORUM_F_PLUS_1, process::DELIVERY_AT_F_PLUS_1], ONE_NUMBER_EVER),
         (&[process::SEND_FROM_ANYONE, meaning::REQUEST_OF_ANYONE], REQUESTED_EVER),
         (&[watch::SITES_NOT_COMPARED], WATCHED_EVER),
+        (&[admission::SLOT_TWICE_GETS_6], SAME_ANSWER),
         (&[taking_back::AT_COUNT], SAME_ANSWER),
         (&[taking_back::OF_FIRST], SAME_ANSWER),
         (&[taking_back::ROW_STAYS], SAME_TABLE),

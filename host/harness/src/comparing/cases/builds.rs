@@ -4,7 +4,7 @@ use crate::comparing::buffers::{Buffers, NextBlock, Sides};
 use crate::comparing::compare::Compare;
 use crate::comparing::difference::Difference;
 use crate::comparing::laws::{self, BuiltBlock};
-use crate::drawing::draft::{bad_request, site_from_n_on, some_requests};
+use crate::drawing::draft::{bad_request, repeated_slot, site_from_n_on, some_requests};
 use crate::drawing::random::Random;
 use crate::drawing::table_damage::damaged;
 use crate::drawing::tables;
@@ -61,8 +61,8 @@ fn some_site(random: &Random, table: &Table, builder: u8) -> u8 {
 /// A list as it should be, or one with faults: in its requests, in its length, in both.
 pub fn some_list(random: &Random) -> Vec<u8> {
     let mut requests = some_requests(random);
-    for _ in 0..random.pick(&[0, 0, 0, 0, 1, 2]) {
-        bad_request(random, &mut requests);
+    for _ in 0..random.pick(&[0, 0, 0, 1, 2]) {
+        random.pick(&[bad_request, repeated_slot])(random, &mut requests);
     }
     let mut list = list_bytes(&requests);
     if random.one_in(5) {

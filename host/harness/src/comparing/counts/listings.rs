@@ -56,7 +56,7 @@ const MANY_ARRIVALS: usize = 256;
 const PIPE_BYTES: usize = 65_536;
 
 /// What admission answers to the arrivals of a listing: its table is in form.
-const ANSWERS: &[u8] = &[0, 3, 4, 5, 6, 7, 8, 9, 10, 11];
+const ANSWERS: &[u8] = &[0, 3, 4, 5, 6, 7, 8, 9, 10, 11, 18];
 
 impl Listings {
     pub fn any(&self) -> bool {

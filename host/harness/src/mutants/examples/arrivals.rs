@@ -19,6 +19,7 @@ pub fn all(calls: &dyn Calls) -> Vec<(&'static str, bool)> {
         ("ten wait, and two for each of the others", sixteen_wait(new())),
         ("three of each, then one more: 19 for the others' places", three_of_each(new())),
         ("the same bytes for two campaigns", for_two(new())),
+        ("a slot twice and a missing reference: 18, and nothing waits", slot_twice(new())),
         ("without a parent: dropped with 10", no_parent(new())),
         ("admitted meanwhile: dropped with 8", held_meanwhile(new())),
         ("the table is full: dropped with 11", full_table(new())),
@@ -159,6 +160,11 @@ fn for_two(mut follower: Follower) -> bool {
         && follower.arrive(1, &blocks[1]) == refused(20, 0)
         && follower.arrive(1, &blocks[0]) == let_in(0, 1..2)
         && follower.nothing_waits()
+}
+
+fn slot_twice(mut follower: Follower) -> bool {
+    let block = [&[0, 0, 1, 1, 2][..], &sha256(&chain(1)[0]), &[5, 0, 9, 5, 0, 8]].concat();
+    follower.arrive(0, &block) == refused(18, 1) && follower.nothing_waits()
 }
 
 /// Sequence 2, but it refers to the block of sequence 0.

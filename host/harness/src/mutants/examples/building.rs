@@ -10,7 +10,6 @@ pub fn all(calls: &dyn Calls) -> Vec<(&'static str, bool)> {
     vec![
         ("empty table, the shortest block", new(4).builds(2, &[]) == Ok(vec![2, 0, 0, 0, 0])),
         ("empty table, two requests", new(4).builds(2, &[7, 1, 2, 0, 0, 9]) == Ok(TWO_REQUESTS.to_vec())),
-        ("a slot twice, as given", new(1).builds(0, &[3, 0, 1, 3, 0, 2]) == Ok(SLOT_TWICE.to_vec())),
         ("13 blocks, site 1: own last, then the others' last", {
             // Site 1 has 2, 6 and 10. They refer to 0, to 1 to 4 and to 5 to 8.
             thirteen.builds(1, &[]) == Ok(thirteen.bytes([1, 0, 3, 4, 0], &[10, 9, 11, 12], &[]))
@@ -27,10 +26,16 @@ pub fn all(calls: &dyn Calls) -> Vec<(&'static str, bool)> {
         ("a site that is n, and a list too long: 4", thirteen.builds(4, &[1; MOST + 1]) == Err((4, 0))),
         ("a byte more than the longest list: 3", thirteen.builds(0, &[1; MOST + 1]) == Err((3, 0))),
         ("a request more, all of them bad: 3", thirteen.builds(0, &[0; MOST + REQUEST_BYTES]) == Err((3, 0))),
-        ("the longest list", thirteen.builds(0, &[1; MOST]).is_ok()),
+        ("the longest list", thirteen.builds(0, &[4, 0, 1, 3, 0, 1, 7, 0, 1, 0, 0, 1, 5, 0, 1]).is_ok()),
+        ("the longest list, of one slot: 18", thirteen.builds(0, &[1; MOST]) == Err((18, 1))),
         ("slot 8 in the second request: 6", thirteen.builds(0, &[7, 0, 1, 8, 0, 1]) == Err((6, 1))),
         ("number 0 in the first request: 6", thirteen.builds(0, &[7, 0, 0, 8, 0, 1]) == Err((6, 0))),
+        ("a slot twice: 18", new(1).builds(0, &[3, 0, 1, 5, 0, 1, 3, 0, 2]) == Err((18, 2))),
+        ("a slot twice, and number 0 after it: 6", new(1).builds(0, &[3, 0, 1, 3, 0, 2, 4, 0, 0]) == Err((6, 2))),
         ("a fork under the greatest block: 16", fork(new(4)).builds(2, &[]) == Err((16, 0))),
+        ("a fork under the greatest block, and a slot twice: 18", {
+            fork(new(4)).builds(2, &[3, 0, 1, 3, 0, 2]) == Err((18, 1))
+        }),
         ("a fork under the greatest block, and slot 8: 6", fork(new(4)).builds(2, &[8, 0, 1]) == Err((6, 0))),
         ("a fork of another site", fork(new(4)).builds(1, &[]).is_ok()),
         ("outputs of 7, 8 and 9 bytes for 8", outputs(new(1))),
@@ -38,7 +43,6 @@ pub fn all(calls: &dyn Calls) -> Vec<(&'static str, bool)> {
 }
 
 const TWO_REQUESTS: [u8; 11] = [2, 0, 0, 0, 2, 7, 1, 2, 0, 0, 9];
-const SLOT_TWICE: [u8; 11] = [0, 0, 0, 0, 2, 3, 0, 1, 3, 0, 2];
 
 const UNTOUCHED: u8 = 0xa5;
 

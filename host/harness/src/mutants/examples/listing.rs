@@ -29,6 +29,7 @@ pub fn all(calls: &dyn Calls) -> Vec<(&'static str, bool)> {
             lists(&thirteen, "9 9 0 3 0 42 0\n10 10 1 2 0 42 0\n11 11 2 2 0 42 0\n12 12 3 2 0 42 0\n"),
         ),
         ("two slots: the lower first, and once", lists(&one(&two_slots), "3 3 0 3 2 9 0\n3 3 0 3 5 7 0\n")),
+        ("a slot twice: 18", lists(&one(&arrivals(&[requesting(&[(5, 7), (5, 9)])])), "0 - - - - - 18\n")),
         ("no bytes: 1", lists(&[], UNLAWFUL)),
         ("eight bytes: 1", lists(&ONE[..8], UNLAWFUL)),
         ("n 2: 1, and the end", lists(&[&[2], &ONE[1..], &chain].concat(), UNLAWFUL)),

@@ -28,6 +28,7 @@ pub fn all(calls: &dyn Calls) -> Vec<(&'static str, bool)> {
         ("a length of 261", !with(2, 1)),
         ("a reference count of 1", !with(7, 1)),
         ("site 255", with(4, 255)),
+        ("two slots, and one twice", in_form(requesting(4, 3)) && !in_form(requesting(3, 3))),
         ("a byte behind a block", !with(9, 1) && !with(ENTRY, 1)),
         ("a byte in an empty place", !with(1 + 4 * ENTRY, 1) && !with(SHELF - 1, 1)),
         ("the same bytes for two campaigns", with(6, 1)),
@@ -55,6 +56,13 @@ fn shelf(holds: [u8; 4]) -> Vec<u8> {
 fn changed(at: usize, byte: u8) -> Vec<u8> {
     let mut shelf = shelf([1, 1, 1, 1]);
     shelf[at] = byte;
+    shelf
+}
+
+/// One block, with number 1 in two slots.
+fn requesting(one: u8, other: u8) -> Vec<u8> {
+    let mut shelf = vec![0; SHELF];
+    shelf[..15].copy_from_slice(&[1, 0, 0, 11, 0, 0, 0, 0, 2, one, 0, 1, other, 0, 1]);
     shelf
 }
 

@@ -1,13 +1,13 @@
 //! Mistakes in admission: in its checks, in their order, in what it writes and in what it leaves.
 
-use super::{flip_last, neighbours_swapped, value_beside, Mistake, Mutant};
+use super::{flip_last, neighbours_swapped, slots, value_beside, Mistake, Mutant};
 use crate::model::admission::{put, row, AdmissionInput, CHECKS};
-use crate::model::block;
+use crate::model::block::{self, Request};
 use crate::model::sha256::{sha256, Digest};
-use crate::model::sizes::{DIGEST_BYTES, MAX_REFERENCES, PLACES, SLOTS};
+use crate::model::sizes::{DIGEST_BYTES, MAX_REFERENCES, MAX_REQUESTS, PLACES, SLOTS};
 use crate::model::table::{places, Row, Table};
 
-/// Each check left out, each two neighbours swapped, and another value beside each refusal.
+/// Each check left out, each two neighbours swapped, another value beside each refusal, and each mistake in check 18.
 pub fn checks_exchanged() -> Vec<Mutant> {
     let mut mutants = Vec::new();
     for check in &CHECKS {
@@ -17,21 +17,29 @@ pub fn checks_exchanged() -> Vec<Mutant> {
             m.after_admission(move |answer, _, _| value_beside(number, answer, answer.value + 1));
         }));
     }
-    for number in [6, 7, 8, 9] {
+    for number in [6, 18, 7, 8, 9] {
         mutants.push(Mutant::with(format!("admission: value 0 beside {number}"), |m| {
             m.after_admission(move |answer, _, _| value_beside(number, answer, 0));
         }));
     }
     mutants.extend(neighbours_swapped("admission", |model| &mut model.admission));
+    for (name, finds) in slots::mistakes() {
+        mutants.push(Mutant::with(format!("admission: {name}"), |m| m.admission(18, finds)));
+    }
     mutants
 }
 
 pub const MISTAKES: &[Mistake] = &[
     // Order
-    ("admission: the reader's 6 and 7 before 4 and 5", |m| m.model.admission[2..6].rotate_left(2)),
-    ("admission: 8 before the reader", |m| m.model.admission[1..7].rotate_right(1)),
-    ("admission: 11 before 8", |m| m.model.admission[6..10].rotate_right(1)),
-    ("admission: 11 before all but 2", |m| m.model.admission[1..10].rotate_right(1)),
+    ("admission: the reader's 6, 18 and 7 before 4 and 5", |m| m.model.admission[2..7].rotate_left(2)),
+    ("admission: 18 before 5", |m| m.model.admission[3..6].rotate_right(1)),
+    ("admission: 18 before all but 2", |m| m.model.admission[1..6].rotate_right(1)),
+    ("admission: 18 after 7 and 8", |m| m.model.admission[5..8].rotate_left(1)),
+    ("admission: 18 after 7, 8 and 9", |m| m.model.admission[5..9].rotate_left(1)),
+    ("admission: 18 last", |m| m.model.admission[5..].rotate_left(1)),
+    ("admission: 8 before the reader", |m| m.model.admission[1..8].rotate_right(1)),
+    ("admission: 11 before 8", |m| m.model.admission[7..].rotate_right(1)),
+    ("admission: 11 before all but 2", |m| m.model.admission[1..].rotate_right(1)),
     // Single checks
     ("admission: a site may be n", |m| {
         m.admission(4, |input| (block::site(&input.block) > input.table.sites).then_some(0))
@@ -67,6 +75,7 @@ pub const MISTAKES: &[Mistake] = &[
             requests.iter().rposition(|request| usize::from(request.slot) >= SLOTS || request.number == 0)
         })
     }),
+    (SLOT_TWICE_GETS_6, |m| m.admission(6, slots::bad_or_repeated)),
     ("admission: only neighbouring references are compared", |m| {
         m.admission(7, |input| {
             let references = block::references(&input.block);
@@ -164,23 +173,16 @@ pub const MISTAKES: &[Mistake] = &[
     ("admission: 63 places are full", |m| m.admission(11, |input| (input.table.count >= PLACES - 1).then_some(0))),
     // What is written
     ("admission: the row is marked", |m| m.model.row = |input| Row { mark: 1, ..row(input) }),
-    ("admission: the last request of a slot counts", |m| {
-        m.model.row = |input| {
-            let mut requests = [0; SLOTS];
-            for request in block::requests(&input.block) {
-                requests[usize::from(request.slot)] = request.number;
-            }
-            Row { requests, ..row(input) }
-        }
+    ("admission: only the first request counts", |m| {
+        m.model.row = |input| Row { requests: requested(input, |all| all.truncate(1)), ..row(input) }
     }),
-    ("admission: the greatest request of a slot counts", |m| {
+    ("admission: the fifth request doesn't count", |m| {
+        m.model.row = |input| Row { requests: requested(input, |all| all.truncate(MAX_REQUESTS - 1)), ..row(input) }
+    }),
+    ("admission: requests stand by their index", |m| {
         m.model.row = |input| {
-            let mut requests = [0; SLOTS];
-            for request in block::requests(&input.block) {
-                let slot = usize::from(request.slot);
-                requests[slot] = request.number.max(requests[slot]);
-            }
-            Row { requests, ..row(input) }
+            let by_index = |all: &mut Vec<Request>| (0..).zip(all).for_each(|(index, request)| request.slot = index);
+            Row { requests: requested(input, by_index), ..row(input) }
         }
     }),
     ("admission: slots in reverse", |m| {
@@ -280,6 +282,17 @@ pub const MISTAKES: &[Mistake] = &[
         })
     }),
 ];
+
+pub const SLOT_TWICE_GETS_6: &str = "admission: a slot requested twice gets 6";
+
+/// The number in each slot, if the requests were so changed.
+fn requested(input: &AdmissionInput, change: fn(&mut Vec<Request>)) -> [u16; SLOTS] {
+    let mut all = block::requests(&input.block);
+    change(&mut all);
+    let mut requests = [0; SLOTS];
+    all.iter().for_each(|request| requests[usize::from(request.slot)] = request.number);
+    requests
+}
 
 /// The place that holds the digest, by all its bytes but the last.
 fn place_of_part(table: &Table, digest: &Digest) -> Option<usize> {

@@ -17,12 +17,12 @@ pub fn checks_exchanged() -> Vec<Mutant> {
         mutants.push(Mutant::with(format!("arrival without check {number}"), |m| m.arrival(number, |_| None)));
     }
     mutants.extend(neighbours_swapped("arrival", |model| &mut model.shelving.checks));
-    for number in [2, 3, 4, 5, 6, 7, 8, 9, 10, 11, 17, 19, 20, 21] {
+    for number in [2, 3, 4, 5, 6, 18, 7, 8, 9, 10, 11, 17, 19, 20, 21] {
         mutants.push(Mutant::with(format!("arrival: a value one more beside {number}"), |m| {
             m.arrival_value(number, |value| value + 1);
         }));
     }
-    for number in [6, 7, 8, 9, 17] {
+    for number in [6, 18, 7, 8, 9, 17] {
         mutants.push(Mutant::with(format!("arrival: value 0 beside {number}"), |m| m.arrival_value(number, |_| 0)));
     }
     mutants
@@ -79,9 +79,10 @@ pub const MISTAKES: &[Mistake] = &[
     ("arrival: 17 only where the arrival is let in", |m| {
         m.arrival(17, |input| (input.admission.refusal == 0).then(|| short(input, OUTCOMES_NUMBERS)).flatten())
     }),
-    ("arrival: 17 after 3 to 8", |m| {
+    ("arrival: 17 after all that comes before 9", |m| {
         m.arrival(17, |input| {
-            (!(3..=8).contains(&input.admission.refusal)).then(|| short(input, OUTCOMES_NUMBERS)).flatten()
+            let before_9 = [3, 4, 5, 6, 18, 7, 8].contains(&input.admission.refusal);
+            (!before_9).then(|| short(input, OUTCOMES_NUMBERS)).flatten()
         })
     }),
     ("arrival: 17 after the table's 2", |m| {
@@ -183,6 +184,8 @@ pub const MISTAKES: &[Mistake] = &[
             }
         })
     }),
+    ("arrival: a slot requested twice passes", |m| m.model.admission.retain(|check| check.number != 18)),
+    ("arrival: 9 before 18", |m| m.model.admission[5..9].rotate_left(1)),
     ("arrival: 11 in the place of 9", |m| {
         m.after_arrival(|answered, buffers| {
             let full = buffers.table.get(COUNT) == Some(&(PLACES as u8));
@@ -202,13 +205,8 @@ pub const MISTAKES: &[Mistake] = &[
         })
     }),
     // What is left
-    ("arrival: 19 leaves the block on the shelf", |m| {
-        m.after_refusal(19, |buffers| {
-            let mut shelf = Shelf::from_bytes(buffers.shelf);
-            shelf.put(buffers.campaign, buffers.block);
-            shelf.write(buffers.shelf);
-        })
-    }),
+    ("arrival: 19 leaves the block on the shelf", |m| m.after_refusal(19, put_on_shelf)),
+    ("arrival: 18 leaves the block on the shelf", |m| m.after_refusal(18, put_on_shelf)),
     ("arrival: 20 moves the block behind all others", |m| {
         m.after_refusal(20, |buffers| {
             let mut shelf = Shelf::from_bytes(buffers.shelf);
@@ -304,6 +302,12 @@ pub fn change_row(table: &mut [u8], place: usize, change: fn(&mut Row)) {
         change(row);
         held.write(table);
     }
+}
+
+fn put_on_shelf(buffers: &mut ArrivalBuffers) {
+    let mut shelf = Shelf::from_bytes(buffers.shelf);
+    shelf.put(buffers.campaign, buffers.block);
+    shelf.write(buffers.shelf);
 }
 
 /// Check 17 with another limit.

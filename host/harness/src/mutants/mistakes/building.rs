@@ -1,6 +1,6 @@
 //! Mistakes in building: in its checks and their order, in what the block says, in what is answered and left.
 
-use super::{flip_last, neighbours_swapped, value_beside, BuildingBuffers, Mistake, Mutant};
+use super::{flip_last, neighbours_swapped, slots, value_beside, BuildingBuffers, Mistake, Mutant};
 use crate::model::block::{list_of, Request};
 use crate::model::building::{
     self, cut, greatest, long_or_cut, others, own_rows, past_last_sequence, sequence, shared_sequence, BuildingInput,
@@ -11,7 +11,7 @@ use crate::model::sizes::{
 };
 use crate::model::table::{Row, Table, COUNT};
 
-/// Each check left out, another value beside each refusal, and each two neighbours swapped.
+/// Each check left out, another value beside each refusal, each two neighbours swapped, and each mistake in check 18.
 pub fn checks_exchanged() -> Vec<Mutant> {
     let mut mutants = Vec::new();
     for check in &CHECKS {
@@ -21,26 +21,49 @@ pub fn checks_exchanged() -> Vec<Mutant> {
             m.after_building(move |answer, _| value_beside(number, answer, answer.value + 1));
         }));
     }
-    for number in [6, 17] {
+    for number in [6, 18, 17] {
         mutants.push(Mutant::with(format!("building: value 0 beside {number}"), |m| {
             m.after_building(move |answer, _| value_beside(number, answer, 0));
         }));
     }
     mutants.extend(neighbours_swapped("building", |model| &mut model.building.checks));
+    for (name, finds) in slots::mistakes() {
+        mutants.push(Mutant::with(format!("building: {name}"), |m| m.building(18, finds)));
+    }
     mutants
+}
+
+impl Mutant {
+    /// Has the block written, where there is room for it, beside a refusal of this number.
+    fn block_written_beside(&mut self, refusal: u8) {
+        self.after_building(move |answer, buffers| {
+            if answer.refusal == refusal {
+                let block = document_block(&buffers);
+                if let Some(front) = buffers.output.get_mut(..block.len()) {
+                    front.copy_from_slice(&block);
+                }
+            }
+            answer
+        });
+    }
 }
 
 pub const MISTAKES: &[Mistake] = &[
     // Order
-    ("building: 17 before 30, 16, 6 and 3", |m| m.model.building.checks[2..7].rotate_right(1)),
+    ("building: 17 before 30, 16, 18, 6 and 3", |m| m.model.building.checks[2..].rotate_right(1)),
     ("building: 17 before all", |m| m.model.building.checks.rotate_right(1)),
-    ("building: 16 before 6 and 3", |m| m.model.building.checks[2..5].rotate_right(1)),
-    ("building: 16 before 4", |m| m.model.building.checks[1..5].rotate_right(1)),
-    ("building: 30 before 16, 6 and 3", |m| m.model.building.checks[2..6].rotate_right(1)),
-    ("building: 30 before 4", |m| m.model.building.checks[1..6].rotate_right(1)),
-    ("building: 30 first", |m| m.model.building.checks[..6].rotate_right(1)),
+    ("building: 16 before 18, 6 and 3", |m| m.model.building.checks[2..6].rotate_right(1)),
+    ("building: 16 before 4", |m| m.model.building.checks[1..6].rotate_right(1)),
+    ("building: 30 before 16 and 18", |m| m.model.building.checks[4..7].rotate_right(1)),
+    ("building: 30 before 16, 18, 6 and 3", |m| m.model.building.checks[2..7].rotate_right(1)),
+    ("building: 30 before 4", |m| m.model.building.checks[1..7].rotate_right(1)),
+    ("building: 30 first", |m| m.model.building.checks[..7].rotate_right(1)),
+    ("building: 18 before 3", |m| m.model.building.checks[2..5].rotate_right(1)),
+    ("building: 18 after 16 and 30", |m| m.model.building.checks[4..7].rotate_left(1)),
+    ("building: 18 last", |m| m.model.building.checks[4..].rotate_left(1)),
     ("building: 3 and 6 before 4", |m| m.model.building.checks[1..4].rotate_left(1)),
-    ("building: 2 after the requests", |m| m.model.building.checks[..4].rotate_left(1)),
+    ("building: 3, 6 and 18 before 4", |m| m.model.building.checks[1..5].rotate_left(1)),
+    ("building: 2 after the requests", |m| m.model.building.checks[..5].rotate_left(1)),
     // Site and requests
     ("building: a site may be n", |m| m.building(4, |input| (input.site > input.table.sites).then_some(0))),
     ("building: sites are compared with 16", |m| m.building(4, |input| (input.site >= 16).then_some(0))),
@@ -81,13 +104,7 @@ pub const MISTAKES: &[Mistake] = &[
             first(input, Request::bad).filter(|index| REQUEST_BYTES * (index + 1) < input.requests.len())
         })
     }),
-    ("building: a slot requested twice is refused", |m| {
-        m.building(6, |input| {
-            let requests = list_of(&input.requests);
-            let twice = |index: usize| requests[..index].iter().any(|earlier| earlier.slot == requests[index].slot);
-            (0..requests.len()).find(|&index| requests[index].bad() || twice(index))
-        })
-    }),
+    ("building: a slot requested twice gets 6", |m| m.building(6, slots::bad_or_repeated)),
     ("building: a slot of another owner is refused", |m| {
         m.building(6, |input| {
             let foreign = |slot: u8| input.table.owners.get(usize::from(slot)) != Some(&input.site);
@@ -345,7 +362,8 @@ pub const MISTAKES: &[Mistake] = &[
             requests
         }
     }),
-    ("building: a slot's second request is left out", |m| {
+    ("building: of a slot requested twice the second is left out", |m| {
+        m.building(18, |_| None);
         m.model.building.requests = |list| {
             let all = list_of(list);
             let new = |index: &usize| all[..*index].iter().all(|earlier| earlier.slot != all[*index].slot);
@@ -427,17 +445,8 @@ pub const MISTAKES: &[Mistake] = &[
             answer
         })
     }),
-    ("building: 16 writes the block", |m| {
-        m.after_building(|answer, buffers| {
-            if answer.refusal == 16 {
-                let block = document_block(&buffers);
-                if let Some(front) = buffers.output.get_mut(..block.len()) {
-                    front.copy_from_slice(&block);
-                }
-            }
-            answer
-        })
-    }),
+    ("building: 16 writes the block", |m| m.block_written_beside(16)),
+    ("building: 18 writes the block", |m| m.block_written_beside(18)),
     ("building: 6 leaves the header written", |m| {
         m.after_building(|answer, buffers| {
             if answer.refusal == 6 {

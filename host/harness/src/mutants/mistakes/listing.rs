@@ -219,6 +219,20 @@ pub const MISTAKES: &[Mistake] = &[
             refusal_line(table, arrival, Answer { refusal, ..answer })
         }
     }),
+    ("listing: a slot requested twice passes", |m| m.model.admission.retain(|check| check.number != 18)),
+    ("listing: 7 before 18", |m| m.model.admission.swap(5, 6)),
+    ("listing: 18 is listed as 6", |m| {
+        m.model.listing.refusal_line = |table, arrival, answer| {
+            let refusal = if answer.refusal == 18 { 6 } else { answer.refusal };
+            refusal_line(table, arrival, Answer { refusal, ..answer })
+        }
+    }),
+    ("listing: beside 18 stands the index", |m| {
+        m.model.listing.refusal_line = |table, arrival, answer| {
+            let slot = (answer.refusal == 18).then_some(answer.value);
+            Line { slot, ..refusal_line(table, arrival, answer) }
+        }
+    }),
     // How it is written, and how it ends
     ("listing: 0 in place of -", |m| m.model.listing.text = |line| text(line).replace('-', "0")),
     ("listing: a space at a line's end", |m| m.model.listing.text = |line| text(line).replace('\n', " \n")),

@@ -1,19 +1,17 @@
 //! Mistakes in reading a block and in its digest.
 
-use super::{neighbours_swapped, value_beside, Mistake, Mutant};
+use super::{neighbours_swapped, slots, value_beside, Mistake, Mutant};
 use crate::model::answer::{Fields, Reading};
-use crate::model::block::{fields, reference_count, references, request_count, requests};
+use crate::model::block::{fields, reference_count, references, request_count, requests, CHECKS};
 use crate::model::sha256::sha256;
 use crate::model::sizes::{
     DIGEST_BYTES, HEADER_BYTES, MAX_BLOCK_BYTES, MAX_REFERENCES, MAX_REQUESTS, REQUEST_BYTES, SLOTS,
 };
-use crate::model::Model;
 
-/// Each check left out, each two neighbours swapped, and another value beside each refusal.
+/// Each check left out, each two neighbours swapped, another value beside each refusal, and each mistake in check 18.
 pub fn checks_exchanged() -> Vec<Mutant> {
-    let checks = Model::document().reading;
     let mut mutants = Vec::new();
-    for check in &checks {
+    for check in &CHECKS {
         let number = check.number;
         mutants.push(Mutant::with(format!("reading without check {number}"), |m| m.reading(number, |_| None)));
         mutants.push(Mutant::with(format!("reading: a value one more beside {number}"), |m| {
@@ -24,6 +22,9 @@ pub fn checks_exchanged() -> Vec<Mutant> {
         }));
     }
     mutants.extend(neighbours_swapped("reading", |model| &mut model.reading));
+    for (name, finds) in slots::mistakes() {
+        mutants.push(Mutant::with(format!("reading: {name}"), |m| m.reading(18, finds)));
+    }
     mutants
 }
 
@@ -60,17 +61,7 @@ pub const MISTAKES: &[Mistake] = &[
     ("reading: number 0 passes", |m| {
         m.reading(6, |block| requests(block).iter().position(|request| usize::from(request.slot) >= SLOTS))
     }),
-    ("reading: a slot requested twice is refused", |m| {
-        m.reading(6, |block| {
-            let requests = requests(block);
-            let slots: Vec<u8> = requests.iter().map(|request| request.slot).collect();
-            (0..slots.len()).find(|&index| {
-                usize::from(slots[index]) >= SLOTS
-                    || requests[index].number == 0
-                    || slots[..index].contains(&slots[index])
-            })
-        })
-    }),
+    ("reading: a slot requested twice gets 6", |m| m.reading(6, slots::bad_or_repeated)),
     ("reading: 7 names the earlier reference", |m| {
         m.reading(7, |block| {
             let references = references(block);

@@ -1,6 +1,6 @@
 //! Mistakes in a shelf's form.
 
-use super::{flip_last, Mistake, Mutant};
+use super::{flip_last, slots, Mistake, Mutant};
 use crate::model::block;
 use crate::model::form::Condition;
 use crate::model::shelf::{Entry, Shelf, NOTHING};
@@ -69,13 +69,16 @@ pub const MISTAKES: &[Mistake] = &[
         m.shelf_form_too(|shelf| every(shelf, |entry| usize::from(entry.length) > HEADER_BYTES))
     }),
     ("shelf form: the reader's 3 isn't asked for", |m| {
-        m.shelf_form(READ, |shelf| every(shelf, |entry| good_requests(entry) && different_references(entry)))
+        m.shelf_form(READ, |shelf| every(shelf, |entry| accepted_without(entry, 3)))
     }),
     ("shelf form: the reader's 6 isn't asked for", |m| {
-        m.shelf_form(READ, |shelf| every(shelf, |entry| well_shaped(entry) && different_references(entry)))
+        m.shelf_form(READ, |shelf| every(shelf, |entry| accepted_without(entry, 6)))
+    }),
+    ("shelf form: the reader's 18 isn't asked for", |m| {
+        m.shelf_form(READ, |shelf| every(shelf, |entry| accepted_without(entry, 18)))
     }),
     ("shelf form: the reader's 7 isn't asked for", |m| {
-        m.shelf_form(READ, |shelf| every(shelf, |entry| well_shaped(entry) && good_requests(entry)))
+        m.shelf_form(READ, |shelf| every(shelf, |entry| accepted_without(entry, 7)))
     }),
     ("shelf form: only the first block is read", |m| {
         m.shelf_form(READ, |shelf| shelf.waiting().iter().take(1).all(accepted))
@@ -83,13 +86,13 @@ pub const MISTAKES: &[Mistake] = &[
     ("shelf form: the last block isn't read", |m| {
         m.shelf_form(READ, |shelf| shelf.waiting().iter().rev().skip(1).all(accepted))
     }),
-    ("shelf form: a slot requested twice doesn't pass", |m| {
-        m.shelf_form_too(|shelf| {
-            every(shelf, |entry| {
-                let slots: Vec<u8> = block::requests(entry.block()).iter().map(|request| request.slot).collect();
-                (0..slots.len()).all(|index| !slots[..index].contains(&slots[index]))
-            })
+    ("shelf form: only neighbouring slots are compared", |m| {
+        m.shelf_form(READ, |shelf| {
+            every(shelf, |entry| accepted_without(entry, 18) && slots::neighbours_compared(entry.block()).is_none())
         })
+    }),
+    ("shelf form: slots must rise", |m| {
+        m.shelf_form_too(|shelf| every(shelf, |entry| slots::falling_refused(entry.block()).is_none()))
     }),
     ("shelf form: a site of 16 or more doesn't pass", |m| {
         m.shelf_form_too(|shelf| every(shelf, |entry| block::site(entry.block()) < 16))
@@ -199,16 +202,10 @@ fn accepted(entry: &Entry) -> bool {
     block::accepted(entry.block())
 }
 
-fn well_shaped(entry: &Entry) -> bool {
-    block::misshapen(entry.block()).is_none()
-}
-
-fn good_requests(entry: &Entry) -> bool {
-    block::bad_request(entry.block()).is_none()
-}
-
-fn different_references(entry: &Entry) -> bool {
-    block::repeated_reference(entry.block()).is_none()
+/// Whether the reader accepts a block, if it didn't check this number.
+fn accepted_without(entry: &Entry, number: u8) -> bool {
+    let checks = block::CHECKS.iter().filter(|check| check.number != number);
+    checks.map(|check| (check.finds)(entry.block())).all(|found| found.is_none())
 }
 
 /// Whether two blocks that wait for a campaign are the same in a part.
