@@ -54,22 +54,26 @@ static block cut_block(void)
     return b;
 }
 
-/* Refused with 6 at index 1. Its third reference repeats the first, too: 6 comes before 7. */
-static block block_with_bad_request(void)
+/* The block of three references and five requests with request `index` for this slot. */
+static block with_slot(block b, size_t index, uint8_t slot)
 {
-    block b = block_of(1, 2, 3, 3);
-    memset(b.bytes + 5 + 2 * GT_DIGEST_BYTES, 1, GT_DIGEST_BYTES);
-    b.bytes[5 + 3 * GT_DIGEST_BYTES + 3] = 8;
+    b.bytes[GT_HEADER_BYTES + 3 * GT_DIGEST_BYTES + GT_REQUEST_BYTES * index] = slot;
     return b;
 }
 
-/* Refused with 7 at index 2. */
+/* Refused with 7 at index 2: its third reference repeats the first. */
 static block block_with_repeated_reference(void)
 {
-    block b = block_of(1, 2, 3, 3);
-    memset(b.bytes + 5 + 2 * GT_DIGEST_BYTES, 1, GT_DIGEST_BYTES);
+    block b = block_of(1, 2, 3, 5);
+    memset(b.bytes + GT_HEADER_BYTES + 2 * GT_DIGEST_BYTES, 1, GT_DIGEST_BYTES);
     return b;
 }
+
+/* Refused with 18 at index 3: slots 0, 1, 2, 1 and 0. It has the repeated reference too: 18 comes before 7. */
+static block block_with_repeated_slot(void) { return with_slot(with_slot(block_with_repeated_reference(), 3, 1), 4, 0); }
+
+/* Refused with 6 at index 4. It has the repeated slot and the repeated reference too: 6 comes before both. */
+static block block_with_bad_request(void) { return with_slot(block_with_repeated_slot(), 4, 8); }
 
 /* The three calls on a block. */
 static gt_reading read_block(block b)
@@ -168,7 +172,13 @@ static void check_reading(void)
     check("reading the most references and a request of each slot",
           refused_with_zeros(read_block(block_of(1, 2, references, 8)), 3, 0));
     check("reading a cut block", refused_with_zeros(read_block(cut_block()), 3, 0));
-    check("reading a bad request", refused_with_zeros(read_block(block_with_bad_request()), 6, 1));
+    check("reading a bad request", refused_with_zeros(read_block(block_with_bad_request()), 6, 4));
+    check("reading a repeated slot", refused_with_zeros(read_block(block_with_repeated_slot()), 18, 3));
+    check("reading a slot repeated by the last request",
+          refused_with_zeros(read_block(with_slot(block_of(1, 2, 3, 5), 4, 0)), 18, 4));
+    check("reading a slot over 7 twice",
+          refused_with_zeros(read_block(with_slot(with_slot(block_of(1, 2, 3, 5), 0, 8), 1, 8)), 6, 0));
+    check("reading slots that fall", reads_as(with_slot(with_slot(block_of(1, 2, 3, 5), 0, 7), 1, 6), 1, 2, 3, 5));
     check("reading a repeated reference", refused_with_zeros(read_block(block_with_repeated_reference()), 7, 2));
 }
 
@@ -196,7 +206,9 @@ static void check_references(void)
     check("reference: 13 before 17", reference_refused(b, 3, 31, 13, 0));
     check("reference of no bytes at NULL", is(gt_reference(NULL, 0, 0, fresh_output(), 32), 3, 0) && untouched_from(0));
     check("reference: 3 before 13 and 17", reference_refused(cut_block(), SIZE_MAX, 31, 3, 0));
-    check("reference: 6 before 13 and 17", reference_refused(block_with_bad_request(), SIZE_MAX, 31, 6, 1));
+    check("reference: 6 before 13 and 17", reference_refused(block_with_bad_request(), SIZE_MAX, 31, 6, 4));
+    check("reference: 18 before 13 and 17", reference_refused(block_with_repeated_slot(), SIZE_MAX, 31, 18, 3));
+    check("reference 0 of a block with a repeated slot", reference_refused(block_with_repeated_slot(), 0, 32, 18, 3));
     check("reference: 7 before 13 and 17", reference_refused(block_with_repeated_reference(), SIZE_MAX, 31, 7, 2));
 }
 
@@ -212,7 +224,9 @@ static void check_requests(void)
     check("request 0 of 0", request_refused_with_zeros(request(block_of(1, 2, 3, 0), 0), 13, 0));
     check("request of no bytes at NULL", request_refused_with_zeros(gt_request(NULL, 0, 0), 3, 0));
     check("request: 3 before 13", request_refused_with_zeros(request(cut_block(), SIZE_MAX), 3, 0));
-    check("request: 6 before 13", request_refused_with_zeros(request(block_with_bad_request(), SIZE_MAX), 6, 1));
+    check("request: 6 before 13", request_refused_with_zeros(request(block_with_bad_request(), SIZE_MAX), 6, 4));
+    check("request: 18 before 13", request_refused_with_zeros(request(block_with_repeated_slot(), SIZE_MAX), 18, 3));
+    check("request 0 of a block with a repeated slot", request_refused_with_zeros(request(block_with_repeated_slot(), 0), 18, 3));
     check("request: 7 before 13", request_refused_with_zeros(request(block_with_repeated_reference(), SIZE_MAX), 7, 2));
 }
 

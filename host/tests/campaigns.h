@@ -67,7 +67,7 @@ static inline digest not_held(uint8_t byte)
     return d;
 }
 
-/* A block with this many references, none of which is held, and this many requests. */
+/* A block with this many references, none of which is held, and this many requests, of slots from 0 on. */
 static inline block block_with(uint8_t references, uint8_t requests)
 {
     block b = block_of(2, 0);
@@ -75,7 +75,7 @@ static inline block block_with(uint8_t references, uint8_t requests)
     for (uint8_t i = 0; i < references; i++)
         b = with_reference(b, not_held(i));
     for (uint8_t i = 0; i < requests; i++)
-        b = with_request(b, i % GT_SLOTS, 1);
+        b = with_request(b, i, 1);
     return b;
 }
 

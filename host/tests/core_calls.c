@@ -93,7 +93,7 @@ static block second_block(void)
 {
     block b = referring_to(block_of(1, 0), first_block());
 
-    return with_request(with_request(with_request(b, 7, 0x0102), 0, 65535), 7, 3);
+    return with_request(with_request(b, 7, 0x0102), 0, 65535);
 }
 
 static table with_one_block(void) { return with_row(empty_table(4), first_block(), 0); }
@@ -103,7 +103,7 @@ static table with_two_blocks(void)
     table t = with_row(with_one_block(), second_block(), 1);
 
     put_request(&t, 1, 0, 255, 255);
-    put_request(&t, 1, 7, 1, 2); /* the first of the two for slot 7 */
+    put_request(&t, 1, 7, 1, 2);
     return t;
 }
 
@@ -241,7 +241,7 @@ static bool marks_stay(void)
 static void check_admitted(void)
 {
     check("admission, 5 bytes at place 0", admitted(empty_table(4), first_block(), 0, with_one_block()));
-    check("admission, a reference, and a slot requested twice", admitted(with_one_block(), second_block(), 1, with_two_blocks()));
+    check("admission, a reference and two requests", admitted(with_one_block(), second_block(), 1, with_two_blocks()));
     check("admission, a block with its parent", successor_admitted());
     check("admission, the longest block", longest_admitted());
     check("admission, marks stay", marks_stay());
@@ -282,7 +282,11 @@ static void check_block_refused(void)
     check("admission, verdict 255", refused_under(255, b, 5));
 
     check("admission, slot 8 in request 1", refused(t, with_request(with_request(b, 7, 1), 8, 1), 6, 1));
-    check("admission, number 0 in request 2", refused(t, with_request(with_request(with_request(b, 7, 1), 0, 1), 0, 0), 6, 2));
+    check("admission, number 0 in request 2", refused(t, with_request(with_request(with_request(b, 7, 1), 0, 1), 1, 0), 6, 2));
+    check("admission, a slot twice", refused(t, with_request(with_request(b, 7, 1), 7, 2), 18, 1));
+    check("admission, a slot twice with one number", refused(t, with_request(with_request(b, 0, 1), 0, 1), 18, 1));
+    check("admission, slots 0 to 3 and 0", refused(t, with_request(block_with(0, 4), 0, 2), 18, 4));
+    check("admission, slots 0, 1, 1 and 0", refused(t, with_request(with_request(block_with(0, 2), 1, 2), 0, 2), 18, 2));
     check("admission, a reference twice",
           refused(t, referring_to(referring_to(referring_to(b, first_block()), second_block()), first_block()), 7, 2));
 }
@@ -348,12 +352,22 @@ static void check_order(void)
     table t = with_two_blocks();
     block foreign = with_request(block_of(4, 1), 8, 1), bad = with_request(block_of(2, 1), 8, 1);
     block missing = with_reference(block_of(2, 1), not_held(1)), repeated = with_reference(missing, not_held(1));
+    block twice = with_request(with_request(block_of(2, 1), 3, 1), 3, 1);
+    block missing_and_twice = with_request(with_request(missing, 3, 1), 3, 1);
 
     check("admission: 3 before 4 and 5", refused_under(0, of_length(foreign, foreign.length - 1), 3));
+    check("admission: 3 before 18", refused(t, of_length(twice, twice.length - 1), 3, 0));
     check("admission: 4 before 5 and 6", refused_under(0, foreign, 4));
+    check("admission: 4 before 18", refused(t, with_request(with_request(block_of(4, 1), 3, 1), 3, 1), 4, 0));
     check("admission: 5 before 6", refused_under(0, bad, 5));
+    check("admission: 5 before 18", refused_under(0, twice, 5));
     check("admission: 5 before 8", refused_under(0, second_block(), 5));
+    check("admission: 6 before 18", refused(t, with_request(twice, 8, 1), 6, 2));
     check("admission: 6 before 7", refused(t, with_request(repeated, 8, 1), 6, 0));
+    check("admission: 18 before 7", refused(t, with_request(with_request(repeated, 3, 1), 3, 1), 18, 1));
+    check("admission: 18 before 8", refused(holding_digest_of(twice), twice, 18, 1));
+    check("admission: 18 before 9", refused(t, missing_and_twice, 18, 1));
+    check("admission: 18 before 10", refused(t, twice, 18, 1));
     check("admission: 7 before 8", refused(holding_digest_of(repeated), repeated, 7, 1));
     check("admission: 7 before 9", refused(t, repeated, 7, 1));
     check("admission: 8 before 9", refused(holding_digest_of(missing), missing, 8, 1));
@@ -377,6 +391,7 @@ static void check_full(void)
     check("full table, in form", in_form(t));
     check("full table, the 65th", refused(t, next, 11, 0));
     check("full table, the 65th of sequence 0", refused(t, other_fork(), 11, 0));
+    check("full table, the 65th with a slot twice", refused(t, with_request(other_fork(), 0, 2), 18, 1));
     check("full table, the 65th repeats the first", refused(t, chain_block(0), 8, 0));
     check("full table, the 65th repeats the last", refused(t, chain_block(63), 8, 63));
     check("full table, the 65th with a reference not held", refused(t, with_reference(next, not_held(1)), 9, 1));

@@ -32,7 +32,7 @@ def lawful(rng, references=None, requests=None):
     """A block that reads; counts are random where they aren't given."""
     references = some_count(rng, MAX_REFERENCES) if references is None else references
     requests = some_count(rng, MAX_REQUESTS) if requests is None else requests
-    numbers = [(rng.randrange(8), rng.choice([1, 255, 256, 65535, rng.randint(1, 65535)])) for _ in range(requests)]
+    numbers = [(slot, rng.choice([1, 255, 256, 65535, rng.randint(1, 65535)])) for slot in rng.sample(range(8), requests)]
     return block(rng.randrange(256), rng.randrange(65536), different_references(rng, references), numbers)
 
 
@@ -73,6 +73,14 @@ def repeat_reference(rng, data):
     return with_bytes(data, HEADER_BYTES + REFERENCE_BYTES * later, data[start:start + REFERENCE_BYTES])[:len(data)]
 
 
+def repeat_slot(rng, data):
+    if len(data) < HEADER_BYTES or not 2 <= data[4] <= MAX_REQUESTS:
+        return data
+    earlier, later = sorted(rng.sample(range(data[4]), 2))
+    start = request_at(data, earlier)
+    return with_bytes(data, request_at(data, later), data[start:start + 1])[:len(data)]
+
+
 def change_request(rng, data, offset, new):
     if len(data) < HEADER_BYTES or not 1 <= data[4] <= MAX_REQUESTS:
         return data
@@ -87,9 +95,9 @@ def high_slot(rng, data):
     return change_request(rng, data, 0, bytes([rng.choice([8, 9, 255, rng.randint(8, 255)])]))
 
 
-DAMAGES = [flip_bit, change_count, cut, extend, repeat_reference, zero_number, high_slot]
-# These leave the length right, so that 6 and 7 meet.
-LIST_DAMAGES = [repeat_reference, zero_number, high_slot]
+# These leave the length right, so that 6, 18 and 7 meet.
+LIST_DAMAGES = [repeat_reference, repeat_slot, zero_number, high_slot]
+DAMAGES = [flip_bit, change_count, cut, extend, *LIST_DAMAGES]
 
 
 def damaged(rng, damages=None):

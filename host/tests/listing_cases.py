@@ -24,6 +24,11 @@ FIRST = block(0, 0)
 UNKNOWN = digest(b"no block")
 
 
+def of_slots(slots):
+    """A request of each slot."""
+    return [(slot, 42) for slot in slots]
+
+
 class Case(NamedTuple):
     name: str
     stream: bytes
@@ -69,7 +74,7 @@ def longest():
 
 def cut_to_over_long():
     """A block of 16 references and a request of each slot, cut to every length that no block has; then a first block, twice."""
-    whole = block(0, 0, [digest(bytes([i])) for i in range(MAX_REFERENCES)], [(slot, 7) for slot in range(8)])
+    whole = block(0, 0, [digest(bytes([i])) for i in range(MAX_REFERENCES)], of_slots(range(8)))
     cut = [whole[:length] for length in range(MAX_BLOCK_BYTES + 1, len(whole) + 1)]
     lines = [f"{number} - - - - - 3" for number in range(len(cut))]
     return Case("a request of each slot, and a good block", FOUR_SITES + b"".join(map(arrival, cut)) + arrival(FIRST) * 2,
@@ -94,7 +99,7 @@ SHAPES = [
     Case("a byte too few", FOUR_SITES + arrival(block(0, 0, [UNKNOWN], [(0, 7)])[:-1]), ["0 - - - - - 3"]),
     Case("p 1 and no reference", FOUR_SITES + arrival(bytes([0, 0, 0, 1, 0])), ["0 - - - - - 3"]),
     Case("p 17 in the most bytes", FOUR_SITES + arrival(bytes([0, 0, 0, 17, 0]).ljust(MAX_BLOCK_BYTES, b"\0")), ["0 - - - - - 3"]),
-    Case("a request too many", FOUR_SITES + arrival(block(0, 0, requests=[(0, 7)] * (MAX_REQUESTS + 1))), ["0 - - - - - 3"]),
+    Case("a request too many", FOUR_SITES + arrival(block(0, 0, requests=of_slots(range(MAX_REQUESTS + 1)))), ["0 - - - - - 3"]),
     Case("p and r 255", FOUR_SITES + arrival(bytes([0, 0, 0, 255, 255])), ["0 - - - - - 3"]),
     Case("the most bytes, and no block", FOUR_SITES + arrival(bytes(MAX_BLOCK_BYTES)) + arrival(FIRST) * 2,
          ["0 - - - - - 3", "2 - - - - - 8"]),
@@ -114,7 +119,7 @@ SHAPES = [
 ]
 
 
-# ---- 4 to 11, each by itself
+# ---- 4 to 11 and 18, each by itself
 
 def sequence_one_after(*sites):
     """Blocks of sequence number 0, one of each site named, and a block of site 0 that has number 1 and refers to them all."""
@@ -134,9 +139,14 @@ REFUSALS = [
          ["0 - - - - - 5", "2 - - - - - 8"]),
     Case("6: slot 8", FOUR_SITES + arrival(block(0, 0, requests=[(8, 42)])), ["0 - - - - - 6"]),
     Case("6: slot 255 in the last request",
-         FOUR_SITES + arrival(block(0, 0, requests=[(0, 42)] * (MAX_REQUESTS - 1) + [(255, 42)])), ["0 - - - - - 6"]),
+         FOUR_SITES + arrival(block(0, 0, requests=of_slots([*range(MAX_REQUESTS - 1), 255]))), ["0 - - - - - 6"]),
     Case("6: number 0", FOUR_SITES + arrival(block(0, 0, requests=[(0, 0)])), ["0 - - - - - 6"]),
     Case("slot 7, number 65,535", FOUR_SITES + arrival(block(0, 0, requests=[(7, 65535)])), []),
+    Case("18: a slot twice", FOUR_SITES + arrival(block(0, 0, requests=[(2, 5), (2, 6)])), ["0 - - - - - 18"]),
+    Case("18: a slot twice with one number", FOUR_SITES + arrival(block(0, 0, requests=of_slots([7, 7]))), ["0 - - - - - 18"]),
+    Case("18: slot 0 in the first request and in the last",
+         FOUR_SITES + arrival(block(0, 0, requests=of_slots([*range(MAX_REQUESTS - 1), 0]))), ["0 - - - - - 18"]),
+    Case("the most requests, of slots in no order", FOUR_SITES + arrival(block(0, 0, requests=of_slots([7, 0, 3, 6, 1]))), []),
     Case("7: two equal references", FOUR_SITES + arrival(FIRST) + arrival(block(1, 0, [digest(FIRST)] * 2)), ["1 - - - - - 7"]),
     Case("8: a block once more", FOUR_SITES + arrival(FIRST) * 2, ["1 - - - - - 8"]),
     Case("8: and once more again", FOUR_SITES + arrival(FIRST) * 3, ["1 - - - - - 8", "2 - - - - - 8"]),
@@ -155,22 +165,29 @@ REFUSALS = [
 ]
 
 
-# ---- Where two faults meet, the lower number decides
+# ---- Where two faults meet, the first decides in the order 3, 4, 5, 6, 18, 7 to 11
 
 ORDER = [
     Case("3 before 4", FOUR_SITES + arrival(bytes([4, 0, 0, 0, 0, 0])), ["0 - - - - - 3"]),
     Case("3 before 5", FOUR_SITES + arrival(bytes(6), verdict=0), ["0 - - - - - 3"]),
     Case("3 before 6", FOUR_SITES + arrival(block(0, 0, requests=[(8, 0)]) + b"\0"), ["0 - - - - - 3"]),
+    Case("3 before 18", FOUR_SITES + arrival(block(0, 0, requests=of_slots([1, 1])) + b"\0"), ["0 - - - - - 3"]),
     Case("4 before 5", FOUR_SITES + arrival(block(4, 0), verdict=0), ["0 - - - - - 4"]),
     Case("4 before 6", FOUR_SITES + arrival(block(4, 0, requests=[(8, 42)])), ["0 - - - - - 4"]),
+    Case("4 before 18", FOUR_SITES + arrival(block(4, 0, requests=of_slots([1, 1]))), ["0 - - - - - 4"]),
     Case("4 before 7", FOUR_SITES + arrival(block(4, 0, [UNKNOWN] * 2)), ["0 - - - - - 4"]),
     Case("4 before 9", FOUR_SITES + arrival(block(4, 0, [UNKNOWN])), ["0 - - - - - 4"]),
     Case("5 before 6", FOUR_SITES + arrival(block(0, 0, requests=[(0, 0)]), verdict=0), ["0 - - - - - 5"]),
+    Case("5 before 18", FOUR_SITES + arrival(block(0, 0, requests=of_slots([1, 1])), verdict=0), ["0 - - - - - 5"]),
     Case("5 before 7", FOUR_SITES + arrival(block(0, 0, [UNKNOWN] * 2), verdict=2), ["0 - - - - - 5"]),
     Case("5 before 8", FOUR_SITES + arrival(FIRST) + arrival(FIRST, verdict=0), ["1 - - - - - 5"]),
     Case("5 before 9", FOUR_SITES + arrival(block(0, 0, [UNKNOWN]), verdict=0), ["0 - - - - - 5"]),
+    Case("6 before 18", FOUR_SITES + arrival(block(0, 0, requests=of_slots([1, 1, 8]))), ["0 - - - - - 6"]),
     Case("6 before 7", FOUR_SITES + arrival(block(0, 0, [UNKNOWN] * 2, [(8, 42)])), ["0 - - - - - 6"]),
     Case("6 before 10", FOUR_SITES + arrival(block(0, 1, requests=[(0, 0)])), ["0 - - - - - 6"]),
+    Case("18 before 7", FOUR_SITES + arrival(block(0, 0, [UNKNOWN] * 2, of_slots([1, 1]))), ["0 - - - - - 18"]),
+    Case("18 before 9", FOUR_SITES + arrival(block(0, 0, [UNKNOWN], of_slots([1, 1]))), ["0 - - - - - 18"]),
+    Case("18 before 10", FOUR_SITES + arrival(block(0, 1, requests=of_slots([1, 1]))), ["0 - - - - - 18"]),
     Case("7 before 9", FOUR_SITES + arrival(block(0, 0, [UNKNOWN] * 2)), ["0 - - - - - 7"]),
     Case("7 before 10", FOUR_SITES + arrival(FIRST) + arrival(block(0, 2, [digest(FIRST)] * 2)), ["1 - - - - - 7"]),
     Case("9 before 10", FOUR_SITES + arrival(block(0, 1, [UNKNOWN])), ["0 - - - - - 9"]),
@@ -207,6 +224,7 @@ FULL_TABLE = [
     Case("9 before 11", FULL + arrival(block(1, 0, [UNKNOWN])), ["64 - - - - - 9"]),
     Case("10 before 11", FULL + arrival(block(1, 1, [digest(FIRST)])), ["64 - - - - - 10"]),
     Case("7 before 11", FULL + arrival(block(1, 0, [digest(FIRST)] * 2)), ["64 - - - - - 7"]),
+    Case("18 before 11", FULL + arrival(block(1, 0, requests=of_slots([1, 1]))), ["64 - - - - - 18"]),
     Case("6 before 11", FULL + arrival(block(1, 0, requests=[(1, 0)])), ["64 - - - - - 6"]),
     Case("5 before 11", FULL + arrival(block(1, 0), verdict=0), ["64 - - - - - 5"]),
     Case("4 before 11", FULL + arrival(block(4, 0)), ["64 - - - - - 4"]),
@@ -312,10 +330,13 @@ def two_slots_in_two_blocks(night):
     more_blocks(night, 4)
 
 
-@lists(one_site(), "3 3 0 3 2 5 0")
-def of_two_requests_in_a_block_the_first_counts(night):
-    night.site(0).requests(5, slot=2).requests(6, slot=2)
-    more_blocks(night, 5)
+@lists(one_site(),
+       "0 - - - - - 18",
+       "4 3 0 3 2 6 0")
+def a_block_that_requests_a_slot_twice_is_refused_and_another_delivers(night):
+    night.arrives(Draft(0).requests(5, slot=2).requests(6, slot=2))
+    night.site(0).requests(6, slot=2)
+    more_blocks(night, 3)
 
 
 @lists(one_site(), "3 3 0 3 0 7 0")

@@ -311,10 +311,6 @@ static const step two_slots_owned[] = {
     [0] = {1, 0, {{0, 42}, {1, 43}}, TO_NOTHING, SENDS(43)},
 };
 
-static const step first_counts[] = {
-    [0] = {0, 0, {{0, 43}, {0, 42}}, TO_NOTHING, SENDS(43)},
-};
-
 static const step echo_once[] = {
     [0] = {0, 0, REQUESTS(0, 42), TO_NOTHING, SENDS(42)},
     [1] = {0, 0, REQUESTS(0, 43), TO_NOTHING, SENDS(43)},
@@ -337,7 +333,6 @@ static void check_traps(void)
     check("ECHOs are taken before READYs", goes(of_sites(4, OF(echo_before_ready))));
     check("requests in two slots: nothing in that of another owner", goes((campaign){4, SHARED_OUT, 0, OF(two_slots)}));
     check("requests in two slots: SEND in the own one", goes((campaign){4, SHARED_OUT, 1, OF(two_slots_owned)}));
-    check("a slot requested twice: the first counts", goes(of_sites(4, OF(first_counts))));
     check("a second SEND brings no second ECHO", goes(of_sites(4, OF(echo_once))));
 }
 

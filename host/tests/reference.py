@@ -1,4 +1,4 @@
-"""Block reading and the control program's lines, written from document 01 alone: nothing of the library is used.
+"""Block reading and the control program's lines, written from documents 01 and 02 alone: nothing of the library is used.
 
 As a program it does what dome does: arrivals on standard input, lines on standard output.
 """
@@ -37,7 +37,7 @@ def pieces(data: bytes, size: int) -> list:
 
 
 def read_block(data: bytes) -> Union[Block, Refusal]:
-    """The block that the bytes encode, or the first refusal in the order 3, 6, 7."""
+    """The block that the bytes encode, or the first refusal in the order 3, 6, 18, 7."""
     if len(data) < HEADER_BYTES:
         return Refusal(3)
     reference_count, request_count = data[3], data[4]
@@ -52,6 +52,10 @@ def read_block(data: bytes) -> Union[Block, Refusal]:
     for index, request in enumerate(requests):
         if request.slot >= SLOTS or request.number == 0:
             return Refusal(6, index)
+    slots = [request.slot for request in requests]
+    for index, slot in enumerate(slots):
+        if slot in slots[:index]:
+            return Refusal(18, index)
     for index, reference in enumerate(references):
         if reference in references[:index]:
             return Refusal(7, index)

@@ -426,7 +426,7 @@ static table at_sequence(uint16_t sequence) { return with_sequence(having_retire
 
 static gt_answer build(table t, uint8_t site, size_t requests_length, uint8_t *output, size_t output_length)
 {
-    static const uint8_t requests[GT_MAX_REQUEST_LIST_BYTES + 1] = {8, 0, 1};
+    static const uint8_t requests[GT_MAX_REQUEST_LIST_BYTES + 1] = {7, 0, 1, 7, 0, 1, 8, 0, 1}; /* the first part of it is lent */
     uint8_t *lent_table = exact_copy(t.bytes, GT_TABLE_BYTES), *lent_output = exact_copy(output, output_length);
     uint8_t *lent_requests = exact_copy(requests, requests_length);
     gt_answer answer = gt_build(lent_table, GT_TABLE_BYTES, site, lent_requests, requests_length, lent_output, output_length);
@@ -472,7 +472,8 @@ static void check_last_sequence(void)
     check("building: 2 before 30", not_built(having_retired(last, 2), 0, 0, most, 2, 0));
     check("building: 4 before 30", not_built(last, 4, 0, most, 4, 0));
     check("building: 3 before 30", not_built(last, 0, GT_MAX_REQUEST_LIST_BYTES + 1, most, 3, 0));
-    check("building: 6 before 30", not_built(last, 0, 3, most, 6, 0));
+    check("building: 6 before 30", not_built(last, 0, 9, most, 6, 2));
+    check("building: 18 before 30", not_built(last, 0, 6, most, 18, 1));
     check("building: 16 before 30", not_built(forked, 0, 0, most, 16, 0));
     check("building: 30 before 17", not_built(last, 0, 0, 0, 30, 0) && not_built(at_sequence(65534), 0, 0, 0, 17, 37));
 }

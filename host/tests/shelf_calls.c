@@ -228,6 +228,7 @@ static void check_shelf_and_table(void)
 {
     state bad_shelf = state_of(empty_table(4), with_waiting(holding(1, 0, 0, 0), 0, lost_block(1)));
     state bad_table = state_of(filled_with(0), holding(1, 0, 0, 0));
+    state slot_twice = state_of(empty_table(4), with_waiting(empty_shelf, 0, with_request(lost_block(1), 0, 2)));
 
     check("arrival, a shelf of 0 bytes", shelf_of_length_refused(0));
     check("arrival, a shelf of a byte too few", shelf_of_length_refused(GT_SHELF_BYTES - 1));
@@ -240,6 +241,7 @@ static void check_shelf_and_table(void)
     check("arrival, a table of 3852 bytes", table_of_length_refused(GT_TABLE_BYTES + 1));
     check("arrival, a table not in form", refused(bad_table, 0, first_block(), 2));
     check("arrival, a table not in form and a block that would wait", refused(bad_table, 0, lost_block(2), 2));
+    check("arrival, a shelf on which a block requests a slot twice", refused(slot_twice, 0, first_block(), 2));
     check("arrival: 2 of the shelf before 3", refused(bad_shelf, 0, of_length(first_block(), 4), 2));
     check("arrival: 2 of the table before 3", refused(bad_table, 0, of_length(first_block(), 4), 2));
     check("arrival: 2 of the shelf before 20", refused(bad_shelf, 0, lost_block(1), 2));
@@ -260,6 +262,7 @@ static void check_refused_as_by_admission(void)
     check("arrival, verdict 0", refused_of_lengths(s, right, 0, b, 0, 5, 0));
     check("arrival, verdict 2", refused_of_lengths(s, right, 0, b, 2, 5, 0));
     check("arrival, slot 8 in request 1", refused_with(s, 0, with_request(with_request(b, 7, 1), 8, 1), 6, 1));
+    check("arrival, a slot twice", refused_with(s, 0, with_request(with_request(b, 7, 1), 7, 2), 18, 1));
     check("arrival, a reference twice", refused_with(s, 0, with_reference(missing, not_held(1)), 7, 1));
     check("arrival, the second block again", refused_with(s, 0, chain_block(1), 8, 1));
     check("arrival, sequence 1 without its parent", refused(s, 0, block_of(2, 1), 10));
@@ -271,6 +274,9 @@ static void check_refused_as_by_admission(void)
     check("arrival: 5 before 9", refused_of_lengths(s, right, 0, missing, 0, 5, 0));
     check("arrival: 5 before 20", refused_of_lengths(full, right, 0, lost, 0, 5, 0));
     check("arrival: 6 before 9", refused_with(s, 0, with_request(missing, 0, 0), 6, 0));
+    check("arrival: 18 before 9", refused_with(s, 0, with_request(with_request(missing, 0, 1), 0, 2), 18, 1));
+    check("arrival: 18 before 9 on an empty shelf",
+          refused_with(state_of(chain(4, 2), empty_shelf), 0, with_request(with_request(missing, 0, 1), 0, 2), 18, 1));
 }
 
 /* ---- A block that waits */
@@ -323,7 +329,7 @@ static void check_same_bytes(void)
     check("the same bytes of another campaign, a full shelf", refused(full, 1, tenth, 19));
     check("the same bytes, held meanwhile: 8 before 20", refused_with(held, 0, chain_block(1), 8, 1));
     check("other bytes, only the last differs", waits(s, 0, lost_block(2), 0));
-    check("other bytes, another length", waits(s, 0, with_request(b, 0, 1), 0));
+    check("other bytes, another length", waits(s, 0, with_request(b, 1, 1), 0));
 }
 
 /* ---- The shelf rule */
@@ -670,6 +676,8 @@ static void check_blocks_in_form(void)
     check("shelf, a request too many", !in_form(of_block(block_with(0, GT_MAX_REQUESTS + 1))));
     check("shelf, slot 8", !in_form(of_block(with_request(first, 8, 1))));
     check("shelf, number 0", !in_form(of_block(with_request(first, 7, 0))));
+    check("shelf, a slot twice", !in_form(of_block(with_request(with_request(first, 7, 1), 7, 2))));
+    check("shelf, slots 0 to 3 and 0", !in_form(of_block(with_request(block_with(0, 4), 0, 1))));
     check("shelf, a reference twice", !in_form(of_block(repeated)));
     check("shelf, a length of a byte more", !in_form(with_length(0, longest + 1)) && !in_form(with_length(15, longest + 1)));
     check("shelf, a length of 65535", !in_form(with_length(0, 65535)) && !in_form(with_length(15, 65535)));

@@ -384,8 +384,9 @@ def test_a_long_file_takes_few_calls():
 def every_kind(times):
     """Arrivals of every kind on a table that gets full, over and over, and their lines."""
     kinds = [(arrival(bytes(4)), 3), (arrival(bytes(2 * MAX_BLOCK_BYTES)), 3), (arrival(block(4, 0)), 4), (arrival(FIRST, verdict=0), 5),
-             (arrival(block(1, 0, requests=[(8, 1)])), 6), (arrival(block(1, 0, [bytes(32)] * 2)), 7), (arrival(FIRST), 8),
-             (arrival(block(1, 0, [bytes(32)])), 9), (arrival(block(1, 1)), 10), (arrival(block(1, 0)), 11)]
+             (arrival(block(1, 0, requests=[(8, 1)])), 6), (arrival(block(1, 0, requests=[(1, 1), (1, 2)])), 18),
+             (arrival(block(1, 0, [bytes(32)] * 2)), 7), (arrival(FIRST), 8), (arrival(block(1, 0, [bytes(32)])), 9),
+             (arrival(block(1, 1)), 10), (arrival(block(1, 0)), 11)]
     stream = listing_cases.FULL + times * b"".join(data for data, _ in kinds)
     lines = [refused(64 + at, kinds[at % len(kinds)][1]) for at in range(times * len(kinds))]
     return stream, text_of(lines)

@@ -379,17 +379,16 @@ static void check_built(void)
     block first_of_2 = requesting(block_of(2, 0), most_requests());
     block next_of_1 = referring_to(block_of(1, 2), diamond_block(4));
     block next_of_3 = referring_to(block_of(3, 1), diamond_block(3));
-    list twice = with_entry(with_entry(no_requests, 3, 1), 3, 2);
+    list two = with_entry(with_entry(no_requests, 3, 1), 0, 2);
 
     check("building, 5 bytes on an empty table", built(empty_table(4), 2, no_requests, block_of(2, 0)));
     check("building, the most requests", built(empty_table(4), 2, most_requests(), first_of_2));
-    check("building, a slot twice", built(empty_table(1), 0, twice, requesting(block_of(0, 0), twice)));
     /* Site 1 has places 1 and 4, which refer to 0 and to 1. */
     check("building, the greatest block, then others in place order",
           built(t, 1, no_requests, referring_to(referring_to(next_of_1, diamond_block(2)), diamond_block(3))));
     /* Site 3 has place 3, which refers to 1 and 2. */
     check("building, and two requests",
-          built(t, 3, twice, requesting(referring_to(referring_to(next_of_3, diamond_block(0)), diamond_block(4)), twice)));
+          built(t, 3, two, requesting(referring_to(referring_to(next_of_3, diamond_block(0)), diamond_block(4)), two)));
     check("building, an ancestor that isn't referred to", ancestor_picked());
     check("building, what an older block refers to", older_counts());
     check("building, in place order", in_place_order());
@@ -432,7 +431,7 @@ static void check_table_refused(void)
 static void check_refused(void)
 {
     table t = diamond(), forks = forked_below();
-    list good = with_entry(no_requests, 7, 1), slot_8 = with_entry(good, 8, 1);
+    list good = with_entry(no_requests, 7, 1), slot_8 = with_entry(good, 8, 1), twice = with_entry(good, 7, 2);
     list too_long = of_bytes(1, GT_MAX_REQUEST_LIST_BYTES + GT_REQUEST_BYTES);
 
     check("building, a site that is n", refused(t, 4, no_requests, 4, 0));
@@ -447,7 +446,11 @@ static void check_refused(void)
     check("building, slot 8 in request 1", refused(t, 0, slot_8, 6, 1));
     check("building, slot 255 in request 0", refused(t, 0, with_entry(no_requests, 255, 1), 6, 0));
     check("building, slot 8 in request 1, number 0 in request 2", refused(t, 0, with_entry(slot_8, 0, 0), 6, 1));
-    check("building, number 0 in request 2", refused(t, 0, with_entry(with_entry(good, 7, 2), 0, 0), 6, 2));
+    check("building, number 0 in request 2", refused(t, 0, with_entry(with_entry(good, 6, 2), 0, 0), 6, 2));
+    check("building, a slot twice", refused(t, 0, twice, 18, 1) && refused(empty_table(4), 3, twice, 18, 1));
+    check("building, a slot twice with one number", refused(t, 0, with_entry(good, 7, 1), 18, 1));
+    check("building, slots 7, 6 and 7", refused(t, 0, with_entry(with_entry(good, 6, 1), 7, 1), 18, 2));
+    check("building, the most requests, all of one slot", refused(t, 0, of_bytes(1, GT_MAX_REQUEST_LIST_BYTES), 18, 1));
     check("building, a fork of the only number", refused(with_forks(4, 1), 0, no_requests, 16, 0));
     check("building, a fork below the greatest", refused(forks, 2, no_requests, 16, 0));
     check("building, a fork of a full table", refused(forked_at_the_end(), 0, good, 16, 0));
@@ -456,8 +459,12 @@ static void check_refused(void)
     check("building: 4 before 3", refused(t, 4, too_long, 4, 0));
     check("building: 4 before 6", refused(t, 4, slot_8, 4, 0));
     check("building: 3 before 6", refused(t, 0, of_bytes(0, too_long.length), 3, 0));
+    check("building: 4 before 18", refused(t, 4, twice, 4, 0));
+    check("building: 3 before 18", refused(t, 0, too_long, 3, 0));
+    check("building: 6 before 18", refused(t, 0, with_entry(twice, 8, 1), 6, 2));
     check("building: 3 before 16", refused(forks, 2, too_long, 3, 0));
     check("building: 6 before 16", refused(forks, 2, slot_8, 6, 1));
+    check("building: 18 before 16", refused(forks, 2, twice, 18, 1));
     check("building: 16 before 17", refused_of_length(forks, GT_TABLE_BYTES, 2, good, 1, 16, 0));
 }
 
