@@ -58,11 +58,13 @@ static void append_references(built_block *block, const known_blocks *known, siz
         refer_to(block, known, referred, count - 1 - below(count < recent ? count : recent));
 }
 
-/* Few numbers, so that forked sites often say the same and often not. */
+/* Few numbers, so that forked sites often say the same and often not. An odd step meets no slot again before all others. */
 static void append_requests(built_block *block)
 {
-    for (size_t left = below(4); left > 0; left--) {
-        append(block, (uint8_t[]){(uint8_t)below(GT_SLOTS), 0, (uint8_t)(1 + below(3))}, 3);
+    size_t slot = below(GT_SLOTS), step = 1 + 2 * below(GT_SLOTS / 2);
+
+    for (size_t left = below(4); left > 0; left--, slot = (slot + step) % GT_SLOTS) {
+        append(block, (uint8_t[]){(uint8_t)slot, 0, (uint8_t)(1 + below(3))}, GT_REQUEST_BYTES);
         block->bytes[4]++;
     }
 }
@@ -77,6 +79,14 @@ built_block some_block(const known_blocks *known)
     append_references(&block, known, parent);
     append_requests(&block);
     return block;
+}
+
+void repeat_slot(built_block *block)
+{
+    const uint8_t requests = block->bytes[4];
+
+    if (requests > 1)
+        block->bytes[block->length - GT_REQUEST_BYTES] = block->bytes[block->length - (size_t)GT_REQUEST_BYTES * requests];
 }
 
 void damage(built_block *block) { block->bytes[below(block->length)] ^= (uint8_t)(1 << below(8)); }

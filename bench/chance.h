@@ -27,6 +27,9 @@ void know(known_blocks *known, const built_block *block);
 /* A block of some site that is built on some of those known. At times it is a fork. */
 built_block some_block(const known_blocks *known);
 
+/* The last request is then for the slot of the first. */
+void repeat_slot(built_block *block);
+
 /* Another bit somewhere in the block. */
 void damage(built_block *block);
 

@@ -178,6 +178,8 @@ static void send(void)
 
     if (one_in(50))
         repeat_reference(&block);
+    if (one_in(50))
+        repeat_slot(&block);
     if (one_in(20))
         damage(&block);
     if (one_in(50))
@@ -228,7 +230,7 @@ static void start_pool(void)
 /* Comparisons of what never came would say nothing. */
 static void expect_all_kinds(void)
 {
-    static const uint8_t answers[] = {0, 2, 3, 4, 5, 6, 7, 8, 9, 10, 11, 19, 20, 21}, outcomes[] = {0, 4, 8, 10, 11};
+    static const uint8_t answers[] = {0, 2, 3, 4, 5, 6, 7, 8, 9, 10, 11, 18, 19, 20, 21}, outcomes[] = {0, 4, 8, 10, 11};
 
     for (size_t i = 0; i < sizeof answers; i++)
         expect(answered[answers[i]] > 0, "a refusal did not come at random");

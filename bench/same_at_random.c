@@ -59,6 +59,8 @@ static void admit_at_both(void)
     bool again = gone[way].last.length > 0 && one_in(12), damaged = one_in(20);
     built_block block = again ? gone[way].last : some_block(&held);
 
+    if (one_in(30))
+        repeat_slot(&block);
     if (damaged)
         damage(&block);
     uint8_t verdict = one_in(30) ? 0 : 1;

@@ -53,7 +53,7 @@ static table out_of_form;
 static table aged;        /* full, and then its first block was retired */
 static table last_number; /* a single block, of the last sequence number, without its parent */
 
-static built_block bad_site, bad_request, repeated, unknown, orphan, another;
+static built_block bad_site, bad_request, slot_twice, repeated, unknown, orphan, another;
 
 static void admit(table *t, const built_block *b)
 {
@@ -112,9 +112,10 @@ static void prepare_blocks(void)
     const built_block *last = &busy.blocks[LAST_PLACE];
     const size_t second = GT_HEADER_BYTES + GT_DIGEST_BYTES;
 
-    bad_site = bad_request = repeated = unknown = orphan = another = *last;
+    bad_site = bad_request = slot_twice = repeated = unknown = orphan = another = *last;
     bad_site.bytes[0] = SITES;
     memset(bad_request.bytes + bad_request.length - 2, 0, 2);
+    slot_twice.bytes[slot_twice.length - GT_REQUEST_BYTES] = slot_twice.bytes[slot_twice.length - LIST_BYTES];
     memcpy(repeated.bytes + second, repeated.bytes + GT_HEADER_BYTES, GT_DIGEST_BYTES);
     memset(unknown.bytes + second, 0, GT_DIGEST_BYTES);
     orphan.bytes[2]++;
@@ -333,6 +334,7 @@ static void measure_read_block(void)
         {BLOCK(*last)},
         {.bytes = last->bytes, .length = last->length - 1, .refusal = 3},
         {BLOCK(bad_request), .refusal = 6},
+        {BLOCK(slot_twice), .refusal = 18},
         {BLOCK(repeated), .refusal = 7},
     };
 
@@ -376,6 +378,7 @@ static void measure_admit(void)
         {.table = FULL, BLOCK(bad_site), .number = 1, .refusal = 4},
         {.table = FULL, BLOCK(*last), .number = 0, .refusal = 5},
         {.table = FULL, BLOCK(bad_request), .number = 1, .refusal = 6},
+        {.table = FULL, BLOCK(slot_twice), .number = 1, .refusal = 18},
         {.table = FULL, BLOCK(repeated), .number = 1, .refusal = 7},
         {.table = FULL, BLOCK(*last), .number = 1, .refusal = 8},
         {.table = FULL, BLOCK(unknown), .number = 1, .refusal = 9},
@@ -471,6 +474,7 @@ static void measure_build(void)
 {
     enum { ALL = GT_MAX_BLOCK_BYTES };
     const uint8_t *requests = busy.blocks[0].bytes + GT_HEADER_BYTES, *bad_requests = bad_request.bytes + ALL - LIST_BYTES;
+    const uint8_t *repeated_requests = slot_twice.bytes + ALL - LIST_BYTES;
     /* A first block, one that refers to nothing new, the longest one, then the refusals. */
     const input inputs[] = {
         {.table = &reached[0], .bytes = requests, .length = 0, .number = 0, .room = ALL},
@@ -480,6 +484,7 @@ static void measure_build(void)
         {.table = FULL, .bytes = requests, .length = LIST_BYTES - 1, .number = 0, .room = ALL, .refusal = 3},
         {.table = FULL, .bytes = requests, .length = LIST_BYTES, .number = SITES, .room = ALL, .refusal = 4},
         {.table = FULL, .bytes = bad_requests, .length = LIST_BYTES, .number = 0, .room = ALL, .refusal = 6},
+        {.table = FULL, .bytes = repeated_requests, .length = LIST_BYTES, .number = 0, .room = ALL, .refusal = 18},
         {.table = &forked, .bytes = requests, .length = LIST_BYTES, .number = 0, .room = ALL, .refusal = 16},
         {.table = &last_number, .bytes = requests, .length = LIST_BYTES, .number = 0, .room = ALL, .refusal = 30},
         {.table = FULL, .bytes = requests, .length = LIST_BYTES, .number = 0, .room = ALL - 1, .refusal = 17},
@@ -548,6 +553,7 @@ static void measure_arrive(void)
         {ARRIVES(bad_site, FULL, &in_order), .refusal = 4},
         {.table = FULL, .shelf = &in_order, BLOCK(*last), .number = 0, .room = ALL, .refusal = 5},
         {ARRIVES(bad_request, FULL, &in_order), .refusal = 6},
+        {ARRIVES(slot_twice, FULL, &in_order), .refusal = 18},
         {ARRIVES(repeated, FULL, &in_order), .refusal = 7},
         {ARRIVES(*last, FULL, &in_order), .refusal = 8},
         {ARRIVES(orphan, FULL, &in_order), .refusal = 10},

@@ -27,10 +27,11 @@ class Held(NamedTuple):
 # ---- Blocks
 
 def some_requests(rng, site):
-    """Mostly none or one of the site's own slot; now and then as many as fit."""
+    """Mostly none or one of the site's own slot; now and then as many as fit, of different slots."""
     count = rng.choices([0, 1, 2, 3, MAX_REQUESTS], weights=[60, 25, 8, 5, 2])[0]
-    slots = [site if index == 0 else rng.randrange(8) for index in range(count)]
-    return [(slot, rng.randint(1, 65535)) for slot in slots]
+    others = [slot for slot in range(8) if slot != site]
+    slots = [site, *rng.sample(others, len(others))]
+    return [(slot, rng.randint(1, 65535)) for slot in slots[:count]]
 
 
 def some_references(rng, held, parent):
@@ -105,6 +106,12 @@ def bad_request(rng, _held):
     return arrival(encode(rng.randrange(SITES), 0, [], [(0, 7), (rng.randint(8, 255), 1)]))
 
 
+def repeated_slot(rng, _held):
+    """18: the same one twice."""
+    slot = rng.randrange(8)
+    return arrival(encode(rng.randrange(SITES), 0, [], [(slot, 7), (slot, 8)]))
+
+
 def bad_reference(rng, held):
     """7: the same one twice."""
     return arrival(encode(rng.randrange(SITES), 1, 2 * [rng.choice(held).digest], []))
@@ -116,7 +123,7 @@ def orphan(rng, held):
 
 
 # Damage of every kind, none of it frequent.
-DAMAGED = [unsigned, cut_off, over_long, foreign, bad_request, bad_reference, orphan]
+DAMAGED = [unsigned, cut_off, over_long, foreign, bad_request, repeated_slot, bad_reference, orphan]
 
 
 def damaged(rng, held):

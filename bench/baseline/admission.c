@@ -33,11 +33,10 @@ static bool parent_rule_holds(const baseline_table *table, const baseline_block 
     return block->sequence == 0 || parents == 1;
 }
 
-/* From the last request to the first, since the first of a slot counts. */
-static void count_requests(baseline_row *row, const baseline_block *block)
+static void note_requests(baseline_row *row, const baseline_block *block)
 {
-    for (size_t i = block->requests; i-- > 0;) {
-        const uint8_t *request = block->request_bytes + 3 * i;
+    for (size_t i = 0; i < block->requests; i++) {
+        const uint8_t *request = block->request_bytes + REQUEST_BYTES * i;
         row->requests[request[0]] = (uint16_t)(request[1] << 8 | request[2]);
     }
 }
@@ -50,7 +49,7 @@ static baseline_answer put(baseline_table *table, const baseline_block *block, c
     row->references = places;
     row->sequence = block->sequence;
     row->site = block->site;
-    count_requests(row, block);
+    note_requests(row, block);
     return answer(NONE, table->count++);
 }
 

@@ -48,6 +48,7 @@ enum {
     NO_PLACE = 13,
     INTERPRETED = 14,
     NOT_INTERPRETED = 15,
+    REPEATED_SLOT = 18,
     NO_SHELF_PLACE = 19,
     WAITS_ALREADY = 20,
     NO_CAMPAIGN = 21,
@@ -116,7 +117,7 @@ baseline_answer baseline_fresh(baseline_table *table, uint8_t sites, const uint8
 
 bool baseline_in_form(const baseline_table *table);
 
-/* Checks 2 to 11, then the block stands at the next place; the value is that place. */
+/* Checks 2 to 6, 18 and 7 to 11, then the block stands at the next place; the value is that place. */
 baseline_answer baseline_admit(baseline_table *table, const uint8_t *block, size_t length, uint8_t verdict);
 
 /* Checks 2 and 12 to 15, then the place's numbers are written and the place is marked. */

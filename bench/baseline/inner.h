@@ -57,7 +57,7 @@ typedef struct {
 
 /* Check 3: whether the bytes have a block's shape; only then the fields are read. */
 bool baseline_read(const uint8_t *bytes, size_t length, baseline_block *block);
-/* Checks 6 and 7, in this order. */
+/* Checks 6, 18 and 7, in this order. */
 baseline_answer baseline_check_lists(const baseline_block *block);
 
 baseline_digest baseline_digest_of(const uint8_t *bytes, size_t length);
