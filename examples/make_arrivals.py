@@ -25,6 +25,8 @@ def arrivals():
     yield arrival(second[:-1])
     # Refusal 6 with index 2: the third request has number 0. The fourth, for slot 8, comes too late to count.
     yield arrival(block(0, 4, references=[digest(fourth)], requests=[(0, 7), (1, 42), (2, 0), (8, 43)]))
+    # Refusal 18 with index 2: the third request is for the slot of the first.
+    yield arrival(block(0, 4, references=[digest(fourth)], requests=[(3, 7), (1, 42), (3, 8)]))
     # Refusal 7 with index 2: the third reference is the first once more.
     yield arrival(block(0, 4, references=[digest(fourth), digest(third), digest(fourth)]))
 

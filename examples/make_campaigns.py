@@ -77,6 +77,8 @@ def refusals():
     # 6: there is no slot 8; a number isn't 0.
     night.arrives(block(1, 0, requests=[(8, 42)]))
     night.arrives(block(1, 0, requests=[(1, 0)]))
+    # 18: the second request is for the slot of the first.
+    night.arrives(block(1, 0, requests=[(1, 42), (1, 43)]))
     # 7: the second reference is the first once more.
     night.arrives(block(1, 0, references=[digest(first), digest(first)]))
     # 8: the block is held.

@@ -27,6 +27,7 @@ static const char *const causes[] = {
     [10] = "it does not refer to its site's block before",
     [11] = "the table is full",
     [17] = "the outcomes are too short",
+    [18] = "it has a slot twice",
     [19] = "there is no place for it on the shelf",
     [20] = "it waits already",
     [21] = "there is no such campaign",
