@@ -100,7 +100,7 @@ fn fill_references(random: &Random, draft: &mut Draft, count: usize) {
     }
 }
 
-/// Adds requests of other slots, in any order, up to so many in all, of which there aren't more than slots.
+/// Adds requests of further slots, in any order, until there are so many; no more than there are slots.
 fn fill_requests(random: &Random, requests: &mut Vec<Request>, count: usize) {
     let mut slots: Vec<u8> = (0..SLOTS as u8).filter(|slot| requests.iter().all(|other| other.slot != *slot)).collect();
     random.shuffle(&mut slots);
