@@ -74,12 +74,14 @@ gt_answer gt_digest(const uint8_t *message, size_t message_length, uint8_t *outp
 gt_reading gt_read_block(const uint8_t *block, size_t block_length);
 
 /* Writes reference `index` of a block to the first 32 bytes of the output; the bytes after them stay.
- *   3, 6, 18, 7: as gt_read_block; then 13: the block has no such reference; then 17, value 32: the output is shorter than 32
- *   bytes. */
+ *   3, 6, 18, 7: as gt_read_block;
+ *   13: the block has no such reference;
+ *   17, value 32: the output is shorter than 32 bytes. */
 gt_answer gt_reference(const uint8_t *block, size_t block_length, size_t index, uint8_t *output, size_t output_length);
 
 /* Request `index` of a block.
- *   3, 6, 18, 7: as gt_read_block; then 13: the block has no such request. */
+ *   3, 6, 18, 7: as gt_read_block;
+ *   13: the block has no such request. */
 gt_requested gt_request(const uint8_t *block, size_t block_length, size_t index);
 
 #ifdef __cplusplus
