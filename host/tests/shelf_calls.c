@@ -275,8 +275,6 @@ static void check_refused_as_by_admission(void)
     check("arrival: 5 before 20", refused_of_lengths(full, right, 0, lost, 0, 5, 0));
     check("arrival: 6 before 9", refused_with(s, 0, with_request(missing, 0, 0), 6, 0));
     check("arrival: 18 before 9", refused_with(s, 0, with_request(with_request(missing, 0, 1), 0, 2), 18, 1));
-    check("arrival: 18 before 9 on an empty shelf",
-          refused_with(state_of(chain(4, 2), empty_shelf), 0, with_request(with_request(missing, 0, 1), 0, 2), 18, 1));
 }
 
 /* ---- A block that waits */
