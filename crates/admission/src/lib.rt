@@ -1,5 +1,5 @@
 // Admission of a block to a site's table. Promises: `admit` answers and leaves what specs/Admission.antt says, for all bytes and numbers;
-// form is kept, and each of 2 to 11 comes under its cause and under no other (specs/Promises.antt). Assumes nothing.
+// form is kept, and each of 2 to 11 and 18 comes under its cause and under no other (specs/Promises.antt). Assumes nothing.
 mod held;
 
 use answer::Answer;
@@ -38,7 +38,7 @@ fn enter(table: &mut [u8], block: &[u8], fields: block::Fields) -> Answer
     answer
 }
 
-// Puts the block at the table's next place and answers with that place. Refuses in the order of document 01; a refusal changes nothing.
+// Puts the block at the table's next place and answers with that place. Refuses in the order of the documents; a refusal changes nothing.
 pub fn admit(table: &mut [u8], block: &[u8], verdict: u8) -> Answer
     ensures { λ r. ⌜ r ≡ admission sha256 (now (table .entry)) (now (block .entry)) verdict ⌝ }
     ensures { λ _. ⌜ now (table .exit) ≡ admitted sha256 (now (table .entry)) (now (block .entry)) verdict ⌝ }

@@ -27,7 +27,7 @@ fn well_listed(requests: &[u8]) -> bool
 }
 
 // Writes the site's next block to the front of the output and answers with its length. Only the places in the mask `seen` are looked at. Refuses in
-// the order of document 01; a refusal changes nothing.
+// the order of the documents; a refusal changes nothing.
 pub fn build_from(table: &[u8], seen: u64, site: u8, requests: &[u8], output: &mut [u8]) -> Answer
     ensures { λ r. ⌜ r ≡ buildingFrom (inMask seen) (now (table .entry)) site (now (requests .entry)) (now (output .entry)) ⌝ }
     ensures { λ _. ⌜ now (output .exit) ≡ builtFrom (inMask seen) (now (table .entry)) site (now (requests .entry)) (now (output .entry)) ⌝ }
@@ -82,7 +82,7 @@ fn write_next(table: &[u8], seen: u64, site: u8, requests: &[u8], output: &mut [
     answer::success(needed)
 }
 
-// Writes the site's next block to the front of the output and answers with its length. Refuses in the order of document 01; a refusal
+// Writes the site's next block to the front of the output and answers with its length. Refuses in the order of the documents; a refusal
 // changes nothing.
 pub fn build(table: &[u8], site: u8, requests: &[u8], output: &mut [u8]) -> Answer
     ensures { λ r. ⌜ r ≡ building (now (table .entry)) site (now (requests .entry)) (now (output .entry)) ⌝ }
