@@ -14,8 +14,8 @@ use Rattle.cases.specs.Toy.{toy, request, block}
 use Rattle.cases.specs.Run.{good, judged, placed, tableAfter, answers}
 use Rattle.cases.specs.Blocks.{fresh, unlawful, first, fork, second, both, stranger, third, fourth, numbered, four, holding}
 
--- "checks 2 to 11 in that order", and 18 "straight after 6": a row for each two neighbours, and one for 5 and 18. Of the last two arrivals the first has both causes and gets the earlier
--- number; in the second only the earlier cause is mended, and it gets the later number.
+-- "checks 2 to 11 in that order", and 18 "straight after 6": a row for each two neighbours, and one for 5 and 18. Of the last two arrivals the first has
+-- both causes and gets the earlier number; in the second only the earlier cause is mended, and it gets the later number.
 pub record OrderCases : Type 0 where
   -- 2, 3: four bytes, brought to a table of three sites, then to a table of four
   pub formBeforeShape :

@@ -46,8 +46,8 @@ returnedRow (suc (suc (suc i))) = interpretedRow 3 3 0 (λ j. false)
 unfoldable pub returned : Bytes
 returned = layout (sites 4) (record { retired = 1; held = 4; row = returnedRow })
 
--- "Checks 2, 4, 3, 6, 16, 17", 18 "straight after 6" and 30 "straight after 16": a row for each two neighbours. Of the two calls the first has both causes and gets
--- the earlier number; in the second only the earlier cause is mended, and it gets the later number.
+-- "Checks 2, 4, 3, 6, 16, 17", 18 "straight after 6" and 30 "straight after 16": a row for each two neighbours. Of the two calls the first has both
+-- causes and gets the earlier number; in the second only the earlier cause is mended, and it gets the later number.
 pub record BuildingOrderCases : Type 0 where
   -- 2, 4: site 4, on a table of three sites, then on a table of four
   pub formBeforeSite : (building unlawful 4 [] [] ≡ refused 2 0) × (building fresh 4 [] [] ≡ refused 4 0)

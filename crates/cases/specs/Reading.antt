@@ -1,6 +1,6 @@
 -- Document 01, "The block", with the limits of request One and the check of request Two: reading at each limit, and where two checks fail.
 use mathlib.Core.Path.{_≡_}
-use mathlib.Core.List.{[], _∷_, _++_}
+use mathlib.Core.List.{List, [], _∷_, _++_, map}
 use Prim.Native.Nat.{ℕ}
 use lib.ListN.{length, take, replicate}
 use Rattle.base.specs.Bytes.{Bytes}
@@ -9,12 +9,17 @@ use Rattle.answer.specs.declared.Answer.{Answer}
 use Rattle.answer.specs.Checks.{success, refused}
 use Rattle.block.specs.Limits.{maxReferences, maxRequests, maxRequestListSize, maxBlockSize}
 use Rattle.block.specs.Reading.{reading, answerOf}
+use Rattle.block.specs.declared.Request.{Request}
 use Rattle.cases.specs.Toy.{toy, request, block}
-use Rattle.cases.specs.Blocks.{numbered, fullyReferring}
+use Rattle.cases.specs.Blocks.{first, numbered, fullyReferring}
 
 -- what reading answers
 abbrev pub read : Bytes → Answer
 read b = answerOf (reading b)
+
+-- requests of number 1 in these slots
+abbrev pub inSlots : List ℕ → List Request
+inSlots slots = map (λ slot. request slot 1) slots
 
 pub record ReadingCases : Type 0 where
   -- "Make 5 the limit. A block is then at most 532 bytes, a request list at most 15"
@@ -38,18 +43,18 @@ pub record ReadingCases : Type 0 where
   pub seventeenAlone : read (block 0 0 (listBelow (λ i. toy (numbered i)) 17) []) ≡ refused 3 0
   -- "18, a slot equal to an earlier one in the same block, with the index of the first such request": a request twice; one slot with two numbers, and
   -- with three; the first slot again at the end; two slots again
-  pub sameRequests : read (block 0 0 [] (request 5 1 ∷ request 5 1 ∷ [])) ≡ refused 18 1
+  pub sameRequests : read (block 0 0 [] (inSlots (5 ∷ 5 ∷ []))) ≡ refused 18 1
   pub otherNumber : read (block 0 0 [] (request 0 1 ∷ request 0 2 ∷ [])) ≡ refused 18 1
   pub thriceStated : read (block 0 0 [] (request 7 1 ∷ request 7 2 ∷ request 7 3 ∷ [])) ≡ refused 18 1
-  pub firstAndLast : read (block 0 0 [] (request 7 1 ∷ request 0 1 ∷ request 1 1 ∷ request 2 1 ∷ request 7 2 ∷ [])) ≡ refused 18 4
-  pub twoRepeated : read (block 0 0 [] (request 0 1 ∷ request 1 1 ∷ request 2 1 ∷ request 1 2 ∷ request 0 2 ∷ [])) ≡ refused 18 3
+  pub firstAndLast : read (block 0 0 [] (inSlots (7 ∷ 0 ∷ 1 ∷ 2 ∷ 7 ∷ []))) ≡ refused 18 4
+  pub twoRepeated : read (block 0 0 [] (inSlots (0 ∷ 1 ∷ 2 ∷ 1 ∷ 0 ∷ []))) ≡ refused 18 3
   -- one number in different slots is no cause
-  pub oneNumber : read (block 0 0 [] (request 7 9 ∷ request 0 9 ∷ request 6 9 ∷ request 3 9 ∷ request 1 9 ∷ [])) ≡ success 0
+  pub oneNumber : read (block 0 0 [] (inSlots (7 ∷ 0 ∷ 6 ∷ 3 ∷ 1 ∷ []))) ≡ success 0
   -- 6, 18: a slot again at index 1, and number 0 at index 4, then number 1
   pub requestFirst :
-      (read (block 0 0 [] (request 0 1 ∷ request 0 1 ∷ request 1 1 ∷ request 2 1 ∷ request 3 0 ∷ [])) ≡ refused 6 4)
-      × (read (block 0 0 [] (request 0 1 ∷ request 0 1 ∷ request 1 1 ∷ request 2 1 ∷ request 3 1 ∷ [])) ≡ refused 18 1)
+      (read (block 0 0 [] (inSlots (0 ∷ 0 ∷ 1 ∷ 2 ∷ []) ++ (request 3 0 ∷ []))) ≡ refused 6 4)
+      × (read (block 0 0 [] (inSlots (0 ∷ 0 ∷ 1 ∷ 2 ∷ 3 ∷ []))) ≡ refused 18 1)
   -- 18, 7: a reference again at index 1, and a slot again at index 4, then another slot
   pub slotFirst :
-      (read (block 0 0 (toy (numbered 0) ∷ toy (numbered 0) ∷ []) (request 0 1 ∷ request 1 1 ∷ request 2 1 ∷ request 3 1 ∷ request 0 1 ∷ [])) ≡ refused 18 4)
-      × (read (block 0 0 (toy (numbered 0) ∷ toy (numbered 0) ∷ []) (request 0 1 ∷ request 1 1 ∷ request 2 1 ∷ request 3 1 ∷ request 4 1 ∷ [])) ≡ refused 7 1)
+      (read (block 0 0 (toy first ∷ toy first ∷ []) (inSlots (0 ∷ 1 ∷ 2 ∷ 3 ∷ 0 ∷ []))) ≡ refused 18 4)
+      × (read (block 0 0 (toy first ∷ toy first ∷ []) (inSlots (0 ∷ 1 ∷ 2 ∷ 3 ∷ 4 ∷ []))) ≡ refused 7 1)
