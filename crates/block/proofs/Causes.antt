@@ -14,7 +14,7 @@ use Rattle.base.specs.Bytes.{Bytes, sameBytes}
 use Rattle.base.proofs.Tests.{by-test, or-cases, or-true}
 use Rattle.base.proofs.Search.{any-true, any-true-at, any-such, first-such}
 use Rattle.base.proofs.Bytes.{same-equal, equal-same}
-use Rattle.answer.specs.Checks.{Check, check, checkNone, success, refused, answerTo}
+use Rattle.answer.specs.Checks.{Check, check, checkNone, refused, answerTo}
 use Rattle.answer.specs.Promises.{FirstHold, elsewhere, different, Decided}
 use Rattle.answer.proofs.Checks.{value-of, first-holds, first-fails, valuedOnly, no-value, absent, present, missed}
 use Rattle.answer.proofs.Promises.{succeeds, first-refused, decided}
@@ -81,8 +81,8 @@ module _ (b : Bytes) where
   abbrev bad : ℕ → Bool
   bad = badRequestAt (requestList b)
 
-  abbrev slotMet : ℕ → Bool
-  slotMet = slotRepeatedAt (requestList b)
+  abbrev slotRepeated : ℕ → Bool
+  slotRepeated = slotRepeatedAt (requestList b)
 
   abbrev repeated : ℕ → Bool
   repeated = referenceRepeatedAt (referenceList b)
@@ -90,8 +90,8 @@ module _ (b : Bytes) where
   some-bad : (anyBelow bad (requestCount b) ≡ true) ↔ ((i : ℕ) × BadAt b i)
   some-bad = any-such bad (requestCount b) (BadAt b) (bad-means (requestList b) (requestCount b))
 
-  some-slot-met : (anyBelow slotMet (requestCount b) ≡ true) ↔ ((i : ℕ) × SlotRepeatedAt b i)
-  some-slot-met = any-such slotMet (requestCount b) (SlotRepeatedAt b) (slot-repeated-means (requestList b) (requestCount b))
+  some-slot-repeated : (anyBelow slotRepeated (requestCount b) ≡ true) ↔ ((i : ℕ) × SlotRepeatedAt b i)
+  some-slot-repeated = any-such slotRepeated (requestCount b) (SlotRepeatedAt b) (slot-repeated-means (requestList b) (requestCount b))
 
   some-repeated : (anyBelow repeated (referenceCount b) ≡ true) ↔ ((i : ℕ) × RepeatedAt b i)
   some-repeated = any-such repeated (referenceCount b) (RepeatedAt b) repeated-means
@@ -100,7 +100,7 @@ module _ (b : Bytes) where
   checks =
       check 3 (wellShaped b) 0
       ∷ checkNone 6 bad (requestCount b)
-      ∷ checkNone 18 slotMet (requestCount b)
+      ∷ checkNone 18 slotRepeated (requestCount b)
       ∷ checkNone 7 repeated (referenceCount b)
       ∷ []
 
@@ -133,14 +133,14 @@ module _ (b : Bytes) where
 
   slots : FirstHold checks 3 ↔ DifferentSlots b
   slots =
-      let here = absent _ _ some-slot-met in
+      let here = absent _ _ some-slot-repeated in
       (λ p. record { good = good .0 (p .0); noneRepeated = here .0 (p .1) }, λ d. (good .1 (d .good), here .1 (d .noneRepeated)))
 
   six : (answer b .refusal ≡ 6) ↔ (Shaped b × ((i : ℕ) × BadAt b i))
   six = Iff·trans (told .refused 1 (omega arith)) (Iff·and shape (present _ _ some-bad))
 
   eighteen : (answer b .refusal ≡ 18) ↔ (GoodRequests b × ((i : ℕ) × SlotRepeatedAt b i))
-  eighteen = Iff·trans (told .refused 2 (omega arith)) (Iff·and good (present _ _ some-slot-met))
+  eighteen = Iff·trans (told .refused 2 (omega arith)) (Iff·and good (present _ _ some-slot-repeated))
 
   seven : (answer b .refusal ≡ 7) ↔ (DifferentSlots b × ((i : ℕ) × RepeatedAt b i))
   seven = Iff·trans (told .refused 3 (omega arith)) (Iff·and slots (present _ _ some-repeated))
@@ -159,7 +159,7 @@ module _ (b : Bytes) where
             (first-such bad (requestCount b) (BadAt b) (bad-means (requestList b) (requestCount b)) (some-bad .1 (six .0 e .1)));
         firstSlot = λ e.
             subst (First (SlotRepeatedAt b)) (sym (told .valued 2 (omega arith) e))
-            (first-such slotMet (requestCount b) (SlotRepeatedAt b) (slot-repeated-means (requestList b) (requestCount b)) (some-slot-met .1 (eighteen .0 e .1)));
+            (first-such slotRepeated (requestCount b) (SlotRepeatedAt b) (slot-repeated-means (requestList b) (requestCount b)) (some-slot-repeated .1 (eighteen .0 e .1)));
         firstRepeated = λ e.
             subst (First (RepeatedAt b)) (sym (told .valued 3 (omega arith) e))
             (first-such repeated (referenceCount b) (RepeatedAt b) repeated-means (some-repeated .1 (seven .0 e .1)));

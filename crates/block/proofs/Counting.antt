@@ -30,7 +30,7 @@ module _ (list : Bytes) where
     unfolding countedRequest
     here h e = rw (requests-drop list i h, eq-eqb _ _ e)
 
-    pub past : i < length list / requestSize → (requestAt list i .slot ≡ slot → ⊥) → countedRequest (from i) slot ≡ countedRequest (from (i + 1)) slot
+    pub past : i < length list / requestSize → requestAt list i .slot ≢ slot → countedRequest (from i) slot ≡ countedRequest (from (i + 1)) slot
     unfolding countedRequest
     past h n = rw (add-one i, requests-drop list i h, ne-eqb _ _ n)
 
@@ -38,22 +38,27 @@ module _ (list : Bytes) where
     unfolding countedRequest
     none h = rw (drop-of-length-le (requestsIn list) {i = i} (omega (arith, requests-length list)))
 
-  -- a request counts among those from the n-th before it on, if none of these has its slot
-  reached : (i n j : ℕ) → j + n ≡ i → i < length list / requestSize → ((k : ℕ) → k < i → requestAt list k .slot ≡ requestAt list i .slot → ⊥)
-      → countedRequest (from j) (requestAt list i .slot) ≡ requestAt list i .number
-  reached i zero j e h apart = let s : j ≡ i = omega arith in rw s (here (requestAt list i .slot) i h refl)
-  reached i (suc n) j e h apart =
-      past (requestAt list i .slot) j (omega arith) (apart j (omega arith)) ∙ reached i n (j + 1) (omega arith) h apart
+  -- what counts from index j on is what counts from n further on, if none of the requests between has the slot
+  skipped : (slot i n j : ℕ) → j + n ≡ i → i ≤ length list / requestSize → ((k : ℕ) → k < i → requestAt list k .slot ≢ slot)
+      → countedRequest (from j) slot ≡ countedRequest (from i) slot
+  skipped slot i zero j e h other = let same : j ≡ i = omega arith in rw same
+  skipped slot i (suc n) j e h other = past slot j (omega arith) (other j (omega arith)) ∙ skipped slot i n (j + 1) (omega arith) h other
 
 -- the requests of an accepted block
 module _ (b : Bytes) (a : Accepted b) where
+  abbrev list : Bytes
+  list = requestList b
+
   abbrev slot : ℕ → ℕ
-  slot i = requestAt (requestList b) i .slot
+  slot i = requestAt list i .slot
+
+  abbrev counted : length list / requestSize ≡ requestCount b
+  counted = requests-counted b (a .shape)
 
   -- no request before request i has its slot
   pub apart : (i j : ℕ) → j < i → i < requestCount b → slot j ≢ slot i
   apart i j l h =
-      eqb-false _ _ (any-false-at (λ k. eqb (slot k) (slot i)) i (any-false-at (slotRepeatedAt (requestList b)) (requestCount b) (a .slots) i h) j l)
+      eqb-false _ _ (any-false-at (λ k. eqb (slot k) (slot i)) i (any-false-at (slotRepeatedAt list) (requestCount b) (a .slots) i h) j l)
 
   once : (i j : ℕ) → i < requestCount b → j < requestCount b → slot i ≡ slot j → i ≡ j
   once i j h k e =
@@ -65,5 +70,7 @@ module _ (b : Bytes) (a : Accepted b) where
   once-each =
       record {
         once = once;
-        counts = λ i h. reached (requestList b) i i 0 (omega arith) (omega (arith, requests-counted b (a .shape))) (λ k l. apart i k l h);
+        counts = λ i h. skipped list (slot i) i i 0 (omega arith) (omega (arith, counted)) (λ k l. apart i k l h) ∙ here list (slot i) i (omega (arith, counted)) refl;
+        unrequested = λ s other.
+            skipped list s (requestCount b) (requestCount b) 0 (omega arith) (omega (arith, counted)) other ∙ none list s (requestCount b) (omega (arith, counted));
       }

@@ -75,10 +75,11 @@ module _ (b : Bytes) where
     -- "numbers that the table doesn't name are 0"
     pub noValue : answer .refusal ≢ 6 → answer .refusal ≢ 18 → answer .refusal ≢ 7 → answer .value ≡ 0
 
-  -- "If a slot is requested twice in a block, the first counts": in a block that reading accepts no slot is, and each request counts
+  -- "If a slot is requested twice in a block, the first counts": in a block that reading accepts no slot is, each request counts, and nothing else does
   pub record OnceEach : Type 0 where
     pub once : (i j : ℕ) → i < requestCount b → j < requestCount b → requestAt (requestList b) i .slot ≡ requestAt (requestList b) j .slot → i ≡ j
     pub counts : (i : ℕ) → i < requestCount b → requestFor b (requestAt (requestList b) i .slot) ≡ requestAt (requestList b) i .number
+    pub unrequested : (slot : ℕ) → ((i : ℕ) → i < requestCount b → requestAt (requestList b) i .slot ≢ slot) → requestFor b slot ≡ 0
 
 pub record Promises : Type 0 where
   pub causes : (b : Bytes) → Causes b

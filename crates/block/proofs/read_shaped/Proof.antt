@@ -1,5 +1,5 @@
 -- `read_shaped` meets its contract: what is left of reading at each place of the walk. Assumes nothing.
-use mathlib.Core.Path.{_≡_, sym, ap, _∙_}
+use mathlib.Core.Path.{_≡_, ap, _∙_}
 use mathlib.Core.Bool.{Bool}
 use Prim.Native.Nat.{ℕ, _/_, _≤_, _<_}
 use native.Mathlib.Omega.{arith}
@@ -29,7 +29,7 @@ module _ (fails : ℕ → Bool) (count n i : ℕ) (en : n ≡ count) (e : i ≡ 
   passed : n ≤ i → rest ≡ eachEntry fails count refusal rest
   passed h = rw (any-missed fails i count e (omega arith))
 
--- a search over a list by its own length, where the code has the block's list and count
+-- a search over a list that is the block's, by the list's own length, is the search by the block's count
 first-is : (fails : Bytes → ℕ → Bool) (list own : Bytes) (size count i : ℕ) → list ≡ own → length own / size ≡ count → i ≡ firstBelow (fails list) (length list / size)
     → i ≡ firstBelow (fails own) count
 first-is fails list own size count i l n e = e ∙ rw (l, n)

@@ -1,8 +1,7 @@
 -- `first_of_repeated_slot` meets its contract. The loop's invariant: the mask has the slots of the requests passed, and none of these has the slot of
 -- an earlier one. Assumes nothing.
 use native.Mathlib.Omega.{arith}
-use mathlib.Core.Path.{_≡_, refl, sym, ap, _∙_}
-use mathlib.Core.Bool.{Bool}
+use mathlib.Core.Path.{_≡_, sym, ap, _∙_}
 use Prim.Native.Nat.{ℕ, _+_, _*_, _%_, _^_, _≤_, _<_, _-_, _/_}
 use lib.Bits.{bitOr}
 use lib.Dec.{eqb}
