@@ -13,7 +13,7 @@ use borrow.Author.Tests.{eq-eqb, ne_eqb, eqb-true, eqb-false, lt-ltb, le-ltb, lt
 use Rattle.base.specs.Search.{first_below, any_below, First}
 use Rattle.base.specs.List.{some_in}
 use Rattle.base.specs.Bytes.{Bytes}
-use Rattle.base.proofs.Tests.{by-test}
+use Rattle.base.proofs.Tests.{by_test}
 use Rattle.base.proofs.Search.{any_such, first_such}
 use Rattle.base.proofs.Bytes.{same_equal, equal_same}
 use Rattle.answer.specs.declared.Answer.{Answer}
@@ -83,7 +83,7 @@ module _ (digest : Bytes → Bytes) (formed : Bool) (s : Setup) (v : View) (b : 
   pub by_checks : answer_to (admission_checks digest formed s v b verdict) value ≡ answer_to checks value
   unfolding different elsewhere
   by_checks =
-      same_rest _ _ _ _ (by-test (well_shaped b)
+      same_rest _ _ _ _ (by_test (well_shaped b)
       (λ y.
       let own : answer_of (reading b) ≡ answer_to (own_checks b) 0 = reader.by_checks b ∙ first_holds _ _ 0 y in
       same_rest _ _ _ _ (same_rest _ _ _ _ (same_rest _ _ _ _ (ap (λ (a : Answer). answer_to (as_one a ∷ held) value) own ∙ in_line (own_checks b) held value refl))))

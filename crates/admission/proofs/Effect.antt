@@ -11,7 +11,7 @@ use borrow.Author.Tests.{eqb-true, ne_eqb, ltb-true}
 use Rattle.base.specs.Search.{first_below}
 use Rattle.base.specs.Count.{count_below}
 use Rattle.base.specs.Bytes.{Bytes, same_bytes}
-use Rattle.base.proofs.Tests.{by-test, and_left, and_right}
+use Rattle.base.proofs.Tests.{by_test, and_left, and_right}
 use Rattle.base.proofs.Search.{any_first, first_passes}
 use Rattle.base.proofs.Count.{count_same, count_injective}
 use Rattle.base.proofs.Bytes.{same_equal}
@@ -125,7 +125,7 @@ module _ (digest : Bytes → Bytes) (t b : Bytes) (verdict : ℕ) where
         rw (entered e) (grown t row (table_form t c.0.linked.is_new.readable.formed).size c.1 (sized b))
 
     pub kept : in_form t ≡ true → in_form after ≡ true
-    kept f = by-test (eqb (admission digest t b verdict).refusal 0) (λ y. grows (eqb-true _ _ y)) (λ n. ap in_form (refused n) ∙ f)
+    kept f = by_test (eqb (admission digest t b verdict).refusal 0) (λ y. grows (eqb-true _ _ y)) (λ n. ap in_form (refused n) ∙ f)
       where
         grows : (admission digest t b verdict).refusal ≡ 0 → in_form after ≡ true
         grows e =

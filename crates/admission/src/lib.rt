@@ -1,5 +1,8 @@
 // Admission of a block to a site's table. Promises: `admit` answers and leaves what specs/Admission.antt says, for all bytes and numbers;
 // form is kept, and each of 2 to 11 and 18 comes under its cause and under no other (specs/Promises.antt). Assumes nothing.
+
+#![tactic(auto)]
+
 mod held;
 
 ghost use Rattle.std.specs.Prelude.{◌≡◌, true};

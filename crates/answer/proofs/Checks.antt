@@ -8,7 +8,7 @@ use Prim.Native.Nat.{ℕ}
 use lib.Dec.{eqb}
 use borrow.Author.Tests.{eqb-true, eqb-false, not-true, not-false}
 use Rattle.base.specs.List.{some_in}
-use Rattle.base.proofs.Tests.{by-test, true-not-false, not_true_false, and_left, and_right}
+use Rattle.base.proofs.Tests.{by_test, true_not_false, not_true_false, and_left, and_right}
 use Rattle.answer.specs.declared.Answer.{Answer}
 use Rattle.answer.specs.Checks.{Check, refused, answer_to}
 use Rattle.answer.specs.Promises.{elsewhere}
@@ -38,7 +38,7 @@ pub never_answered : (n : ℕ) (cs : List Check) (value : ℕ) → elsewhere n c
 unfolding elsewhere answer_to
 never_answered n [] value e q = eqb-false 0 n (not-true _ e) q
 never_answered n (c ∷ cs) value e q =
-    by-test c.holds
+    by_test c.holds
     (λ y. never_answered n cs value (and_right (not (eqb c.number n)) (elsewhere n cs) e) (sym (number_of (first_holds c cs value y)) ∙ q))
     (λ f. eqb-false c.number n (not-true _ (and_left (not (eqb c.number n)) (elsewhere n cs) e)) (sym (number_of (first_fails c cs value f)) ∙ q))
 
@@ -51,7 +51,7 @@ valued_only numbers (c ∷ cs) value = (some_in (eqb c.number) numbers || eqb c.
 
 -- one of two tests passes, and the first does not
 second_passes : (x y : Bool) → (x || y) ≡ true → x ≡ false → y ≡ true
-second_passes true y e f = absurd (true-not-false refl f)
+second_passes true y e f = absurd (true_not_false refl f)
 second_passes false y e f = e
 
 pub no_value : (numbers : List ℕ) (cs : List Check) (value : ℕ) → valued_only numbers cs value ≡ true
@@ -61,7 +61,7 @@ no_value numbers [] value v o = eqb-true value 0 (second_passes (some_in (eqb 0)
 no_value numbers (c ∷ cs) value v o =
     let here : (some_in (eqb c.number) numbers || eqb c.value 0) ≡ true = and_left _ (valued_only numbers cs value) v in
     let outside : (n : ℕ) → (answer_to (c ∷ cs) value).refusal ≡ n → some_in (eqb n) numbers ≡ false = λ n e. rw (sym e) o in
-    by-test c.holds
+    by_test c.holds
     (λ y.
     let e = first_holds c cs value y in
     value_of e ∙ no_value numbers cs value (and_right (some_in (eqb c.number) numbers || eqb c.value 0) _ v) (outside _ (number_of e)))
@@ -74,15 +74,15 @@ no_value numbers (c ∷ cs) value v o =
 -- a check that something is not there: it holds where it is absent, and fails where it is present
 module _ (test : Bool) (P : Type 0) (means : (test ≡ true) ↔ P) where
   pub absent : (not test ≡ true) ↔ (P → ⊥)
-  absent = (λ e p. true-not-false (means.1 p) (not-true test e), λ n. ap not (not_true_false test (λ y. n (means.0 y))))
+  absent = (λ e p. true_not_false (means.1 p) (not-true test e), λ n. ap not (not_true_false test (λ y. n (means.0 y))))
 
   pub present : (not test ≡ false) ↔ P
   present = (λ e. means.0 (not-false test e), λ p. ap not (means.1 p))
 
   pub missed : (test ≡ false) ↔ (P → ⊥)
-  missed = (λ e p. true-not-false (means.1 p) e, λ n. not_true_false test (λ y. n (means.0 y)))
+  missed = (λ e p. true_not_false (means.1 p) e, λ n. not_true_false test (λ y. n (means.0 y)))
 
 -- a check of two tests fails where one of them does
 pub either_fails : (x y : Bool) {A B : Type 0} → (x ≡ false) ↔ A → (y ≡ false) ↔ B → ((x && y) ≡ false) ↔ (A ⊎ B)
-either_fails true y a b = (λ e. inr (b.0 e), λ w. elim w [ inl p ↦ true-not-false refl (a.1 p) | inr q ↦ b.1 q ])
+either_fails true y a b = (λ e. inr (b.0 e), λ w. elim w [ inl p ↦ true_not_false refl (a.1 p) | inr q ↦ b.1 q ])
 either_fails false y a b = (λ e. inl (a.0 refl), λ w. refl)

@@ -9,7 +9,7 @@ use native.Mathlib.Omega.{arith}
 use lib.Dec.{eqb}
 use lib.ListN.{length, drop}
 use borrow.Author.Tests.{eqb-false, ne_eqb, not-true}
-use Rattle.base.proofs.Tests.{by-test, and_left, and_right}
+use Rattle.base.proofs.Tests.{by_test, and_left, and_right}
 use Rattle.answer.specs.declared.Answer.{Answer}
 use Rattle.answer.specs.Checks.{Check, check, refused, answer_to}
 use Rattle.answer.specs.Promises.{check_at, FirstHold, elsewhere, different, Decided, Promises}
@@ -70,7 +70,7 @@ not_zero n (c ∷ cs) e = not_zero n cs (behind c cs n e)
 first_held : (c : Check) (cs : List Check) (value n : ℕ) → c.number ≢ n → (answer_to (c ∷ cs) value).refusal ≡ n
     → (c.holds ≡ true) × ((answer_to cs value).refusal ≡ n)
 first_held c cs value n other e =
-    by-test c.holds (λ y. (y, sym (number_of (first_holds c cs value y)) ∙ e)) (λ f. absurd (other (sym (number_of (first_fails c cs value f)) ∙ e)))
+    by_test c.holds (λ y. (y, sym (number_of (first_holds c cs value y)) ∙ e)) (λ f. absurd (other (sym (number_of (first_fails c cs value f)) ∙ e)))
 
 module _ (c : Check) (cs : List Check) (value : ℕ) (d : different (c ∷ cs) ≡ true) where
   apart : elsewhere c.number cs ≡ true
@@ -86,7 +86,7 @@ told : (cs : List Check) (value k : ℕ) → different cs ≡ true → k < lengt
     → FirstHold cs k × ((check_at cs k).holds ≡ false)
 told [] value k d h e = absurd (omega arith)
 told (c ∷ cs) value zero d h e =
-    (tt, by-test c.holds (λ y. absurd (never_answered c.number cs value (apart c cs value d) (sym (number_of (first_holds c cs value y)) ∙ e))) (λ f. f))
+    (tt, by_test c.holds (λ y. absurd (never_answered c.number cs value (apart c cs value d) (sym (number_of (first_holds c cs value y)) ∙ e))) (λ f. f))
 told (c ∷ cs) value (suc k) d h e =
     let first = first_held c cs value _ (λ q. other_number c.number cs k (apart c cs value d) (omega arith) (sym q)) e in
     let rest = told cs value k (rest_different c cs value d) (omega arith) first.1 in
@@ -134,7 +134,7 @@ pub in_line : (cs rest : List Check) (value : ℕ) → different cs ≡ true →
 unfolding answer_to
 in_line [] rest value d = refl
 in_line (c ∷ cs) rest value d =
-    by-test c.holds
+    by_test c.holds
     (λ y. joined (first_holds c cs 0 y) ∙ in_line cs rest value (rest_different c cs value d) ∙ sym (first_holds c (cs ++ rest) value y))
     (λ f. joined (first_fails c cs 0 f) ∙ first_fails (as_one (refused c.number c.value)) rest value (ne_eqb _ 0 (λ z. not_zero c.number cs (apart c cs value d) (sym z)))
     ∙ sym (first_fails c (cs ++ rest) value f))
@@ -147,7 +147,7 @@ pub handed_on : (front rest : List Check) (a : Answer) (value n : ℕ) → elsew
     → (answer_to (front ++ (as_one a ∷ rest)) value).refusal ≡ n → FirstHold front (length front) × (answer_to (front ++ (as_one a ∷ rest)) value ≡ a)
 handed_on [] rest a value n e f q = (
   tt,
-  by-test (eqb a.refusal 0)
+  by_test (eqb a.refusal 0)
       (λ y. absurd (never_answered n rest value f (sym (number_of (first_holds (as_one a) rest value y)) ∙ q)))
       (λ k. first_fails (as_one a) rest value k),
 )

@@ -1,6 +1,9 @@
 // What a call answers: a refusal's number, 0 for none, and a value; and answers in a lent buffer, two numbers for each. Promises: where the checks of
 // a call have different numbers, the answer has a check's number exactly if all checks before that one hold and that one does not, and then the
 // answer has that check's value (specs/Promises.antt). Assumes nothing.
+
+#![tactic(auto)]
+
 ghost use Rattle.std.specs.Prelude.{◌≡◌};
 ghost use Rattle.answer.specs.Buffer.{put_answer};
 ghost use Rattle.answer.specs.Checks.{success as Checks·success, refused as Checks·refused};

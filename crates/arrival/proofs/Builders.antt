@@ -10,7 +10,7 @@ use lib.Dec.{eqb}
 use lib.ListN.{drop}
 use borrow.Author.Tests.{eqb-true, eqb-false}
 use Rattle.base.specs.Bytes.{Bytes}
-use Rattle.base.proofs.Tests.{by-test}
+use Rattle.base.proofs.Tests.{by_test}
 use Rattle.block.specs.Layout.{site_of, sequence_of, references_of}
 use Rattle.history.specs.History.{block_of}
 use Rattle.history.specs.Ancestry.{AncestorIn, refers, through}
@@ -101,7 +101,7 @@ module _ (digest : Bytes → Bytes) (p : ℕ) where
     closed_under : (b c a : Bytes) → BlockBy bs p b → Memᴰ c bs → Memᴰ a bs → ReferredInChain digest bs b c → RefersTo digest c a
         → ReferredInChain digest bs b a
     closed_under b c a y mc ma r ca =
-        by-test (eqb (site_of c) p) (λ z. own (eqb-true _ _ z)) (λ z. by-test (eqb (site_of a) p)
+        by_test (eqb (site_of c) p) (λ z. own (eqb-true _ _ z)) (λ z. by_test (eqb (site_of a) p)
         (λ u. owned (eqb-true _ _ u))
         (λ u. others (eqb-false _ _ z) (eqb-false _ _ u)))
       where

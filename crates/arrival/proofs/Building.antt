@@ -9,7 +9,7 @@ use lib.Dec.{eqb}
 use lib.ListN.{length}
 use borrow.Author.Tests.{eqb-true, eqb-false}
 use Rattle.base.specs.Bytes.{Bytes}
-use Rattle.base.proofs.Tests.{by-test}
+use Rattle.base.proofs.Tests.{by_test}
 use Rattle.sha256.specs.Sha256.{sha256}
 use Rattle.sha256.proofs.Promises.{sha256_length}
 use Rattle.setup.specs.Setup.{Setup, lawful}
@@ -42,7 +42,7 @@ module _ (digest : Bytes → Bytes) (sized : (b : Bytes) → length (digest b) �
 
   step_built : (l : Ledger) (x : Site) → RunInvariant digest sized s size l x → l.retired ≡ [] → Built digest p l.blocks → (c : Call) → OwnIsBuilt digest p x c
       → Built digest p (ledger_step digest s size l c).blocks
-  step_built l x t none k c own = by-test (eqb (site_answer digest x c).refusal 0)
+  step_built l x t none k c own = by_test (eqb (site_answer digest x c).refusal 0)
       (λ y. let e : (site_answer digest x c).refusal ≡ 0 = eqb-true _ 0 y in rw (passed digest sized s size l x t c e) (call_built l x t none k c own e))
       (λ n. rw (refused digest sized s size l x t c (eqb-false _ 0 n)) k)
 

@@ -11,7 +11,7 @@ use native.Mathlib.Omega.{arith}
 use lib.ListN.{length}
 use borrow.Author.Tests.{ne_eqb, lt-ltb}
 use Rattle.base.specs.Bytes.{Bytes}
-use Rattle.base.proofs.Tests.{by-test, and_left, and_right}
+use Rattle.base.proofs.Tests.{by_test, and_left, and_right}
 use Rattle.base.proofs.Members.{member_at}
 use Rattle.base.proofs.Search.{any_true_at}
 use Rattle.setup.specs.Setup.{Setup}
@@ -88,7 +88,7 @@ module _ (digest : Bytes → Bytes) (sized : (b : Bytes) → length (digest b) �
   -- a block of the site refers to place j, or the block itself does, where it refers to a place of another site that refers to place j
   closed_at : (i j : ℕ) → i < l.held → j < l.held → site_of (l.block i) ≢ p → site_of (l.block j) ≢ p → RefersTo digest b (l.block i)
       → RefersTo digest (l.block i) (l.block j) → RefersTo digest b (l.block j) ⊎ ((d : Bytes) × BlockBy l.blocks p d × RefersTo digest d (l.block j))
-  closed_at i j hi hj n m r ij = by-test (is_referred everywhere v p j)
+  closed_at i j hi hj n m r ij = by_test (is_referred everywhere v p j)
       (λ y.
       let u = any_true_at (λ k. of_site v everywhere p k && (row_at table k).refers_to j) (count_of table) y in
       let h : u.0 < l.held = stand.held u.0 u.1 in

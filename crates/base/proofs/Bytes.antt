@@ -10,13 +10,13 @@ use lib.ListN.{length, get_or, take, drop, replicate}
 use lib.Seq.{get_or-take, get_or-drop, length-take-le}
 use borrow.Author.Tests.{eqb-true, eq-eqb}
 use Rattle.base.specs.Bytes.{Bytes, AllBytes, same_bytes, all_zero, concat}
-use Rattle.base.proofs.Tests.{true-not-false, not_true_false, and_left, and_right}
+use Rattle.base.proofs.Tests.{true_not_false, not_true_false, and_left, and_right}
 
 pub same_equal : (a b : Bytes) → same_bytes a b ≡ true → a ≡ b
 unfolding same_bytes
 same_equal [] [] e = refl
-same_equal [] (y ∷ b) e = true-not-false e refl
-same_equal (x ∷ a) [] e = true-not-false e refl
+same_equal [] (y ∷ b) e = true_not_false e refl
+same_equal (x ∷ a) [] e = true_not_false e refl
 same_equal (x ∷ a) (y ∷ b) e = ap₂ ◌∷◌ (eqb-true x y (search and_left)) (same_equal a b (search and_right))
 
 pub same_refl : (a : Bytes) → same_bytes a a ≡ true
@@ -31,7 +31,7 @@ pub other_same : (a b : Bytes) → (a ≡ b → ⊥) → same_bytes a b ≡ fals
 other_same a b n = not_true_false (same_bytes a b) (λ e. n (same_equal a b e))
 
 pub same_other : (a b : Bytes) → same_bytes a b ≡ false → a ≡ b → ⊥
-same_other a b n e = true-not-false (equal_same a b e) n
+same_other a b n e = true_not_false (equal_same a b e) n
 
 -- ---- zeros
 

@@ -12,7 +12,7 @@ use native.Mathlib.Decide.{dec_lt}
 use lib.Dec.{eqb, ltb}
 use borrow.Author.Tests.{eqb-true, eqb-false, ltb-true, ltb-false, not-true, not-false}
 use Rattle.base.specs.Count.{count_below}
-use Rattle.base.proofs.Tests.{by-test, true-not-false, and_left, and_right, and_not_right}
+use Rattle.base.proofs.Tests.{by_test, true_not_false, and_left, and_right, and_not_right}
 
 -- one turn of a loop that counts
 pub count_here : (f : ℕ → Bool) (k : ℕ) → f k ≡ true → count_below f k + 1 ≡ count_below f (k + 1)
@@ -69,7 +69,7 @@ count_mono f g (suc k) w = go (f k) (g k) (w k (omega arith)) (count_mono f g k 
   where
     go : (a b : Bool) → (a ≡ true → b ≡ true) → count_below f k ≤ count_below g k → cond a 1 0 + count_below f k ≤ cond b 1 0 + count_below g k
     go true true i h = omega arith
-    go true false i h = true-not-false (i refl) refl
+    go true false i h = true_not_false (i refl) refl
     go false true i h = omega arith
     go false false i h = omega arith
 
@@ -119,7 +119,7 @@ count_but_one f g zero n = omega arith
 count_but_one f g (suc k) n = go (f k) (g k) refl refl (count_but_one f g k (λ i j h l. n i j h (omega arith)))
   where
     go : (a b : Bool) → f k ≡ a → g k ≡ b → count_below f k ≤ suc (count_below g k) → cond a 1 0 + count_below f k ≤ suc (cond b 1 0 + count_below g k)
-    go true false ea eb h = let w : count_below f k ≤ count_below g k = count_mono f g k (λ i l y. by-test (g i) (λ e. e) (λ z. absurd (n i k l (omega arith) y z ea eb))) in omega arith
+    go true false ea eb h = let w : count_below f k ≤ count_below g k = count_mono f g k (λ i l y. by_test (g i) (λ e. e) (λ z. absurd (n i k l (omega arith) y z ea eb))) in omega arith
     go true true ea eb h = omega arith
     go false true ea eb h = omega arith
     go false false ea eb h = omega arith
@@ -156,9 +156,9 @@ count_rises f i k y h = omega (arith, count_here f i y, count_grows f (i + 1) k 
 
 -- and so those that pass have different numbers of others below them
 pub count_apart : (f : ℕ → Bool) (i j : ℕ) → f i ≡ true → f j ≡ true → count_below f i ≡ count_below f j → i ≡ j
-count_apart f i j y z e = by-test (ltb i j)
+count_apart f i j y z e = by_test (ltb i j)
     (λ o. absurd (omega (arith, count_rises f i j y (ltb-true i j o))))
-    (λ o. by-test (ltb j i)
+    (λ o. by_test (ltb j i)
     (λ n. absurd (omega (arith, count_rises f j i z (ltb-true j i n))))
     (λ n. omega (arith, ltb-false i j o, ltb-false j i n)))
 
@@ -195,6 +195,6 @@ count_one f (suc k) e i j h l y z = go (f k) refl e (eq-or-lt_of_le (le_of_suc-l
     go t q u (inl a) (inl c) ih = a ∙ sym c
     go true q u (inl a) (inr c) ih = absurd (omega (arith, count_member f k j c z))
     go true q u (inr a) c ih = absurd (omega (arith, count_member f k i a y))
-    go false q u (inl a) (inr c) ih = true-not-false (ap f (sym a) ∙ y) q
-    go false q u (inr a) (inl c) ih = true-not-false (ap f (sym c) ∙ z) q
+    go false q u (inl a) (inr c) ih = true_not_false (ap f (sym a) ∙ y) q
+    go false q u (inr a) (inl c) ih = true_not_false (ap f (sym c) ∙ z) q
     go false q u (inr a) (inr c) ih = ih (omega arith) a c

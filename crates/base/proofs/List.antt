@@ -11,7 +11,7 @@ use native.Mathlib.Omega.{arith}
 use lib.ListN.{length, get_or, set}
 use lib.Seq.{get_or-set_other}
 use Rattle.base.specs.List.{list_below, some_in}
-use Rattle.base.proofs.Tests.{by-test, true-not-false}
+use Rattle.base.proofs.Tests.{by_test, true_not_false}
 
 module _ {A : Type 0} where
   pub length_list : (f : ℕ → A) (k : ℕ) → length (list_below f k) ≡ k
@@ -43,7 +43,7 @@ module _ {A : Type 0} where
   -- a test that some element passes, and an element that passes it
   pub some_found : (test : A → Bool) (l : List A) → some_in test l ≡ true → (x : A) × Memᴰ x l × (test x ≡ true)
   unfolding some_in
-  some_found test [] e = true-not-false e refl
+  some_found test [] e = true_not_false e refl
   some_found test (y ∷ l) e = go (test y) refl e (λ k. some_found test l k)
     where
       go : (t : Bool) → test y ≡ t → (t || some_in test l) ≡ true → (some_in test l ≡ true → (x : A) × Memᴰ x l × (test x ≡ true))
@@ -58,11 +58,11 @@ module _ {A : Type 0} where
     where
       go : (t : Bool) → test y ≡ t → (x ≡ y) ⊎ Memᴰ x l → (Memᴰ x l → some_in test l ≡ true) → (t || some_in test l) ≡ true
       go true q c ih = refl
-      go false q (inl k) ih = true-not-false (rw k at e) q
+      go false q (inl k) ih = true_not_false (rw k at e) q
       go false q (inr k) ih = ih k
 
   pub some_none : (test : A → Bool) (l : List A) → ((x : A) → Memᴰ x l → test x ≡ false) → some_in test l ≡ false
-  some_none test l n = by-test (some_in test l) (λ e. let w = some_found test l e in true-not-false w.2 (n w.0 w.1)) (λ e. e)
+  some_none test l n = by_test (some_in test l) (λ e. let w = some_found test l e in true_not_false w.2 (n w.0 w.1)) (λ e. e)
 
 -- a function over a list, at an index of it, whatever stands for an entry past the end
 pub map_at : {A B : Type 0} (f : A → B) (l : List A) (i : ℕ) (a : A) (b : B) → i < length l → get_or (map f l) i b ≡ f (get_or l i a)

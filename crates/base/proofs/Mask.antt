@@ -1,7 +1,7 @@
 -- Laws of masks: what the code's `m | 1 << p` makes, how many ones a mask has, and what its bits are. They hold at every width. Assumes nothing.
 use mathlib.Core.Path.{◌≡◌, refl, sym, ap, ap₂, ◌∙◌, subst}
 use mathlib.Core.Bool.{Bool, true, false, cond}
-use mathlib.Core.Logic.{◌⊎◌, ⊎_elim}
+use mathlib.Core.Logic.{⊎_elim}
 use Prim.Native.Nat.{ℕ, zero, suc, ◌+◌, ◌-◌, ◌*◌, ◌/◌, ◌%◌, ◌^◌, ◌≤◌, ◌<◌, min, max, suc-le-suc}
 use native.Mathlib.Nat.{pow-suc, mul_assoc, mul-add-div_right, mul-add-mod_self_right, div-eq_of_lt, eq-or-lt_of_le, le_of_suc-le-suc, div-one, mod-lt, mod-eq_of_lt, div-add-mod'}
 use native.Mathlib.Omega.{arith}

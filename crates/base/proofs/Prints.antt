@@ -12,7 +12,7 @@ use borrow.Author.Tests.{eq-eqb, ne_eqb}
 use Rattle.base.specs.Search.{any_below}
 use Rattle.base.specs.Mask.{in_mask}
 use Rattle.base.specs.Steps.{print_count, has_print, prints_below, groups_below}
-use Rattle.base.proofs.Tests.{true-not-false}
+use Rattle.base.proofs.Tests.{true_not_false}
 use Rattle.base.proofs.Search.{any_false_at}
 use Rattle.base.proofs.Sets.{mask_has, some_put, some_skip}
 use Rattle.base.proofs.List.{list_at, set_list}
@@ -40,7 +40,7 @@ module _ (group print : ℕ → ℕ) where
   -- a lower number has another group or another print
   pub new_print : (i : ℕ) → print i < print_count → in_mask (prints_below group print i (group i)) (print i) ≡ false
       → (j : ℕ) → j < i → group j ≡ group i → print j ≡ print i → ⊥
-  new_print i l n j h g p = true-not-false
+  new_print i l n j h g p = true_not_false
       (ap₂ ◌&&◌ (eq-eqb (group j) (group i) g) (eq-eqb (print j) (print i) p))
       (any_false_at (has_print group print (group i) (print i)) i
       (sym (mask_has (λ p. any_below (has_print group print (group i) p) i) print_count (print i) l) ∙ n) j h)

@@ -9,7 +9,7 @@ use native.Mathlib.Omega.{arith}
 use lib.Dec.{eqb, ltb}
 use borrow.Author.Tests.{eqb-true, eqb-false, lt-ltb, le-ltb, ltb-true, ltb-false, not-true, not-false}
 use Rattle.base.specs.Search.{first_below, any_below, all_below, First}
-use Rattle.base.proofs.Tests.{by-test, true-not-false, not_true_false}
+use Rattle.base.proofs.Tests.{by_test, true_not_false, not_true_false}
 
 module _ (f : ℕ → Bool) where
   pub first_le : (k : ℕ) → first_below f k ≤ k
@@ -70,20 +70,20 @@ module _ (f : ℕ → Bool) where
   -- the first below one more, which fails or passes
   pub first_more_failing : (k : ℕ) → f k ≡ false → cond (eqb (first_below f k) k) (k + 1) (first_below f k) ≡ first_below f (k + 1)
   unfolding first_below
-  first_more_failing k n = by-test (eqb (first_below f k) k)
+  first_more_failing k n = by_test (eqb (first_below f k) k)
       (λ y. rw y (sym (first_past k (eqb-true (first_below f k) k y) n)))
       (λ z. rw (z, add-one k, lt-ltb (first_below f k) k (omega (arith, first_le k, eqb-false (first_below f k) k z))))
 
   pub first_more_passing : (k : ℕ) → f k ≡ true → first_below f k ≡ first_below f (k + 1)
   unfolding first_below
-  first_more_passing k y = by-test (ltb (first_below f k) k)
+  first_more_passing k y = by_test (ltb (first_below f k) k)
       (λ t. rw (add-one k, t))
       (λ t. rw (add-one k, t, y) (omega (arith, first_le k, ltb-false (first_below f k) k t)))
 
   -- where none below k passes, there is no first, and the other way round
   pub any_false : (k : ℕ) → ((j : ℕ) → j < k → f j ≡ false) → any_below f k ≡ false
   unfolding any_below
-  any_false k n = not_true_false _ (λ e. let l = ltb-true _ _ e in true-not-false (first_passes k l) (n _ l))
+  any_false k n = not_true_false _ (λ e. let l = ltb-true _ _ e in true_not_false (first_passes k l) (n _ l))
 
   pub first_nowhere : (k : ℕ) → ((j : ℕ) → j < k → f j ≡ false) → first_below f k ≡ k
   unfolding any_below
@@ -94,7 +94,7 @@ module _ (f : ℕ → Bool) where
   any_false_at k e j h = first_before k j (omega (arith, ltb-false (first_below f k) k e))
 
   pub any_true : (k j : ℕ) → j < k → f j ≡ true → any_below f k ≡ true
-  any_true k j h y = by-test (any_below f k) (λ e. e) (λ e. true-not-false y (any_false_at k e j h))
+  any_true k j h y = by_test (any_below f k) (λ e. e) (λ e. true_not_false y (any_false_at k e j h))
 
   -- the first, where there is one
   pub any_first : (k : ℕ) → any_below f k ≡ true → first_below f k < k
@@ -125,7 +125,7 @@ module _ (f : ℕ → Bool) (k : ℕ) (P : ℕ → Type 0) (means : (i : ℕ) �
   first_such e =
       record {
         here = (means (first_below f k)).0 (any_first f k e, first_passes f k (any_first f k e));
-        before = λ j h p. true-not-false ((means j).1 p).1 (first_before f k j h);
+        before = λ j h p. true_not_false ((means j).1 p).1 (first_before f k j h);
       }
 
 -- one turn more

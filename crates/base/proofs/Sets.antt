@@ -14,7 +14,7 @@ use borrow.Author.Tests.{eq-eqb, ne_eqb, eqb-true, le-leb, leb-true, ltb-true, l
 use Rattle.base.specs.Search.{first_below, any_below}
 use Rattle.base.specs.Count.{count_below}
 use Rattle.base.specs.Mask.{mask_below, bit_at, in_mask}
-use Rattle.base.proofs.Tests.{by-test, true-not-false, not_true_false, and_left, and_right, or_false, same_tests}
+use Rattle.base.proofs.Tests.{by_test, true_not_false, not_true_false, and_left, and_right, or_false, same_tests}
 use Rattle.base.proofs.Search.{any_false, any_false_at, any_more}
 use Rattle.base.proofs.Mask.{mask_below_lem, mask_bit, mask_bit_past, ones_mask, bit_lt, bit_and_lem, bit_or_lem, bit_not, bits_ext}
 use Rattle.base.proofs.TopPlace.{highest_in, lower_in}
@@ -64,24 +64,24 @@ small_mask m i e = let s : 0 * 2 ^ i + m % 2 ^ i ≡ m = rw e at (split m i) in 
 
 -- and so no place from i on is in it
 pub none_from : (w m i : ℕ) → m < 2 ^ w → i ≤ w → eqb (m / 2 ^ i) 0 ≡ not (any_below (λ p. leb i p && in_mask m p) w)
-none_from w m i h l = by-test (any_below (λ p. leb i p && in_mask m p) w) some none
+none_from w m i h l = by_test (any_below (λ p. leb i p && in_mask m p) w) some none
   where
     some : any_below (λ p. leb i p && in_mask m p) w ≡ true → eqb (m / 2 ^ i) 0 ≡ not (any_below (λ p. leb i p && in_mask m p) w)
-    some e = rw e (not_true_false (eqb (m / 2 ^ i) 0) (λ z. true-not-false e (any_false (λ p. leb i p && in_mask m p) w (λ p q. out z p))))
+    some e = rw e (not_true_false (eqb (m / 2 ^ i) 0) (λ z. true_not_false e (any_false (λ p. leb i p && in_mask m p) w (λ p q. out z p))))
       where
         out : eqb (m / 2 ^ i) 0 ≡ true → (p : ℕ) → (leb i p && in_mask m p) ≡ false
         out z p = not_true_false (leb i p && in_mask m p) (λ y.
             let low : m < 2 ^ i = small_mask m i (eqb-true (m / 2 ^ i) 0 z) in
             let high : i ≤ p = leb-true i p (and_left (leb i p) (in_mask m p) y) in
             let none : bit_at m p ≡ 0 = ap (λ (x : ℕ). x % 2) (div-eq_of_lt (omega (arith, pow_mono high))) in
-            true-not-false (and_right (leb i p) (in_mask m p) y) (rw none))
+            true_not_false (and_right (leb i p) (in_mask m p) y) (rw none))
 
     none : any_below (λ p. leb i p && in_mask m p) w ≡ false → eqb (m / 2 ^ i) 0 ≡ not (any_below (λ p. leb i p && in_mask m p) w)
     none e = rw e (eq-eqb (m / 2 ^ i) 0 (div-eq_of_lt below))
       where
         zero_bit : (x : ℕ) → x < 2 → eqb x 1 ≡ false → x ≡ 0
         zero_bit zero h e = refl
-        zero_bit (suc zero) h e = true-not-false refl e
+        zero_bit (suc zero) h e = true_not_false refl e
         zero_bit (suc (suc x)) h e = absurd (omega arith)
 
         out : (p : ℕ) → i ≤ p → p < w → bit_at m p ≡ 0
@@ -92,7 +92,7 @@ none_from w m i h l = by-test (any_below (λ p. leb i p && in_mask m p) w) some 
 
 -- the mask of w bits that are all 1: every place below w is in it
 pub full_mask : (w p : ℕ) → in_mask (2 ^ w - 1) p ≡ ltb p w
-full_mask w p = by-test (ltb p w) (λ y. rw y (eq-eqb (bit_at (2 ^ w - 1) p) 1 (one (ltb-true p w y)))) (λ n. rw (n, past (ltb-false p w n)))
+full_mask w p = by_test (ltb p w) (λ y. rw y (eq-eqb (bit_at (2 ^ w - 1) p) 1 (one (ltb-true p w y)))) (λ n. rw (n, past (ltb-false p w n)))
   where
     one : p < w → bit_at (2 ^ w - 1) p ≡ 1
     one h =

@@ -8,7 +8,7 @@ use native.Mathlib.Omega.{arith}
 use lib.Dec.{eqb}
 use borrow.Author.Tests.{eqb-true, eqb-false, ne_eqb}
 use Rattle.base.specs.Count.{sum_below}
-use Rattle.base.proofs.Tests.{by-test}
+use Rattle.base.proofs.Tests.{by_test}
 
 pub sum_more : (f : ℕ → ℕ) (k : ℕ) → sum_below f (k + 1) ≡ f k + sum_below f k
 unfolding sum_below
@@ -24,7 +24,7 @@ pub sum_without : (f : ℕ → ℕ) (c k : ℕ) → c < k → sum_below f k ≡ 
 unfolding sum_below
 sum_without f c zero h = absurd (omega arith)
 sum_without f c (suc k) h =
-    by-test (eqb k c)
+    by_test (eqb k c)
     (λ y.
     let e : k ≡ c = eqb-true k c y in
     let same = sum_same f (λ j. cond (eqb j c) 0 (f j)) k (λ j l. let n : eqb j c ≡ false = ne_eqb j c (λ q. omega arith) in rw n) in

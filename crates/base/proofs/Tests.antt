@@ -8,12 +8,12 @@ use native.Mathlib.Numerals.{add-one}
 use lib.Dec.{T}
 
 -- a test's two cases, each with its equation
-pub by-test {ℓ} : {C : Type ℓ} (t : Bool) → (t ≡ true → C) → (t ≡ false → C) → C
-by-test true y n = y refl
-by-test false y n = n refl
+pub by_test {ℓ} : {C : Type ℓ} (t : Bool) → (t ≡ true → C) → (t ≡ false → C) → C
+by_test true y n = y refl
+by_test false y n = n refl
 
-pub true-not-false {ℓ} : {C : Type ℓ} {t : Bool} → t ≡ true → t ≡ false → C
-true-not-false {t} y n = absurd (subst T (sym y ∙ n) tt)
+pub true_not_false {ℓ} : {C : Type ℓ} {t : Bool} → t ≡ true → t ≡ false → C
+true_not_false {t} y n = absurd (subst T (sym y ∙ n) tt)
 
 pub not_true_false : (t : Bool) → (t ≡ true → ⊥) → t ≡ false
 not_true_false true n = absurd (n refl)
@@ -25,12 +25,12 @@ and_left false b e = e
 
 pub and_right : (a b : Bool) → (a && b) ≡ true → b ≡ true
 and_right true b e = e
-and_right false b e = true-not-false e refl
+and_right false b e = true_not_false e refl
 
 -- one that fails where its first part holds
 pub and_not_right : (a b : Bool) → (a && b) ≡ false → a ≡ true → b ≡ false
 and_not_right true b e y = e
-and_not_right false b e y = true-not-false y refl
+and_not_right false b e y = true_not_false y refl
 
 pub and_false : (a : Bool) → (a && false) ≡ false
 and_false true = refl
@@ -45,7 +45,7 @@ or_left true b e = e
 or_left false b e = refl
 
 pub or_right : (a b : Bool) → (a || b) ≡ false → b ≡ false
-or_right true b e = true-not-false refl e
+or_right true b e = true_not_false refl e
 or_right false b e = e
 
 pub or_true : (a : Bool) → (a || true) ≡ true
@@ -67,5 +67,5 @@ one_more_lem P i e h j l = elim (eq-or-lt_of_le (le_of_suc-le-suc (rw add-one at
 -- tests that pass together are one
 pub same_tests : (a b : Bool) → (a ≡ true → b ≡ true) → (b ≡ true → a ≡ true) → a ≡ b
 same_tests true b f g = sym (f refl)
-same_tests false true f g = true-not-false (g refl) refl
+same_tests false true f g = true_not_false (g refl) refl
 same_tests false false f g = refl

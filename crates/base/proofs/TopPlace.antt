@@ -13,7 +13,7 @@ use borrow.Author.Tests.{lt-ltb, le-ltb}
 use Rattle.base.specs.Search.{any_below}
 use Rattle.base.specs.Count.{count_below}
 use Rattle.base.specs.Mask.{in_mask}
-use Rattle.base.proofs.Tests.{true-not-false, and_left, and_right, or_cases, or_true, same_tests}
+use Rattle.base.proofs.Tests.{true_not_false, and_left, and_right, or_cases, or_true, same_tests}
 use Rattle.base.proofs.Search.{any_true, any_true_at, any_false}
 use Rattle.base.proofs.Mask.{bit_above}
 
@@ -82,7 +82,7 @@ module _ (m j : ℕ) (from : 2 ^ j ≤ m) (to : m < 2 ^ suc j) where
       elim (dec_lt p j) [
         | yes l ↦ ap (λ (t : Bool). g j || t) (any_true (λ p. in_mask (m - 2 ^ j) p && g p) k p w.1 (rw (sym (lower_in p l) ∙ i, o))) ∙ or_true (g j)
         | no n ↦ elim (dec_lt j p) [
-          | yes l ↦ absurd (true-not-false i (not_in m p (omega (arith, pow_mono {i = suc j} {j = p} l))))
+          | yes l ↦ absurd (true_not_false i (not_in m p (omega (arith, pow_mono {i = suc j} {j = p} l))))
           | no u ↦ let e : p ≡ j = omega arith in let z : g j ≡ true = ap g (sym e) ∙ o in rw z
         ]
       ])
@@ -94,7 +94,7 @@ module _ (m j : ℕ) (from : 2 ^ j ≤ m) (to : m < 2 ^ suc j) where
             let o : g p ≡ true = and_right (in_mask (m - 2 ^ j) p) (g p) w.2 in
             elim (dec_lt p j) [
               | yes l ↦ any_true (λ p. in_mask m p && g p) k p w.1 (rw (lower_in p l ∙ i, o))
-              | no n ↦ absurd (true-not-false i (not_in (m - 2 ^ j) p (omega (arith, rest_below, pow_mono {i = j} {j = p} (omega arith)))))
+              | no n ↦ absurd (true_not_false i (not_in (m - 2 ^ j) p (omega (arith, rest_below, pow_mono {i = j} {j = p} (omega arith)))))
             ]
       ])
 

@@ -1,6 +1,8 @@
 // What every layer shares: tests over numbers below a bound, masks, byte strings and numbers of two bytes, with their laws
-// (proofs/), and the few functions on bytes that go with them. Promises: each function's contract. Assumes: the kit's `bytes`,
-// which is proved.
+// (proofs/), and the few functions on bytes that go with them. Promises: each function's contract. Assumes nothing.
+
+#![tactic(auto)]
+
 ghost use Rattle.std.specs.Prelude.{◌≡◌, suc, ◌+◌, ◌^◌, ◌≤◌, ◌<◌, length, replicate};
 ghost use Rattle.base.specs.Mask.{in_mask};
 ghost use Rattle.base.specs.Bytes.{same_bytes, all_zero, splice};
@@ -134,5 +136,5 @@ pub fn put(bytes: &mut [u8], at: usize, part: &[u8])
     requires { at + length part.now ≤ length bytes.old }
     ensures { bytes.new ≡ splice bytes.old at part.now }
 {
-    bytes::copy(part, &mut bytes[at..]);
+    bytes[at..at + part.len()].copy_from_slice(part);
 }

@@ -12,7 +12,7 @@ use borrow.Author.Tests.{ltb-true, lt-ltb, eqb-true, eq-eqb, ne_eqb}
 use Rattle.base.specs.Search.{any_below, First}
 use Rattle.base.specs.List.{some_in}
 use Rattle.base.specs.Bytes.{Bytes, same_bytes}
-use Rattle.base.proofs.Tests.{by-test, or_cases, or_true}
+use Rattle.base.proofs.Tests.{by_test, or_cases, or_true}
 use Rattle.base.proofs.Search.{any_true, any_true_at, any_such, first_such}
 use Rattle.base.proofs.Bytes.{same_equal, equal_same}
 use Rattle.answer.specs.Checks.{Check, check, check_none, refused, answer_to}
@@ -33,7 +33,7 @@ use Rattle.block.proofs.Shape.{shaped, well_shaped_lem}
 entries : (n : ℕ) (refusal : ℕ → Reading) (rest : Reading) (fails : ℕ → Bool) (count : ℕ) (cs : List Check) → ((i : ℕ) → answer_of (refusal i) ≡ refused n i)
     → answer_of rest ≡ answer_to cs 0 → answer_of (each_entry fails count refusal rest) ≡ answer_to (check_none n fails count ∷ cs) 0
 entries n refusal rest fails count cs named e =
-    by-test (any_below fails count)
+    by_test (any_below fails count)
     (λ y. rw y (named _) ∙ sym (first_fails _ cs 0 (rw y)))
     (λ f. rw f e ∙ sym (first_holds _ cs 0 (rw f)))
 
@@ -118,7 +118,7 @@ module _ (b : Bytes) where
       (entries 7 RepeatedReference (Block (fields_of b)) _ _ _ (λ i. refl) (sym (succeeds [] 0 tt)))))
 
   pub by_checks : answer b ≡ answer_to checks 0
-  by_checks = by-test (well_shaped b) (λ y. well_shaped_answer y ∙ sym (first_holds _ _ 0 y)) (λ f. misshapen f ∙ sym (first_fails _ _ 0 f))
+  by_checks = by_test (well_shaped b) (λ y. well_shaped_answer y ∙ sym (first_holds _ _ 0 y)) (λ f. misshapen f ∙ sym (first_fails _ _ 0 f))
 
   pub told : Decided (answer b) checks 0
   unfolding different elsewhere

@@ -9,7 +9,7 @@ use lib.Dec.{eqb, ltb}
 use lib.ListN.{length, drop, drop_of_length-le}
 use borrow.Author.Tests.{eq-eqb, ne_eqb, eqb-false, ltb-true, ltb-false}
 use Rattle.base.specs.Bytes.{Bytes}
-use Rattle.base.proofs.Tests.{by-test}
+use Rattle.base.proofs.Tests.{by_test}
 use Rattle.base.proofs.Search.{any_false_at}
 use Rattle.block.specs.Limits.{request_size}
 use Rattle.block.specs.Layout.{request_count, request_list, request_at, requests_in, counted_request}
@@ -62,9 +62,9 @@ module _ (b : Bytes) (a : Accepted b) where
 
   once : (i j : ℕ) → i < request_count b → j < request_count b → slot i ≡ slot j → i ≡ j
   once i j h k e =
-      by-test (ltb i j)
+      by_test (ltb i j)
       (λ y. absurd (apart j i (ltb-true i j y) k e))
-      (λ n. by-test (ltb j i) (λ y. absurd (apart i j (ltb-true j i y) h (sym e))) (λ m. omega (arith, ltb-false i j n, ltb-false j i m)))
+      (λ n. by_test (ltb j i) (λ y. absurd (apart i j (ltb-true j i y) h (sym e))) (λ m. omega (arith, ltb-false i j n, ltb-false j i m)))
 
   pub once_each : OnceEach b
   once_each =

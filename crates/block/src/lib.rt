@@ -1,6 +1,9 @@
 // A block's bytes: reading, the fields and the two lists as parts, the entries of the lists, and writing. Promises: reading is the documents', each
 // refusal comes under its cause and under no other (specs/Promises.antt), every block that the reader accepts is the one encoding of its content, and
 // writing gives that encoding (specs/Codec.antt). Assumes nothing: any bytes are read or refused.
+
+#![tactic(auto)]
+
 pub mod parts;
 pub mod references;
 pub mod requests;

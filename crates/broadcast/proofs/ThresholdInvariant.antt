@@ -9,7 +9,7 @@ use native.Mathlib.Nat.{le_trans}
 use lib.Dec.{eqb, leb}
 use lib.ListN.{get_or, replicate}
 use borrow.Author.Tests.{eq-eqb, eqb-true, eqb-false, le-leb}
-use Rattle.base.proofs.Tests.{by-test, true-not-false}
+use Rattle.base.proofs.Tests.{by_test, true_not_false}
 use Rattle.base.proofs.Bytes.{zero_at, replicate_zeros}
 use Rattle.setup.specs.Setup.{max_sites, echo_quorum, ready_amplification, ready_quorum}
 use Rattle.setup.proofs.Thresholds.{echo_quorum_some, amplification_some, quorum_some}
@@ -81,10 +81,10 @@ module _ (n v : ℕ) (some : v ≢ 0) where
       go : (t : Bool) → (eqb (entry_of (entry_by c) r.sent) 0 && leb (asked_by c n) (support n (heard_by c r) v)) ≡ t
           → Followed n c (only_if t (in_both (put_at (entry_by c) v)) r) v
       go true e = λ _ _. rw (put_new (entry_by c) v r.sent) some
-      go false e = λ _ h z. true-not-false (rw (eq-eqb _ _ z, le-leb _ _ h)) e
+      go false e = λ _ h z. true_not_false (rw (eq-eqb _ _ z, le-leb _ _ h)) e
 
   after_echo : (p : ℕ) (r : SlotRecord) → get_or r.echoes p 0 ≡ 0 → Settled n r → Settled n (follow n ready_by_echoes v (note_echo p v r))
-  after_echo p r z s ready_by_echoes u = by-test (eqb u v)
+  after_echo p r z s ready_by_echoes u = by_test (eqb u v)
       (λ e. rw (eqb-true u v e) (follow_follows ready_by_echoes (note_echo p v r)))
       (λ e. follow_keeps ready_by_echoes ready_by_echoes (note_echo p v r) u
       (λ nz h. s ready_by_echoes u nz (rw (other_support n r.echoes p v u z nz (eqb-false u v e)) at h)))
@@ -94,10 +94,10 @@ module _ (n v : ℕ) (some : v ≢ 0) where
   after_ready : (p : ℕ) (r : SlotRecord) → get_or r.readies p 0 ≡ 0 → Settled n r
       → Settled n (follow n delivery_by_readies v (follow n ready_by_readies v (note_ready p v r)))
   after_ready p r z s ready_by_echoes u = both_keep ready_by_echoes (note_ready p v r) u (s ready_by_echoes u)
-  after_ready p r z s ready_by_readies u = by-test (eqb u v)
+  after_ready p r z s ready_by_readies u = by_test (eqb u v)
       (λ e. rw (eqb-true u v e) (follow_keeps delivery_by_readies ready_by_readies _ v (follow_follows ready_by_readies (note_ready p v r))))
       (λ e. both_keep ready_by_readies (note_ready p v r) u (λ nz h. s ready_by_readies u nz (rw (other_support n r.readies p v u z nz (eqb-false u v e)) at h)))
-  after_ready p r z s delivery_by_readies u = by-test (eqb u v)
+  after_ready p r z s delivery_by_readies u = by_test (eqb u v)
       (λ e. rw (eqb-true u v e) (follow_follows delivery_by_readies (follow n ready_by_readies v (note_ready p v r))))
       (λ e. both_keep delivery_by_readies (note_ready p v r) u (λ nz h. s delivery_by_readies u nz (rw (other_support n r.readies p v u z nz (eqb-false u v e)) at h)))
 

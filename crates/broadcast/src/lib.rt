@@ -1,5 +1,8 @@
 // One slot's process: authenticated double-echo broadcast, one message at a time. Promises: each function is its definition in specs/Process.antt,
 // for every record and all numbers; the laws that the theorems use stand in proofs/. Assumes nothing.
+
+#![tactic(auto)]
+
 mod heard;
 mod record;
 

@@ -10,7 +10,7 @@ use lib.Dec.{eqb, ltb}
 use lib.ListN.{length}
 use borrow.Author.Tests.{eqb-true, eqb-false, eq-eqb, lt-ltb}
 use Rattle.base.specs.Bytes.{Bytes, AllBytes}
-use Rattle.base.proofs.Tests.{by-test, and_left, and_right}
+use Rattle.base.proofs.Tests.{by_test, and_left, and_right}
 use Rattle.base.proofs.Count.{count_single}
 use Rattle.block.specs.Layout.{Content, site_of, sequence_of, reference_count}
 use Rattle.block.specs.Codec.{Reads}
@@ -123,12 +123,12 @@ module _ (seen : ℕ → Bool) (t : Bytes) (p : ℕ) (requests : Bytes) (all : A
 
     parented : ParentRule digest t block
     unfolding parent_rule
-    parented = by-test (eqb (sequence_of block) 0)
+    parented = by_test (eqb (sequence_of block) 0)
         (λ z. rw z)
         (λ z. rw (z, one_parent (λ e. eqb-false (sequence_of block) 0 z (of_sequence_lem ∙ e))))
 
     pub next_admissible : Admissible digest t block
-    next_admissible = by-test (eqb number 8) (λ y. let e = eqb-true number 8 y in inr (inr (e, (cause.eight.0 e).1))) (λ n. new (eqb-false number 8 n))
+    next_admissible = by_test (eqb number 8) (λ y. let e = eqb-true number 8 y in inr (inr (e, (cause.eight.0 e).1))) (λ n. new (eqb-false number 8 n))
       where
         number : ℕ
         number = (admission digest t block 1).refusal

@@ -9,7 +9,7 @@ use Rattle.base.specs.Search.{first_below}
 use Rattle.base.specs.List.{passing_below}
 use Rattle.base.specs.Mask.{in_mask}
 use Rattle.base.specs.Bytes.{Bytes, splice}
-use Rattle.base.proofs.Tests.{true-not-false}
+use Rattle.base.proofs.Tests.{true_not_false}
 use Rattle.base.proofs.Search.{first_passes, first_before}
 use Rattle.base.proofs.PassingBelow.{passing_none, passing_one}
 use Rattle.table.specs.Layout.{count_of, view_of}
@@ -48,7 +48,7 @@ module _ (t : Bytes) (seen p : ℕ) where
   -- its greatest block first
   module _ (ready : Buildable t seen p) (place : ℕ) (is : place ≡ first_below own (count_of t)) (below : place < count_of t) where
     unforked : Shares (view_of t) (in_mask seen) p → ⊥
-    unforked s = true-not-false ((forked_shares (view_of t) (in_mask seen) p).1 s) ready.unforked
+    unforked s = true_not_false ((forked_shares (view_of t) (in_mask seen) p).1 s) ready.unforked
 
     here : own place ≡ true
     here = rw is (first_passes own (count_of t) (omega arith))

@@ -1,6 +1,9 @@
 // Building a site's next block from its table. Promises: `build` answers and leaves what specs/Building.antt says, for any table, site, request list
 // and output; the block reads back to its content, the table that it was built from admits it unless that is full or holds the same digest, and each
 // of 2, 4, 3, 6, 18, 16, 30 and 17 comes under its cause and under no other (specs/Promises.antt). Assumes nothing; the table is read only.
+
+#![tactic(auto)]
+
 mod next;
 mod picking;
 

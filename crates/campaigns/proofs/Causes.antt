@@ -7,7 +7,7 @@ use native.Mathlib.Omega.{arith}
 use lib.Dec.{eqb}
 use borrow.Author.Tests.{eqb-true, eqb-false}
 use Rattle.base.specs.Bytes.{Bytes}
-use Rattle.base.proofs.Tests.{by-test, true-not-false}
+use Rattle.base.proofs.Tests.{by_test, true_not_false}
 use Rattle.answer.specs.declared.Answer.{Answer}
 use Rattle.shelf.specs.Layout.{waiting_in}
 use Rattle.shelf.specs.Rules.{max_campaign, has_place, waits}
@@ -60,7 +60,7 @@ module _ (digest : Bytes → Bytes) (t s : Bytes) (c : ℕ) (b : Bytes) (verdict
 
   others : Tested digest t s c b verdict room → (admission digest t b verdict).refusal ≢ 9 → (all digest t s c b verdict room).answer ≡ admission digest t b verdict
   others k n =
-      by-test (eqb (admission digest t b verdict).refusal 0)
+      by_test (eqb (admission digest t b verdict).refusal 0)
       (λ z. answer_of_lem (at0 digest t s c b verdict room k (eqb-true (admission digest t b verdict).refusal 0 z)))
       (λ z. answer_of_lem (at_other digest t s c b verdict room k n (eqb-false (admission digest t b verdict).refusal 0 z)))
 
@@ -75,9 +75,9 @@ module _ (digest : Bytes → Bytes) (t s : Bytes) (c : ℕ) (b : Bytes) (verdict
         (λ k n z e. (record { campaign = k.campaign; outcomes = k.outcomes }, inr (own.two.0 e))),
     λ p.
         let l = p.0 in
-        by-test (shelf_in_form s)
+        by_test (shelf_in_form s)
         (λ y.
-        let f : in_form t ≡ false = elim p.1 [ inl n ↦ true-not-false y n | inr n ↦ n ] in
+        let f : in_form t ≡ false = elim p.1 [ inl n ↦ true_not_false y n | inr n ↦ n ] in
         let e = own.two.1 f in
         ap (λ (a : Answer). a.refusal) (others (record { campaign = l.campaign; outcomes = l.outcomes; formed = y }) (λ q. omega arith)) ∙ e)
         (λ n. number_of (at2 digest t s c b verdict room l.campaign l.outcomes n)),

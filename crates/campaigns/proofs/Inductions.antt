@@ -8,7 +8,7 @@ use lib.ListN.{length}
 use borrow.Author.Tests.{eqb-true, ne_eqb}
 use Rattle.base.specs.Bytes.{Bytes}
 use Rattle.base.specs.List.{some_in}
-use Rattle.base.proofs.Tests.{by-test, true-not-false}
+use Rattle.base.proofs.Tests.{by_test, true_not_false}
 use Rattle.shelf.specs.Layout.{Waiting}
 use Rattle.shelf.specs.Rules.{is_for}
 use Rattle.admission.specs.Admission.{admission, admitted}
@@ -17,9 +17,9 @@ use Rattle.campaigns.specs.Passes.{Try, PassResult, waits_on, outcomes_of, tried
 -- where a block was let in, there is an outcome
 admits_some : (ys : List Try) → admits ys ≡ true → 0 < length (outcomes_of ys)
 unfolding admits some_in outcomes_of
-admits_some [] e = true-not-false e refl
+admits_some [] e = true_not_false e refl
 admits_some (y ∷ ys) e =
-    by-test (waits_on y.answer)
+    by_test (waits_on y.answer)
     (λ z.
     let r : y.answer.refusal ≡ 9 = eqb-true y.answer.refusal 9 z in
     rw z (admits_some ys (rw (ne_eqb y.answer.refusal 0 (λ q. omega arith)) at e)))
@@ -35,7 +35,7 @@ module _ (digest : Bytes → Bytes) (c : ℕ) where
     unfolding pass
     pass_by [] t = none t
     pass_by (w ∷ ws) t =
-        by-test (is_for c w)
+        by_test (is_for c w)
         (λ y. rw y (own t w ws (pass digest (admitted digest t w.block 1) c ws) y (pass_by ws (admitted digest t w.block 1))))
         (λ n. rw n (other t w ws (pass digest t c ws) n (pass_by ws t)))
 
@@ -46,7 +46,7 @@ module _ (digest : Bytes → Bytes) (c : ℕ) where
       pass_by (λ t ws p. length p.waiting + length (outcomes_of p.tries) ≡ length ws)
       (λ t. refl)
       (λ t w ws p n e. omega arith)
-      (λ t w ws p y e. by-test (waits_on (admission digest t w.block 1)) (λ z. rw z (omega arith)) (λ z. rw z (omega arith)))
+      (λ t w ws p y e. by_test (waits_on (admission digest t w.block 1)) (λ z. rw z (omega arith)) (λ z. rw z (omega arith)))
 
   pub pass_fewer : (ws : List Waiting) (t : Bytes) → admits (pass digest t c ws).tries ≡ true → length (pass digest t c ws).waiting < length ws
   pass_fewer ws t e = omega (arith, pass_length ws t, admits_some (pass digest t c ws).tries e)
@@ -58,7 +58,7 @@ module _ (digest : Bytes → Bytes) (c : ℕ) where
   passes_enough (suc n) zero t ws h k = absurd (omega arith)
   passes_enough (suc n) (suc m) t ws h k =
       let p = pass digest t c ws in
-      by-test (admits p.tries)
+      by_test (admits p.tries)
       (λ y. let l = pass_fewer ws t y in ap (λ (q : PassResult). cond (admits p.tries) (and_then p q) p) (passes_enough n m p.table p.waiting (omega arith) (omega arith)))
       (λ y. rw y)
 
@@ -70,7 +70,7 @@ module _ (digest : Bytes → Bytes) (c : ℕ) where
     passes_by zero t ws h = absurd (omega arith)
     passes_by (suc n) t ws h =
         let p = pass digest t c ws in
-        by-test (admits p.tries)
+        by_test (admits p.tries)
         (λ y. let l = pass_fewer ws t y in rw y (more t ws (passes digest n p.table c p.waiting) (passes_by n p.table p.waiting (omega arith))))
         (λ y. rw y (last t ws y))
 

@@ -9,7 +9,7 @@ use lib.Dec.{eqb}
 use borrow.Author.Tests.{eqb-true, eqb-false, eq-eqb}
 use Rattle.base.specs.Bytes.{Bytes}
 use Rattle.base.specs.List.{some_in}
-use Rattle.base.proofs.Tests.{by-test, true-not-false, or_left, or_right}
+use Rattle.base.proofs.Tests.{by_test, true_not_false, or_left, or_right}
 use Rattle.shelf.specs.Layout.{Waiting}
 use Rattle.admission.specs.Admission.{admission}
 use Rattle.admission.proofs.Effect.{refused_table}
@@ -34,12 +34,12 @@ module _ (digest : Bytes → Bytes) (c : ℕ) where
   pass_idle =
       pass_by digest c (λ t ws p. admits p.tries ≡ false → Idle t p)
       (λ t n. record { same = refl; still = λ w m e. absurd (Memᴰ.not-nil m) })
-      (λ t w ws p o ih n. let i = ih n in record { same = i.same; still = still_more t w p.waiting (λ e. true-not-false (eq-eqb w.campaign c e) o) i.still })
+      (λ t w ws p o ih n. let i = ih n in record { same = i.same; still = still_more t w p.waiting (λ e. true_not_false (eq-eqb w.campaign c e) o) i.still })
       (λ t w ws p y ih n.
       let a = admission digest t w.block 1 in
       let same = refused_table digest t w.block 1 (eqb-false a.refusal 0 (or_left (eqb a.refusal 0) (admits p.tries) n)) in
       let i = subst (λ (x : Bytes). Idle x p) same (ih (or_right (eqb a.refusal 0) (admits p.tries) n)) in
-      by-test (waits_on a)
+      by_test (waits_on a)
       (λ z. rw z (record { same = i.same; still = still_more t w p.waiting (λ e. eqb-true a.refusal 9 z) i.still }))
       (λ z. rw z (record { same = i.same; still = i.still })))
 

@@ -8,7 +8,7 @@ use native.Mathlib.Omega.{arith}
 use lib.ListN.{length, get_or, take, drop, length-append, length-drop}
 use lib.Seq.{length-take-le}
 use Rattle.base.specs.Bytes.{Bytes}
-use Rattle.base.proofs.Tests.{by-test}
+use Rattle.base.proofs.Tests.{by_test}
 use Rattle.sha256.specs.Sha256.{sha256}
 use Rattle.shelf.specs.Layout.{max_waiting, Waiting, waiting_in, shelf_bytes}
 use Rattle.shelf.specs.Rules.{is_for}
@@ -34,8 +34,8 @@ module _ (t : Bytes) (ws : List Waiting) (o : List ℕ) (c : ℕ) (p : Pass) whe
   turned_cases : (turn ≡ passed_by t ws o p) ⊎ (turn ≡ taken_out (admission sha256 t block 1) (admitted sha256 t block 1) ws o p)
   unfolding turned
   turned_cases =
-      by-test (is_for c (get_or ws p.at no_waiting))
-      (λ y. by-test (waits_on (admission sha256 t block 1)) (λ z. inl (rw (y, z))) (λ z. inr (rw (y, z))))
+      by_test (is_for c (get_or ws p.at no_waiting))
+      (λ y. by_test (waits_on (admission sha256 t block 1)) (λ z. inl (rw (y, z))) (λ z. inr (rw (y, z))))
       (λ y. inl (rw y))
 
   module _ (below : p.at < length ws) where
@@ -137,6 +137,6 @@ module _ (c : ℕ) (t₀ s₀ : Bytes) (o₀ : List ℕ) (t s : Bytes) (o : List
   pub settles_down : ahead again' (waiting_in s') < ahead again (waiting_in s)
   settles_down =
       rw (goes, waiting_passed)
-      (by-test again'
+      (by_test again'
       (λ y. rw y (omega (arith, pass_fewer sha256 c (waiting_in s) t (sym ea ∙ y))))
       (λ n. rw n (omega arith)))

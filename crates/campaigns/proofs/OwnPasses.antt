@@ -7,7 +7,7 @@ use native.Mathlib.Omega.{arith}
 use lib.ListN.{length}
 use Rattle.base.specs.Bytes.{Bytes, same_bytes}
 use Rattle.base.specs.List.{some_in, passing_in}
-use Rattle.base.proofs.Tests.{by-test}
+use Rattle.base.proofs.Tests.{by_test}
 use Rattle.base.proofs.Selection.{length_those, count_in_le}
 use Rattle.shelf.specs.Layout.{Waiting}
 use Rattle.shelf.specs.Rules.{is_for, waits}
@@ -24,7 +24,7 @@ pub waits_only : (c : ℕ) (b : Bytes) (ws : List Waiting) → waits c b (only c
 unfolding waits some_in passing_in
 waits_only c b [] = refl
 waits_only c b (w ∷ ws) =
-    by-test (is_for c w)
+    by_test (is_for c w)
     (λ y. rw (y, y) (ap (λ (x : Bool). (true && same_bytes w.block b) || x) (waits_only c b ws)))
     (λ n. rw n (waits_only c b ws))
 
@@ -35,7 +35,7 @@ module _ (digest : Bytes → Bytes) (c : ℕ) where
       pass_by digest c (λ t ws p. pass digest t c (only c ws) ≡ seen c p)
       (λ t. refl)
       (λ t w ws p n e. rw n e)
-      (λ t w ws p y e. by-test (waits_on (admission digest t w.block 1)) (λ z. rw (y, y, z, y, e)) (λ z. rw (y, y, z, e)))
+      (λ t w ws p y e. by_test (waits_on (admission digest t w.block 1)) (λ z. rw (y, y, z, y, e)) (λ z. rw (y, y, z, e)))
 
   passes_only : (n : ℕ) (ws : List Waiting) (t : Bytes) → passes digest n t c (only c ws) ≡ seen c (passes digest n t c ws)
   unfolding passes
@@ -44,7 +44,7 @@ module _ (digest : Bytes → Bytes) (c : ℕ) where
       let p = pass digest t c ws in
       let further : PassResult → PassResult = λ q. cond (admits q.tries) (and_then q (passes digest n q.table c q.waiting)) q in
       ap further (pass_only ws t)
-      ∙ by-test (admits p.tries) (λ y. rw y (ap (and_then p) (passes_only n p.waiting p.table))) (λ y. rw y)
+      ∙ by_test (admits p.tries) (λ y. rw y (ap (and_then p) (passes_only n p.waiting p.table))) (λ y. rw y)
 
   pub settled_only : (t : Bytes) (ws : List Waiting) → settled digest t c (only c ws) ≡ seen c (settled digest t c ws)
   unfolding settled

@@ -10,7 +10,7 @@ use lib.ListN.{length, length-append}
 use borrow.Author.Tests.{eqb-true, ne_eqb}
 use Rattle.base.specs.Bytes.{Bytes}
 use Rattle.base.specs.List.{count_in, passing_in}
-use Rattle.base.proofs.Tests.{by-test}
+use Rattle.base.proofs.Tests.{by_test}
 use Rattle.base.proofs.Selection.{count_in_append}
 use Rattle.shelf.specs.Layout.{Waiting}
 use Rattle.shelf.specs.Rules.{is_for, holds}
@@ -32,7 +32,7 @@ module _ (digest : Bytes → Bytes) (c : ℕ) where
       (λ t us r. r)
       (λ t w ws p n ih us r. on us w ws p ih r)
       (λ t w ws p y ih us r.
-      by-test (waits_on (admission digest t w.block 1)) (λ z. rw z (on us w ws p ih r)) (λ z. rw z (ih us (ruled_without us w ws r))))
+      by_test (waits_on (admission digest t w.block 1)) (λ z. rw z (on us w ws p ih r)) (λ z. rw z (ih us (ruled_without us w ws r))))
     where
       on : (us : List Waiting) (w : Waiting) (ws : List Waiting) (p : PassResult) → ((vs : List Waiting) → RulesHold (vs ++ ws) → RulesHold (vs ++ p.waiting))
           → RulesHold (us ++ (w ∷ ws)) → RulesHold (us ++ (w ∷ p.waiting))
@@ -48,7 +48,7 @@ module _ (digest : Bytes → Bytes) (c : ℕ) where
       pass_by digest c (λ t ws p. AllFit ws → AllFit p.waiting)
       (λ t f. f)
       (λ t w ws p n ih f. (f.0, ih f.1))
-      (λ t w ws p y ih f. by-test (waits_on (admission digest t w.block 1)) (λ z. rw z (f.0, ih f.1)) (λ z. rw z (ih f.1)))
+      (λ t w ws p y ih f. by_test (waits_on (admission digest t w.block 1)) (λ z. rw z (f.0, ih f.1)) (λ z. rw z (ih f.1)))
 
   pub settled_fit : (t : Bytes) (ws : List Waiting) → AllFit ws → AllFit (settled digest t c ws).waiting
   settled_fit = settled_by digest c (λ t ws q. AllFit ws → AllFit q.waiting) (λ t ws n f. pass_fit ws t f) (λ t ws q ih f. ih (pass_fit ws t f))
@@ -64,7 +64,7 @@ module _ (digest : Bytes → Bytes) (c : ℕ) where
       pass_by digest c (λ t ws p. Places ws p)
       (λ t. refl)
       (λ t w ws p n e. rw n (omega arith))
-      (λ t w ws p y e. by-test (waits_on (admission digest t w.block 1)) (λ z. rw (z, y) (omega arith)) (λ z. rw (z, y) (omega arith)))
+      (λ t w ws p y e. by_test (waits_on (admission digest t w.block 1)) (λ z. rw (z, y) (omega arith)) (λ z. rw (z, y) (omega arith)))
 
   pub settled_places : (t : Bytes) (ws : List Waiting) → Places ws (settled digest t c ws)
   settled_places =
@@ -86,7 +86,7 @@ module _ (digest : Bytes → Bytes) (c : ℕ) where
         pass_by digest c (λ t ws p. Accounted ws p)
         (λ t. refl)
         (λ t w ws p n e. rw n (omega arith))
-        (λ t w ws p y e. by-test (waits_on (admission digest t w.block 1)) (λ z. rw (z, y) (omega arith)) (λ z. rw (z, y) (omega arith)))
+        (λ t w ws p y e. by_test (waits_on (admission digest t w.block 1)) (λ z. rw (z, y) (omega arith)) (λ z. rw (z, y) (omega arith)))
 
     pub settled_accounted : (t : Bytes) (ws : List Waiting) → Accounted ws (settled digest t c ws)
     settled_accounted =
@@ -105,7 +105,7 @@ module _ (digest : Bytes → Bytes) (c : ℕ) where
         (λ t w ws p n e. ap (λ (l : List Waiting). cond (is_for d w) (w ∷ l) l) e)
         (λ t w ws p y e.
         let n : is_for d w ≡ false = ne_eqb w.campaign d (λ q. other (sym (eqb-true w.campaign c y) ∙ q)) in
-        by-test (waits_on (admission digest t w.block 1)) (λ z. rw (z, n) e) (λ z. rw (z, n) e))
+        by_test (waits_on (admission digest t w.block 1)) (λ z. rw (z, n) e) (λ z. rw (z, n) e))
 
     pub settled_others : (t : Bytes) (ws : List Waiting) → only d (settled digest t c ws).waiting ≡ only d ws
     settled_others = settled_by digest c (λ t ws q. only d q.waiting ≡ only d ws) (λ t ws n. pass_others ws t) (λ t ws q e. e ∙ pass_others ws t)

@@ -10,7 +10,7 @@ use lib.ListN.{length}
 use borrow.Author.Tests.{eqb-true, eqb-false, eq-eqb, ne_eqb}
 use Rattle.base.specs.Bytes.{Bytes, same_bytes}
 use Rattle.base.specs.List.{count_in, passing_in}
-use Rattle.base.proofs.Tests.{by-test, true-not-false}
+use Rattle.base.proofs.Tests.{by_test, true_not_false}
 use Rattle.base.proofs.Selection.{count_in_append, those_append}
 use Rattle.sha256.specs.Sha256.{sha256}
 use Rattle.sha256.proofs.Promises.{sha256_length}
@@ -87,17 +87,17 @@ module _ (digest : Bytes → Bytes) (t s : Bytes) (c : ℕ) (b : Bytes) (verdict
   called_waiting k =
       let a = admission digest t b verdict in
       let shown : Called → List Waiting = λ z. waiting_in z.shelf in
-      by-test (eqb a.refusal 9)
+      by_test (eqb a.refusal 9)
       (λ y.
       let nine = eqb-true a.refusal 9 y in
-      by-test (waits c b ws)
+      by_test (waits c b ws)
       (λ w. rw (y, w) (ap shown (at20 digest t s c b verdict room k nine w)))
       (λ n.
-      by-test (has_place c ws)
+      by_test (has_place c ws)
       (λ p. rw (y, n, p) (ap shown (at9 digest t s c b verdict room k nine n p) ∙ nine_waiting (record { tested = k; missing = nine }) n p))
       (λ m. rw (y, n, m) (ap shown (at19 digest t s c b verdict room k nine n m)))))
       (λ n.
-      by-test (eqb a.refusal 0)
+      by_test (eqb a.refusal 0)
       (λ z. rw (n, z) (ap shown (at0 digest t s c b verdict room k (eqb-true a.refusal 0 z)) ∙ after_waiting k))
       (λ z. rw (n, z) (ap shown (at_other digest t s c b verdict room k (eqb-false a.refusal 9 n) (eqb-false a.refusal 0 z)))))
 
@@ -133,7 +133,7 @@ module _ (digest : Bytes → Bytes) (t s : Bytes) (c : ℕ) (b : Bytes) (verdict
   never_19 f h =
       let other = admission_elsewhere digest t b verdict in
       by_way digest t s c b verdict room (λ x. x.answer.refusal ≢ 19) (λ h e. omega arith) (λ l h e. omega arith) (λ l h n e. omega arith) (λ g y e. omega arith)
-      (λ g n m e. true-not-false (place_for_two c ws (omega (arith, g.tested.campaign)) (shelf_form_lem s f).rules h) m)
+      (λ g n m e. true_not_false (place_for_two c ws (omega (arith, g.tested.campaign)) (shelf_form_lem s f).rules h) m)
       (λ g n y. other.not19) (λ k z. other.not19) (λ k n z. other.not19)
 
   left_as_it_was : (call.answer.refusal ≢ 0 → call.table ≡ t) × ((call.answer.refusal ≢ 0 → call.answer.refusal ≢ 9 → call.shelf ≡ s)

@@ -2,7 +2,7 @@
 use mathlib.Core.Path.{◌≡◌, refl, sym, ap, subst}
 use mathlib.Core.List.{List, [], ◌∷◌, ◌++◌}
 use Rattle.base.specs.Bytes.{Bytes}
-use Rattle.base.proofs.Tests.{by-test}
+use Rattle.base.proofs.Tests.{by_test}
 use Rattle.answer.specs.declared.Answer.{Answer}
 use Rattle.admission.specs.Admission.{admitted}
 use Rattle.campaigns.specs.Passes.{Try, waits_on, outcome, outcomes_of}
@@ -12,7 +12,7 @@ pub outcomes_append : (xs ys : List Try) → outcomes_of (xs ++ ys) ≡ outcomes
 unfolding outcomes_of
 outcomes_append [] ys = refl
 outcomes_append (x ∷ xs) ys =
-    by-test (waits_on x.answer)
+    by_test (waits_on x.answer)
     (λ z. rw z (outcomes_append xs ys))
     (λ n. rw n (ap (λ (l : List Answer). outcome x.answer ∷ l) (outcomes_append xs ys)))
 

@@ -12,7 +12,7 @@ use lib.Seq.{take_all, take_at, drop_at, drop-cons, take-suc, length-take-le}
 use borrow.Author.Tests.{eqb-true, ne_eqb}
 use Rattle.base.specs.Bytes.{Bytes}
 use Rattle.base.specs.List.{some_in}
-use Rattle.base.proofs.Tests.{by-test, or_false, or_assoc}
+use Rattle.base.proofs.Tests.{by_test, or_false, or_assoc}
 use Rattle.answer.specs.Buffer.{put_answers}
 use Rattle.answer.specs.declared.Answer.{Answer}
 use Rattle.answer.proofs.Buffer.{put_append}
@@ -147,9 +147,9 @@ module _ (digest : Bytes → Bytes) (c : ℕ) where
     pub left_turn : left_of turn.table turn.waiting turn.outcomes turn.next ≡ left_of t ws o p
     unfolding turned pass
     left_turn =
-        by-test (is_for c here)
+        by_test (is_for c here)
         (λ y.
-        by-test (waits_on answer)
+        by_test (waits_on answer)
         (λ z.
         let r : answer.refusal ≡ 9 = eqb-true answer.refusal 9 z in
         let same : admitted digest t here.block 1 ≡ t = refused_table digest t here.block 1 (λ k. omega arith) in
@@ -172,7 +172,7 @@ module _ (digest : Bytes → Bytes) (c : ℕ) where
   unfolding rest_of settled passes
   rest_turn t ws e =
       let p = pass digest t c ws in
-      by-test (admits p.tries)
+      by_test (admits p.tries)
       (λ y.
       let l = pass_fewer digest c ws t y in
       let q = passes digest (length ws) p.table c p.waiting in

@@ -8,7 +8,7 @@ use native.Mathlib.Omega.{arith}
 use lib.Dec.{eqb, leb}
 use borrow.Author.Tests.{eqb-true, eqb-false, eq-eqb, ne_eqb, leb-true, leb-false, le-leb, lt-leb}
 use Rattle.base.specs.Bytes.{Bytes}
-use Rattle.base.proofs.Tests.{by-test}
+use Rattle.base.proofs.Tests.{by_test}
 use Rattle.answer.specs.declared.Answer.{Answer}
 use Rattle.answer.specs.Checks.{refused, answer_to}
 use Rattle.answer.specs.Promises.{elsewhere}
@@ -134,25 +134,25 @@ module _ (digest : Bytes → Bytes) (t s : Bytes) (c : ℕ) (b : Bytes) (verdict
       → (Tested digest t s c b verdict room → answer.refusal ≢ 9 → answer.refusal ≢ 0 → P (leaves answer))
       → P all
   by_way P w21 w17 w2 w20 w19 w9 w0 other =
-      by-test (leb c max_campaign)
+      by_test (leb c max_campaign)
       (λ lc.
       let l = leb-true c max_campaign lc in
-      by-test (leb outcomes_size room)
+      by_test (leb outcomes_size room)
       (λ rc.
       let r = leb-true outcomes_size room rc in
-      by-test (shelf_in_form s)
+      by_test (shelf_in_form s)
       (λ f.
       let k : Tested digest t s c b verdict room = record { campaign = l; outcomes = r; formed = f } in
-      by-test (eqb answer.refusal 9)
+      by_test (eqb answer.refusal 9)
       (λ z.
       let nine = eqb-true answer.refusal 9 z in
       let g : WouldGet9 digest t s c b verdict room = record { tested = k; missing = nine } in
-      by-test (waits c b ws)
+      by_test (waits c b ws)
       (λ y. subst P (sym (at20 k nine y)) (w20 g y))
-      (λ n. by-test (has_place c ws) (λ y. subst P (sym (at9 k nine n y)) (w9 g n y)) (λ m. subst P (sym (at19 k nine n m)) (w19 g n m))))
+      (λ n. by_test (has_place c ws) (λ y. subst P (sym (at9 k nine n y)) (w9 g n y)) (λ m. subst P (sym (at19 k nine n m)) (w19 g n m))))
       (λ n.
       let not9 = eqb-false answer.refusal 9 n in
-      by-test (eqb answer.refusal 0)
+      by_test (eqb answer.refusal 0)
       (λ z. let e = eqb-true answer.refusal 0 z in subst P (sym (at0 k e)) (w0 k e))
       (λ m. let e = eqb-false answer.refusal 0 m in subst P (sym (at_other k not9 e)) (other k not9 e))))
       (λ f. subst P (sym (at2 l r f)) (w2 l r f)))

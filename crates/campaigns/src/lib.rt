@@ -1,6 +1,9 @@
 // Arrivals for up to four campaigns, each with its own table, that share a shelf. Promises: `arrive` answers and leaves what specs/Arriving.antt
 // says, for all bytes and numbers; each refusal comes under its cause and under no other, form is kept, and what waits is neither lost nor invented
 // (specs/Promises.antt). Assumes nothing.
+
+#![tactic(auto)]
+
 mod passing;
 
 ghost use Rattle.std.specs.Prelude.{◌≡◌, length};

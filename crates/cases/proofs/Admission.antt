@@ -8,7 +8,7 @@ use Rattle.cases.specs.Blocks.{sites, fresh, unlawful, numbered, holding}
 use Rattle.cases.specs.Admission.{OrderCases, RowCases, ValueCases}
 use Rattle.cases.proofs.LedgerRun.{site_answers_lem}
 use Rattle.cases.proofs.Computing.{opened_ledger, opened_table}
-use Rattle.cases.proofs.Full.{parent-before-full}
+use Rattle.cases.proofs.Full.{parent_before_full}
 
 -- a table of three sites, which no ledger has
 form-before-shape :
@@ -34,7 +34,7 @@ order =
       repeatedBeforeHeld = site_answers_lem (sites 4) refl _ _ refl;
       heldBeforeMissing = site_answers_lem (sites 4) refl _ _ refl;
       missingBeforeParent = site_answers_lem (sites 4) refl _ _ refl;
-      parentBeforeFull = parent-before-full;
+      parentBeforeFull = parent_before_full;
       filling = filling;
     }
 

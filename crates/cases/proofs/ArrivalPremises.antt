@@ -12,7 +12,7 @@ use borrow.Author.Tests.{eqb-true, eqb-false, eq-eqb, lt-ltb, not-true}
 use Rattle.base.specs.Bytes.{Bytes, same_bytes}
 use Rattle.base.specs.List.{some_in}
 use Rattle.base.specs.Search.{all_below}
-use Rattle.base.proofs.Tests.{by-test, true-not-false, and_left, and_right, or_cases}
+use Rattle.base.proofs.Tests.{by_test, true_not_false, and_left, and_right, or_cases}
 use Rattle.base.proofs.List.{some_found, some_at_lem}
 use Rattle.base.proofs.Search.{all_true_at}
 use Rattle.base.proofs.Bytes.{same_equal, equal_same}
@@ -60,7 +60,7 @@ module _ (bs : List Bytes) where
           by_owner = is_by owner A (search and_left);
           requests = eqb-true _ _ (search (and_left, and_right) depth 12);
           not_zero = eqb-false v 0 (not-true (eqb v 0) (search (and_left, and_right) depth 12));
-          none_before = λ b x l. by-test (eqb (request_for b slot) 0) (λ y. eqb-true _ _ y) (λ n. true-not-false
+          none_before = λ b x l. by_test (eqb (request_for b slot) 0) (λ y. eqb-true _ _ y) (λ n. true_not_false
               (some_at_lem earlier_request bs b x.held (rw (eq-eqb (site_of b) owner x.by_site, lt-ltb (sequence_of b) (sequence_of A) l, n) refl))
               (not-true (some_in earlier_request bs) (search (and_left, and_right) depth 12)));
         }
@@ -78,7 +78,7 @@ module _ (s : Setup) (set : ℕ → Bool) where
 -- a test that is made only where another passes
 both_pass : (t x : Bool) → elim t [ true ↦ x | false ↦ false ] ≡ true → (t ≡ true) × (x ≡ true)
 both_pass true x e = (refl, e)
-both_pass false x e = true-not-false e refl
+both_pass false x e = true_not_false e refl
 
 -- ---- references
 
@@ -151,7 +151,7 @@ module _ (digest : Bytes → Bytes) (bs : List Bytes) where
 
   in_chain : (k : ℕ) (b a : Bytes) → chain_refers k b a ≡ true → ReferredInChain digest bs b a
   unfolding chain_refers
-  in_chain zero b a e = true-not-false e refl
+  in_chain zero b a e = true_not_false e refl
   in_chain (suc k) b a e = elim (or_cases (refers_to digest b a) _ e) [
     | inl y ↦ record { by = b; in_chain = itself; refers = is_referred_lem digest b a y }
     | inr y ↦
@@ -186,13 +186,13 @@ module _ (digest : Bytes → Bytes) (bs : List Bytes) where
     module _ (none : uncovered ≡ false) where
       passed_on : (b c a : Bytes) → Memᴰ b bs → Memᴰ c bs → Memᴰ a bs → refers_to digest b c ≡ true → covers c a ≡ true → covers b a ≡ true
       unfolding uncovered
-      passed_on b c a mb mc ma r y = by-test (covers b a) (λ e. e) (λ n.
-          true-not-false (some_at_lem _ bs b mb (some_at_lem _ bs c mc (rw r (some_at_lem _ bs a ma (rw (y, n) refl))))) none)
+      passed_on b c a mb mc ma r y = by_test (covers b a) (λ e. e) (λ n.
+          true_not_false (some_at_lem _ bs b mb (some_at_lem _ bs c mc (rw r (some_at_lem _ bs a ma (rw (y, n) refl))))) none)
 
       above_covered : {a b : Bytes} → Above digest bs b a → Memᴰ b bs → covers b a ≡ true
       unfolding covers chain_refers
       above_covered (refers {a = a} {b = b} m r) mb =
-          by-test (among (site_of b)) (λ y. by-test (forked bs (site_of a)) (λ f. rw (y, f)) (λ n. rw (y, n, referred_is digest b a r))) (λ n. rw n)
+          by_test (among (site_of b)) (λ y. by_test (forked bs (site_of a)) (λ f. rw (y, f)) (λ n. rw (y, n, referred_is digest b a r))) (λ n. rw n)
       above_covered (through {a = a} {c = c} {b = b} j m r) mb = passed_on b c a mb m (above_held digest bs j) (referred_is digest b c r) (above_covered j m)
 
       pub is_full : (p : ℕ) → full_site p ≡ true → Full digest bs p
@@ -202,7 +202,7 @@ module _ (digest : Bytes → Bytes) (bs : List Bytes) where
         refers_to_all = λ b a x above n.
             let looked : among (site_of b) ≡ true = rw x.by_site (and_left _ (not (forked bs p)) e) in
             let c : (forked bs (site_of a) || chain_refers (suc (length bs)) b a) ≡ true = rw looked at (above_covered above x.held) in
-            elim (or_cases (forked bs (site_of a)) _ c) [ inl y ↦ true-not-false y n | inr y ↦ in_chain (suc (length bs)) b a y ];
+            elim (or_cases (forked bs (site_of a)) _ c) [ inl y ↦ true_not_false y n | inr y ↦ in_chain (suc (length bs)) b a y ];
       }
 
   -- ---- a site that is not full
@@ -225,5 +225,5 @@ module _ (digest : Bytes → Bytes) (bs : List Bytes) where
       is_above b a (is_held bs a (search (and_left, and_right) depth 12)) (search (and_left, and_right) depth 12) in
       let r = full.refers_to_all b a (record { held = is_held bs b (search and_left); by_site = refl }) above
       (not-true (forked bs (site_of a)) (search (and_left, and_right) depth 12)) in
-      true-not-false (referred_is digest b a (subst (λ (c : Bytes). RefersTo digest c a) (alone r.in_chain single) r.refers))
+      true_not_false (referred_is digest b a (subst (λ (c : Bytes). RefersTo digest c a) (alone r.in_chain single) r.refers))
       (not-true (refers_to digest b a) (search (and_left, and_right) depth 12))

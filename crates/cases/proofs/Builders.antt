@@ -8,7 +8,7 @@ use lib.ListN.{length, take}
 use borrow.Author.Tests.{eqb-true, eq-eqb}
 use Rattle.base.specs.Bytes.{Bytes, same_bytes}
 use Rattle.base.specs.List.{some_in}
-use Rattle.base.proofs.Tests.{by-test, true-not-false, and_left, and_right}
+use Rattle.base.proofs.Tests.{by_test, true_not_false, and_left, and_right}
 use Rattle.base.proofs.List.{some_at_lem}
 use Rattle.base.proofs.Bytes.{same_equal}
 use Rattle.block.specs.Limits.{block_size}
@@ -45,7 +45,7 @@ use Rattle.cases.proofs.ArrivalPremises.{holds, is_held, refers_to, near, misses
 -- a test that is made only where another passes
 passes_where : (t x : Bool) → elim t [ true ↦ x | false ↦ true ] ≡ true → t ≡ true → x ≡ true
 passes_where true x e y = e
-passes_where false x e y = true-not-false y refl
+passes_where false x e y = true_not_false y refl
 
 module _ (p : ℕ) (requests output : Bytes) where
   -- block b is what site p builds from the table with these requests
@@ -108,8 +108,8 @@ unknown p bs cs = some_in (λ b. eqb (site_of b) p && not (holds bs b)) cs
 
 all_known : (p : ℕ) (bs cs : List Bytes) → unknown p bs cs ≡ false → (b : Bytes) → BlockBy cs p b → Memᴰ b bs
 unfolding unknown
-all_known p bs cs none b x = by-test (holds bs b) (λ y. is_held bs b y)
-    (λ n. true-not-false (some_at_lem _ cs b x.held (rw (eq-eqb (site_of b) p x.by_site, n) refl)) none)
+all_known p bs cs none b x = by_test (holds bs b) (λ y. is_held bs b y)
+    (λ n. true_not_false (some_at_lem _ cs b x.held (rw (eq-eqb (site_of b) p x.by_site, n) refl)) none)
 
 -- all else that computing the two runs opens
 unfoldable opened_builders : Bool

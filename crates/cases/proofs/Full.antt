@@ -69,7 +69,7 @@ last : answers_at (holding 63) (numbered 63 ∷ numbered 5 ∷ block 0 1 [] [] �
 unfolding opened_table answer_at next_table answers_at
 last = refl
 
-pub parent-before-full :
+pub parent_before_full :
     answers toy (holding 63) (good (numbered 63) ∷ good (numbered 5) ∷ good (block 0 1 [] []) ∷ good (block 0 0 [] []) ∷ [])
     ≡ placed 63 ∷ refused 8 5 ∷ refused 10 0 ∷ refused 11 0 ∷ []
-parent-before-full = in_form_lem (holding 63) (numbered 63 ∷ numbered 5 ∷ block 0 1 [] [] ∷ block 0 0 [] [] ∷ []) formed ∙ last
+parent_before_full = in_form_lem (holding 63) (numbered 63 ∷ numbered 5 ∷ block 0 1 [] [] ∷ block 0 0 [] [] ∷ []) formed ∙ last

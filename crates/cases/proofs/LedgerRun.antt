@@ -12,7 +12,7 @@ use borrow.Author.Tests.{eqb-true}
 use Rattle.base.specs.Bytes.{part_at}
 use Rattle.base.specs.List.{list_below}
 use Rattle.base.specs.Search.{all_below}
-use Rattle.base.proofs.Tests.{by-test, and_left, and_right}
+use Rattle.base.proofs.Tests.{by_test, and_left, and_right}
 use Rattle.base.proofs.Search.{all_true_at}
 use Rattle.base.proofs.List.{list_same}
 use Rattle.answer.specs.declared.Answer.{Answer}
@@ -64,10 +64,10 @@ module _ (s : Setup) where
   -- where 2 is not answered, the places are in form
   in_form_lem : (l : Ledger) (c : Call) → (ledger_answer toy s buffer_size l c).refusal ≢ 2 → ledger_answer toy s buffer_size l c ≡ answer_in_form l c
   unfolding ledger_answer answer_in_form answer_to
-  in_form_lem l (admit b verdict) n = by-test (held_in_form s (view_in toy l)) (λ y. rw y) (λ z. absurd (n (rw z)))
-  in_form_lem l (interpret place) n = by-test (held_in_form s (view_in toy l)) (λ y. rw y) (λ z. absurd (n (rw z)))
-  in_form_lem l retire n = by-test (held_in_form s (view_in toy l)) (λ y. rw y) (λ z. absurd (n (rw z)))
-  in_form_lem l take_back n = by-test (held_in_form s (view_in toy l)) (λ y. rw y) (λ z. absurd (n (rw z)))
+  in_form_lem l (admit b verdict) n = by_test (held_in_form s (view_in toy l)) (λ y. rw y) (λ z. absurd (n (rw z)))
+  in_form_lem l (interpret place) n = by_test (held_in_form s (view_in toy l)) (λ y. rw y) (λ z. absurd (n (rw z)))
+  in_form_lem l retire n = by_test (held_in_form s (view_in toy l)) (λ y. rw y) (λ z. absurd (n (rw z)))
+  in_form_lem l take_back n = by_test (held_in_form s (view_in toy l)) (λ y. rw y) (λ z. absurd (n (rw z)))
 
   -- answers are the ledger's if each call gets its own where the earlier calls get theirs
   record Told (l : Ledger) (cs : List Call) (ys : List Answer) : Type 0 where

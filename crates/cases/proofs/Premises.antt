@@ -6,7 +6,7 @@ use mathlib.Core.List.{List}
 use native.Mathlib.Omega.{arith}
 use Rattle.base.specs.Bytes.{Bytes, same_bytes}
 use Rattle.base.specs.List.{some_in}
-use Rattle.base.proofs.Tests.{by-test, true-not-false}
+use Rattle.base.proofs.Tests.{by_test, true_not_false}
 use Rattle.base.proofs.List.{some_at_lem}
 use Rattle.base.proofs.Bytes.{same_equal, equal_same}
 use Rattle.setup.specs.Setup.{lawful}
@@ -31,8 +31,8 @@ collision blocks = some_in (λ a. some_in (λ b. same_bytes (toy a) (toy b) && n
 
 pub no_collision : (blocks : List Bytes) → collision blocks ≡ false → NoCollision toy blocks
 unfolding collision
-no_collision blocks n a b m k e = by-test (same_bytes a b) (λ y. same_equal a b y)
-    (λ z. true-not-false (some_at_lem _ blocks a m (some_at_lem _ blocks b k (rw (equal_same (toy a) (toy b) e, z)))) n)
+no_collision blocks n a b m k e = by_test (same_bytes a b) (λ y. same_equal a b y)
+    (λ z. true_not_false (some_at_lem _ blocks a m (some_at_lem _ blocks b k (rw (equal_same (toy a) (toy b) e, z)))) n)
 
 -- ---- the two ledgers
 

@@ -7,3 +7,6 @@
 // taken back, and which blocks then count. And bytes that are written out: of a table, of lists of calls, and of a listing's input and text.
 // Promises: each row of the records in specs/ holds of the right-hand sides of the contracts of the calls, or of the definitions that these are made
 // of; the digest is a toy digest (specs/Toy.antt). Assumes nothing.
+
+#![tactic(auto)]
+

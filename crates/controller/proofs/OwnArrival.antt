@@ -8,7 +8,7 @@ use lib.Dec.{eqb}
 use borrow.Author.Tests.{eqb-true, eq-eqb}
 use Rattle.base.specs.Bytes.{Bytes}
 use Rattle.base.specs.List.{passing_in}
-use Rattle.base.proofs.Tests.{by-test}
+use Rattle.base.proofs.Tests.{by_test}
 use Rattle.base.proofs.Selection.{those_append}
 use Rattle.answer.specs.declared.Answer.{Answer}
 use Rattle.shelf.specs.Layout.{Waiting}
@@ -40,26 +40,26 @@ module _ (digest : Bytes → Bytes) (place : Bool) (t : Bytes) (ws : List Waitin
   module _ (nine : a.refusal ≡ 9) where
     shelved_took : waits c b ws ≡ false → eqb (shelved place a t ws c b).answer.refusal 9 ≡ place
     unfolding shelved
-    shelved_took n = by-test place (λ y. rw (n, y) (eq-eqb a.refusal 9 nine)) (λ m. rw (n, m))
+    shelved_took n = by_test place (λ y. rw (n, y) (eq-eqb a.refusal 9 nine)) (λ m. rw (n, m))
 
     shelved_only : (told : Bool) → (waits c b ws ≡ false → told ≡ place) → shelved told a t (only c ws) c b ≡ seen_by c (shelved place a t ws c b)
     unfolding shelved
     shelved_only told k =
         rw (waits_only c b ws)
-        (by-test (waits c b ws)
+        (by_test (waits c b ws)
         (λ y. rw y)
         (λ n.
         let q = k n in
-        by-test place
+        by_test place
         (λ y. rw (n, q, y) (ap (λ (l : List Waiting). record { answer = a; table = t; waiting = l; tries = [] }) (sym (only_behind c b ws))))
         (λ m. rw (n, q, m))))
 
   pub arrived_only : arrived digest took t (only c ws) c b verdict ≡ seen_by c whole
   unfolding arrived
   arrived_only =
-      by-test (eqb a.refusal 9)
+      by_test (eqb a.refusal 9)
       (λ y. let nine = eqb-true a.refusal 9 y in rw y (shelved_only nine (eqb (shelved place a t ws c b).answer.refusal 9) (shelved_took nine)))
       (λ n.
-      by-test (eqb a.refusal 0)
+      by_test (eqb a.refusal 0)
       (λ y. rw (n, y) (ap (with_passes a) (settled_only digest c (admitted digest t b verdict) ws)))
       (λ m. rw (n, m)))

@@ -10,7 +10,7 @@ use lib.ListN.{length}
 use borrow.Author.Tests.{eqb-true, eqb-false}
 use Rattle.base.specs.Bytes.{Bytes, same_bytes}
 use Rattle.base.specs.List.{count_in}
-use Rattle.base.proofs.Tests.{by-test}
+use Rattle.base.proofs.Tests.{by_test}
 use Rattle.base.proofs.Selection.{count_in_append}
 use Rattle.block.specs.Limits.{reference_size}
 use Rattle.shelf.specs.Layout.{Waiting, waiting_in}
@@ -47,7 +47,7 @@ module _ (digest : Bytes → Bytes) (sized : (b : Bytes) → length (digest b) �
       by_calls [] x f = none x
       by_calls (k ∷ ks) x f =
           let more = by_calls ks (next x k) (step_formed digest sized x f k.campaign k.call) in
-          by-test (eqb k.campaign c)
+          by_test (eqb k.campaign c)
           (λ y. own x k ks f y (eqb-true k.campaign c y) more)
           (λ n. other x k ks f n (eqb-false k.campaign c n) more)
 

@@ -11,7 +11,7 @@ use lib.ListN.{length}
 use borrow.Author.Tests.{eqb-true, eqb-false, eq-eqb, ne_eqb, leb-true, leb-false, le-leb}
 use Rattle.base.specs.Bytes.{Bytes, same_bytes}
 use Rattle.base.specs.List.{count_in}
-use Rattle.base.proofs.Tests.{by-test}
+use Rattle.base.proofs.Tests.{by_test}
 use Rattle.base.proofs.Selection.{count_in_those}
 use Rattle.answer.proofs.Checks.{number_of}
 use Rattle.answer.specs.declared.Answer.{Answer}
@@ -80,7 +80,7 @@ module _ (digest : Bytes → Bytes) (sized : (b : Bytes) → length (digest b) �
     unfolding step tries_by taken_by is_taken count_in
     own_accounted (arrives y verdict room) b =
         (keeps c y verdict room).accounted b
-        ∙ by-test (eqb (arrival_at digest x c y verdict room).answer.refusal 9) (λ e. rw e (omega arith)) (λ e. rw e (omega arith))
+        ∙ by_test (eqb (arrival_at digest x c y verdict room).answer.refusal 9) (λ e. rw e (omega arith)) (λ e. rw e (omega arith))
     own_accounted (made call) b = refl
 
     module _ (b : Bytes) (verdict room : ℕ) where
@@ -106,7 +106,7 @@ module _ (digest : Bytes → Bytes) (sized : (b : Bytes) → length (digest b) �
 
       shown : Shown called result
       shown =
-          by-test (leb outcomes_size room)
+          by_test (leb outcomes_size room)
           (λ y.
           let k = tested (leb-true outcomes_size room y) in
           let e = called_is digest t x.shelf c b verdict room k in
@@ -118,7 +118,7 @@ module _ (digest : Bytes → Bytes) (sized : (b : Bytes) → length (digest b) �
       -- alone, told whether the shelf took the block
       alone_is : alone_arrived digest c (record { site = x.site c; waiting = only c ws }) (eqb called.answer.refusal 9) b verdict room ≡ seen_by c result
       alone_is =
-          by-test (leb outcomes_size room)
+          by_test (leb outcomes_size room)
           (λ y.
           let e = called_is digest t x.shelf c b verdict room (tested (leb-true outcomes_size room y)) in
           rw y
@@ -137,11 +137,11 @@ module _ (digest : Bytes → Bytes) (sized : (b : Bytes) → length (digest b) �
       arrival_plain : (step digest x c (arrives b verdict room)).site c ≡ site_after digest (x.site c) (plain_by digest c x (arrives b verdict room))
       unfolding step plain_by site_after site_step answer_to
       arrival_plain =
-          by-test (leb outcomes_size room)
+          by_test (leb outcomes_size room)
           (λ y.
           let k = tested (leb-true outcomes_size room y) in
           rw (eq-eqb c c refl, le-leb c max_campaign low, y, formed)
-          (by-test (eqb called.answer.refusal 0)
+          (by_test (eqb called.answer.refusal 0)
           (λ z. sym (tries_plain digest (x.site c).records called.tries (admitted digest t b verdict) called.table ((keeps c b verdict room).tried_from (eqb-true called.answer.refusal 0 z))))
           (λ z.
           let m = eqb-false called.answer.refusal 0 z in

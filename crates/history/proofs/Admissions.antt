@@ -11,7 +11,7 @@ use mathlib.Core.Option.{Option, some}
 use native.Mathlib.Omega.{arith}
 use lib.ListN.{length, get_or, drop}
 use Rattle.base.specs.Bytes.{Bytes, same_bytes}
-use Rattle.base.proofs.Tests.{by-test}
+use Rattle.base.proofs.Tests.{by_test}
 use Rattle.base.proofs.Bytes.{same_equal, same_other}
 use Rattle.block.specs.Layout.{sequence_of, references_of}
 use Rattle.block.specs.Promises.{Shaped}
@@ -137,7 +137,7 @@ module _ (digest : Bytes → Bytes) where
       go (λ x j. find_history older g.1 (λ a b u w. safe a b (Memᴰ.tail u) (Memᴰ.tail w)) x j)
     where
       go : ((x : History) → Memᴰ x older → find digest (map block_of older) (digest_of x) ≡ some x) → find digest (map block_of (t ∷ older)) (digest_of k) ≡ some k
-      go ih = by-test (same_bytes (digest_of t) (digest_of k))
+      go ih = by_test (same_bytes (digest_of t) (digest_of k))
           (λ y. let d : digest_of t ≡ digest_of k = same_equal (digest_of t) (digest_of k) y in
           let q : t ≡ k = same_history (t ∷ older) g safe t k (Memᴰ.head refl) m (safe t k (Memᴰ.head refl) m d) in
           find_here (block_of t) (map block_of older) (digest_of k) y

@@ -8,7 +8,7 @@ use native.Mathlib.Omega.{arith}
 use lib.Dec.{leb}
 use borrow.Author.Tests.{leb-true, leb-false}
 use Rattle.base.specs.Count.{count_below}
-use Rattle.base.proofs.Tests.{by-test, true-not-false}
+use Rattle.base.proofs.Tests.{by_test, true_not_false}
 use Rattle.setup.specs.Setup.{Setup, lawful_sites, faults, echo_quorum}
 use Rattle.block.specs.Layout.{site_of, sequence_of}
 use Rattle.broadcast.specs.declared.SlotRecord.{SlotRecord}
@@ -47,7 +47,7 @@ module _ (s : Setup) (slot : ℕ) (W : History → Type 0) (forks : ℕ → Bool
         (chain p u k wk sk d w.parent (world.closed _ _ wc w.among) (parent_site b (block_of w.parent) w.is_parent ∙ sc)
         (omega (arith, parent_sequence b (block_of w.parent) w.is_parent)))
         (subst (λ (r : SlotRecord). Kept r (slot_record s slot (node b hs))) w.its (record_kept s slot b hs))
-    | inr w ↦ elim (world.parented (node b hs) wc) [ inl z ↦ absurd (omega arith) | inr z ↦ true-not-false z.2 (w.none_is z.0 z.1) ]
+    | inr w ↦ elim (world.parented (node b hs) wc) [ inl z ↦ absurd (omega arith) | inr z ↦ true_not_false z.2 (w.none_is z.0 z.1) ]
   ]
 
   pub later_kept : (k c : History) → W k → W c → site_of (block_of k) ≡ site_of (block_of c) → forks (site_of (block_of c)) ≡ false
@@ -58,7 +58,7 @@ module _ (s : Setup) (slot : ℕ) (W : History → Type 0) (forks : ℕ → Bool
   -- so all its blocks that have sent a SEND, an ECHO or a READY, or have delivered, have one number there
   pub one_sent : (e : Entry) (v w p : ℕ) → v ≢ 0 → w ≢ 0 → forks p ≡ false → (k c : History) → W k → W c → site_of (block_of k) ≡ p → site_of (block_of c) ≡ p
       → entry_of e (slot_record s slot k).sent ≡ v → entry_of e (slot_record s slot c).sent ≡ w → v ≡ w
-  one_sent e v w p n m u k c wk wc sk sc x y = by-test (leb (sequence_of (block_of k)) (sequence_of (block_of c)))
+  one_sent e v w p n m u k c wk wc sk sc x y = by_test (leb (sequence_of (block_of k)) (sequence_of (block_of c)))
       (λ t. sym x ∙ sym ((later_kept k c wk wc (sk ∙ sym sc) (rw sc u) (leb-true _ _ t)).sent_kept e (λ z. n (sym x ∙ z))) ∙ y)
       (λ t. let low : sequence_of (block_of c) ≤ sequence_of (block_of k) = omega (arith, leb-false) in
       sym x ∙ (later_kept c k wc wk (sc ∙ sym sk) (rw sk u) low).sent_kept e (λ z. m (sym y ∙ z)) ∙ y)

@@ -8,7 +8,7 @@ use lib.Dec.{eqb}
 use borrow.Author.Tests.{eq-eqb, eqb-true, not-true}
 use Rattle.base.specs.Bytes.{Bytes, same_bytes}
 use Rattle.base.specs.List.{some_in}
-use Rattle.base.proofs.Tests.{by-test, true-not-false, not_true_false, and_left, and_right}
+use Rattle.base.proofs.Tests.{by_test, true_not_false, not_true_false, and_left, and_right}
 use Rattle.base.proofs.List.{some_found, some_at_lem}
 use Rattle.base.proofs.Bytes.{same_equal, other_same, same_other}
 use Rattle.block.specs.Layout.{site_of, sequence_of}
@@ -59,7 +59,7 @@ module _ (bs : List Bytes) (p : ℕ) where
   Single = (a b : Bytes) → Memᴰ a bs → Memᴰ b bs → site_of a ≡ p → site_of b ≡ p → sequence_of a ≡ sequence_of b → a ≡ b
 
   pub unforked_single : forked bs p ≡ false → Single
-  unforked_single u a b ma mb sa sb q = by-test (same_bytes a b) (same_equal a b) (λ n. true-not-false
+  unforked_single u a b ma mb sa sb q = by_test (same_bytes a b) (same_equal a b) (λ n. true_not_false
       (fork_forked (record { one = a; other = b; one_among = ma; other_among = mb; one_site = sa; other_site = sb; sequence = q; different = same_other a b n })) u)
 
   pub single_unforked : Single → forked bs p ≡ false

@@ -12,7 +12,7 @@ use lib.Dec.{eqb}
 use lib.ListN.{length}
 use borrow.Author.Tests.{eqb-true, eqb-false}
 use Rattle.base.specs.Bytes.{Bytes, splice}
-use Rattle.base.proofs.Tests.{by-test, true-not-false}
+use Rattle.base.proofs.Tests.{by_test, true_not_false}
 use Rattle.base.proofs.Splice.{length_splice}
 use Rattle.setup.specs.Setup.{Setup, slot_count}
 use Rattle.broadcast.proofs.Steps.{Sized}
@@ -55,7 +55,7 @@ module _ (v : View) (buffer : List ℕ) (slot : ℕ) (r : Row) where
           → Memᴰ (direct_at v buffer slot j) (join_if t (direct_at v buffer slot k) (directs_below v buffer slot r k))
       go true z (inl q) ih = Memᴰ.head (ap (direct_at v buffer slot) q)
       go true z (inr l) ih = Memᴰ.tail (ih l)
-      go false z (inl q) ih = true-not-false (ap r.refers_to (sym q) ∙ y) z
+      go false z (inl q) ih = true_not_false (ap r.refers_to (sym q) ∙ y) z
       go false z (inr l) ih = ih l
 
 -- where the buffer is whole, what is made of it has the length of a part
@@ -87,7 +87,7 @@ module _ (t : Bytes) (buffer : List ℕ) (i : ℕ) (e : (interpretation t buffer
 
   -- its references are interpreted
   pub ready : (j : ℕ) → j < i → (row_at t i).refers_to j ≡ true → (row_at t j).mark ≡ 1
-  ready j h y = by-test (eqb (row_at t j).mark 1) (λ m. eqb-true (row_at t j).mark 1 m)
+  ready j h y = by_test (eqb (row_at t j).mark 1) (λ m. eqb-true (row_at t j).mark 1 m)
       (λ n. absurd (((causes t buffer i).none.0 e).1 (j, record { lower = h; refers = y; unmarked = eqb-false (row_at t j).mark 1 n })))
 
   pub is_marked : Marked t (with_mark t i) i
@@ -123,11 +123,11 @@ module _ (t : Bytes) (buffer : List ℕ) (i : ℕ) where
   shown e = rw (marked_passed t buffer i e) (is_marked t buffer i e)
 
   pub kept : in_form t ≡ true → in_form (marked t buffer i) ≡ true
-  kept f = by-test (eqb (interpretation t buffer i).refusal 0)
+  kept f = by_test (eqb (interpretation t buffer i).refusal 0)
       (λ y. let e = eqb-true (interpretation t buffer i).refusal 0 y in ap in_form (marked_passed t buffer i e) ∙ still_formed t buffer i e)
       (λ n. ap in_form (marked_refused n) ∙ f)
 
   pub sized : length (recorded t buffer i) ≡ length buffer
-  sized = by-test (eqb (interpretation t buffer i).refusal 0)
+  sized = by_test (eqb (interpretation t buffer i).refusal 0)
       (λ y. let e = eqb-true (interpretation t buffer i).refusal 0 y in ap length (recorded_passed t buffer i e) ∙ length_splice buffer (part_start i) _ (part_fits t buffer i e))
       (λ n. ap length (recorded_refused n))

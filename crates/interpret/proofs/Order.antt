@@ -6,7 +6,7 @@ use mathlib.Core.Bool.{Bool, true, false}
 use mathlib.Core.List.Memᴰ
 use mathlib.Core.List.{List, [], ◌∷◌, ◌++◌, map, Memᴰ}
 use Prim.Native.Nat.{ℕ, zero, suc}
-use Rattle.base.proofs.Tests.{true-not-false}
+use Rattle.base.proofs.Tests.{true_not_false}
 use Rattle.setup.specs.Setup.{Setup, owner_of}
 use Rattle.broadcast.specs.declared.Kind.{Kind}
 use Rattle.broadcast.specs.declared.Kind.TheVariants.{Send, Echo, Ready}
@@ -85,8 +85,8 @@ module _ (site sequence : ℕ) (ds es : List Direct) (f : (d : Direct) → Mem�
           → parent_state site sequence ds ≡ parent_state site sequence es
       go (inl x) (inl y) =
           x.its ∙ ap (λ (d : Direct). d.state) (one x.parent y.parent x.among (g _ y.among) x.is_parent y.is_parent) ∙ sym y.its
-      go (inl x) (inr y) = true-not-false x.is_parent (y.none_is x.parent (f _ x.among))
-      go (inr x) (inl y) = true-not-false y.is_parent (x.none_is y.parent (g _ y.among))
+      go (inl x) (inr y) = true_not_false x.is_parent (y.none_is x.parent (f _ x.among))
+      go (inr x) (inl y) = true_not_false y.is_parent (x.none_is y.parent (g _ y.among))
       go (inr x) (inr y) = x.blank_is ∙ sym y.blank_is
 
   -- the blocks may be gone through in any order, where at most one of them is a parent

@@ -1,6 +1,9 @@
 // Interpretation of a place: its records from those of the places that it refers to. Promises: `interpret` answers and leaves what
 // specs/Interpretation.antt says, for any table, record buffer and place; form is kept, and each of 2 and 12 to 15 comes under its
 // cause and under no other (specs/Promises.antt). Assumes nothing.
+
+#![tactic(auto)]
+
 mod hearing;
 
 ghost use Rattle.std.specs.Prelude.{◌≡◌, ◌≤◌, ◌<◌, length, take};

@@ -8,7 +8,7 @@ use lib.Dec.{eqb}
 use lib.ListN.{length}
 use borrow.Author.Tests.{eq-eqb, ne_eqb, leb-true, not-true}
 use Rattle.base.specs.Bytes.{Bytes}
-use Rattle.base.proofs.Tests.{by-test}
+use Rattle.base.proofs.Tests.{by_test}
 use Rattle.answer.proofs.Checks.{number_of}
 use Rattle.answer.specs.declared.Answer.{Answer}
 use Rattle.answer.specs.Checks.{answer_to}
@@ -50,10 +50,10 @@ module _ (left right : Bytes) (left_records right_records third : List ℕ) wher
 
   first_refuse : sides.refusal ≢ 0 → sides ≡ answer
   unfolding join_answer answer_to
-  first_refuse n = by-test formed
-      (λ f. by-test sizes
-      (λ z. by-test unretired
-      (λ u. by-test setups
+  first_refuse n = by_test formed
+      (λ f. by_test sizes
+      (λ z. by_test unretired
+      (λ u. by_test setups
       (λ s. absurd (n (rw (f, z, u, s))))
       (λ s. rw (f, z, u, s)))
       (λ u. rw (f, z, u)))

@@ -11,7 +11,7 @@ use borrow.Author.Tests.{eq-eqb, ne_eqb, not-true, not-false}
 use Rattle.base.specs.Search.{all_below}
 use Rattle.base.specs.Mask.{in_mask}
 use Rattle.base.specs.Bytes.{Bytes}
-use Rattle.base.proofs.Tests.{by-test, and_left, and_right, and_not_right, same_tests}
+use Rattle.base.proofs.Tests.{by_test, and_left, and_right, and_not_right, same_tests}
 use Rattle.base.proofs.Search.{any_true, any_true_at, any_false, any_false_at, all_true}
 use Rattle.base.proofs.Bytes.{same_equal, equal_same}
 use Rattle.setup.specs.Setup.{slot_count}
@@ -39,12 +39,12 @@ module _ (t u : Bytes) (f : in_form t ≡ true) (g : in_form u ≡ true) (i j : 
   pub within_is : within_by (references_at t i) places (references_at u j) ≡ refers_within (view_of t) i (view_of u) j
   within_is = same_tests _ _
       (λ y. all_true (λ k. not ((row_at t i).refers_to k) || refers_by (view_of u) j (digest_at t k)) (count_of t) (λ k b.
-      by-test (in_mask (references_at t i) k)
+      by_test (in_mask (references_at t i) k)
       (λ z. let o : in_mask (references_at u j) (get_or places k 0) ≡ true =
       not-false _ (and_not_right (in_mask (references_at t i) k) _ (any_false_at fails max_places (not-true _ y) k (omega (arith, b, (table_form t f).held.fits))) z) in
       rw (z, sym (its k b) ∙ o))
       (λ z. rw z)))
-      (λ y. ap not (any_false fails max_places (λ k b. by-test (in_mask (references_at t i) k)
+      (λ y. ap not (any_false fails max_places (λ k b. by_test (in_mask (references_at t i) k)
       (λ z. let lower : k < i = (formed_row t f i h).lower k b z in
       let c : k < count_of t = omega arith in
       let o : in_mask (references_at u j) (get_or places k 0) ≡ true = its k c ∙ within (view_of t) i (view_of u) j y k c z in
@@ -93,7 +93,7 @@ module _ (left right : Bytes) (f : BothFormed left right) (i : ℕ) where
   test q = clashes (view_of left) (view_of right) i q
 
   pub none_there : count_of right ≤ j → false ≡ clash_at (view_of left) (view_of right) i
-  none_there h = sym (any_false test (count_of right) (λ q l. by-test (has_digest (view_of right) (digest_at left i) q)
+  none_there h = sym (any_false test (count_of right) (λ q l. by_test (has_digest (view_of right) (digest_at left i) q)
       (λ y. absurd (omega (arith, place_found (view_of right) (digest_at left i) q l (same_equal _ _ y))))
       (λ z. rw z)))
 

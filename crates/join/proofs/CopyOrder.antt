@@ -7,7 +7,7 @@ use native.Mathlib.Omega.{arith}
 use borrow.Author.Tests.{ltb-false, not-true}
 use Rattle.base.specs.Count.{count_below}
 use Rattle.base.specs.Bytes.{Bytes, splice}
-use Rattle.base.proofs.Tests.{by-test}
+use Rattle.base.proofs.Tests.{by_test}
 use Rattle.base.proofs.Search.{first_le}
 use Rattle.table.specs.Layout.{count_of, digest_at, view_of}
 use Rattle.table.specs.Rules.{has_digest}
@@ -61,7 +61,7 @@ module _ (left right : Bytes) (left_records right_records third : List ℕ) (p :
   extras_same : (k : ℕ) → k ≤ m → more k ≡ to t (place_behind left right k)
   unfolding extras_below copied_below count_below
   extras_same zero h = let e : n ≡ n + 0 = omega arith in left_same n (omega arith) ∙ ap (to t) e
-  extras_same (suc k) h = by-test (extra k)
+  extras_same (suc k) h = by_test (extra k)
       (λ y. let e : suc (n + count_below extra k) ≡ n + (1 + count_below extra k) = omega arith in
       rw y (ap₂ (λ (b : List ℕ) (x : List ℕ). splice b (part_start (n + count_below extra k)) x) (extras_same k (omega arith)) (extra_part k h y) ∙ ap (to t) e))
       (λ z. let e : n + count_below extra k ≡ n + (0 + count_below extra k) = omega arith in rw z (extras_same k (omega arith) ∙ ap (to t) e))

@@ -10,7 +10,7 @@ use lib.ListN.{length, take, drop}
 use lib.Seq.{take_all, length-take-le}
 use borrow.Author.Tests.{ltb-true, ltb-false, not-false}
 use Rattle.base.specs.Bytes.{Bytes, splice}
-use Rattle.base.proofs.Tests.{by-test}
+use Rattle.base.proofs.Tests.{by_test}
 use Rattle.base.proofs.Count.{count_rises}
 use Rattle.base.proofs.Splice.{length_splice}
 use Rattle.table.specs.View.{max_places, View}
@@ -38,16 +38,16 @@ module _ (v w : View) (left right : List ℕ) (i j : ℕ) where
   from_neither n m = rw (n, m)
 
   short : (b : List ℕ) (k : ℕ) → length (take part_size (drop (part_start k) b)) ≤ part_size
-  short b k = by-test (ltb (length (drop (part_start k) b)) part_size)
+  short b k = by_test (ltb (length (drop (part_start k) b)) part_size)
       (λ y. let l : length (drop (part_start k) b) < part_size = ltb-true _ _ y in
       let e : length (take part_size (drop (part_start k) b)) ≡ length (drop (part_start k) b) = ap length (take_all part_size (drop (part_start k) b) (omega arith)) in omega arith)
       (λ n. omega (arith, length-take-le part_size (drop (part_start k) b) (ltb-false _ _ n)))
 
   pub handed_short : length (handed_back v w left right i j) ≤ part_size
   unfolding handed_back
-  handed_short = by-test (interpreted_at v i)
+  handed_short = by_test (interpreted_at v i)
       (λ y. rw y (short left i))
-      (λ z. by-test (interpreted_at w j) (λ y. rw (z, y) (short right j)) (λ o. rw (z, o) (omega arith)))
+      (λ z. by_test (interpreted_at w j) (λ y. rw (z, y) (short right j)) (λ o. rw (z, o) (omega arith)))
 
   pub copy_length : (x x' : List ℕ) (k : ℕ) → length x ≡ buffer_size → k < max_places → x' ≡ splice x (part_start k) (handed_back v w left right i j) → length x' ≡ buffer_size
   copy_length x x' k e h q = ap length q ∙ length_splice x (part_start k) (handed_back v w left right i j) (omega (arith, handed_short)) ∙ e
@@ -63,13 +63,13 @@ module _ (left right : Bytes) (both : Joinable left right) where
 
   -- a block of the right is not in the left if its place in the result is behind the left's, and else in it
   pub behind_extra : (k place : ℕ) → place ≡ result_place left right k → count_of left ≤ place → (is_extra v w k ≡ true) × (place ≡ place_behind left right k)
-  behind_extra k place e h = by-test (is_extra v w k)
+  behind_extra k place e h = by_test (is_extra v w k)
       (λ y. (y, e ∙ rw y))
       (λ z. let o : place ≡ place_in v (digest_at right k) = e ∙ rw z in
       absurd (omega (arith, ltb-true (place_in v (digest_at right k)) (count_of left) (not-false _ (sym (extra_is left right k) ∙ z)))))
 
   pub within_held : (k place : ℕ) → place ≡ result_place left right k → place < count_of left → is_extra v w k ≡ false
-  within_held k place e h = by-test (is_extra v w k)
+  within_held k place e h = by_test (is_extra v w k)
       (λ y. let o : place ≡ place_behind left right k = e ∙ rw y in absurd (omega arith))
       (λ z. z)
 

@@ -11,7 +11,7 @@ use borrow.Author.Tests.{eqb-true, eqb-false, lt-ltb, le-ltb}
 use Rattle.base.specs.Search.{any_below}
 use Rattle.base.specs.Count.{count_below}
 use Rattle.base.specs.Bytes.{Bytes}
-use Rattle.base.proofs.Tests.{by-test}
+use Rattle.base.proofs.Tests.{by_test}
 use Rattle.base.proofs.Search.{first_le}
 use Rattle.base.proofs.Count.{count_here, count_past}
 use Rattle.table.specs.View.{max_places}
@@ -34,7 +34,7 @@ pub held_next : (table other : Bytes) (k v : ℕ) (places : List ℕ) → HeldBe
 held_next table other k v places a h e =
     record {
       size = length-set places k v ∙ a.size;
-      at = λ i l. by-test (eqb i k)
+      at = λ i l. by_test (eqb i k)
           (λ y. let q : i ≡ k = eqb-true i k y in rw q (get_or-set_same places k v 0 (omega (arith, a.size)) ∙ e))
           (λ n. get_or-set_other places k i v 0 (eqb-false i k n) ∙ a.at i (omega (arith, eqb-false i k n)));
     }
@@ -71,7 +71,7 @@ module _ (left right : Bytes) where
           size = a.size;
           free = a.free ∙ ap (λ (n : ℕ). count_of left + n) (count_past (is_extra (view_of left) (view_of right)) j not_extra);
           few = omega (arith, a.few);
-          done = λ i l. by-test (eqb i j)
+          done = λ i l. by_test (eqb i j)
               (λ y. let q : i ≡ j = eqb-true i j y in rw q (here ∙ rw not_extra))
               (λ n. a.done i (omega (arith, eqb-false i j n)));
           rest = λ i b l. a.rest i (omega arith) l;
@@ -89,7 +89,7 @@ module _ (left right : Bytes) where
           size = length-set places j next ∙ a.size;
           free = omega (arith, a.free, count_here (is_extra (view_of left) (view_of right)) j is_extra_lem);
           few = omega (arith, a.few);
-          done = λ i l. by-test (eqb i j)
+          done = λ i l. by_test (eqb i j)
               (λ y. let q : i ≡ j = eqb-true i j y in rw q (get_or-set_same places j next 0 (omega (arith, a.size)) ∙ rw is_extra_lem a.free))
               (λ n. get_or-set_other places j i next 0 (eqb-false i j n) ∙ a.done i (omega (arith, eqb-false i j n)));
           rest = λ i b l. get_or-set_other places j i next 0 (λ e. omega arith) ∙ a.rest i (omega arith) l;

@@ -11,7 +11,7 @@ use borrow.Author.Tests.{eqb-true, eq-eqb, ne_eqb, lt-ltb, ltb-true, ltb-false, 
 use Rattle.base.specs.Search.{any_below}
 use Rattle.base.specs.Mask.{in_mask}
 use Rattle.base.specs.Bytes.{Bytes}
-use Rattle.base.proofs.Tests.{by-test, and_left, and_right, same_tests}
+use Rattle.base.proofs.Tests.{by_test, and_left, and_right, same_tests}
 use Rattle.base.proofs.Search.{any_true, any_true_at, any_false}
 use Rattle.base.proofs.Count.{count_rises, count_apart}
 use Rattle.base.proofs.Bytes.{other_same}
@@ -57,7 +57,7 @@ module _ (left right : Bytes) (both : Joinable left right) (k : ℕ) (t : Bytes)
 
   -- so each has its place in the result
   pub result_at : (j : ℕ) → j < k → (result_place left right j < c) × (digest_at t (result_place left right j) ≡ digest_at right j)
-  result_at j h = by-test (extra j)
+  result_at j h = by_test (extra j)
       (λ y. rw y (extra_below j h y, extra_at j h y))
       (λ z. rw z (omega (arith, held_low j z, a.count), held_at j z))
 
@@ -75,7 +75,7 @@ module _ (left right : Bytes) (both : Joinable left right) (k : ℕ) (t : Bytes)
 
     -- it is held where its place is below the count
     stands : result_place left right k < c → place_in (view_of t) d ≡ result_place left right k
-    stands h = by-test (extra k)
+    stands h = by_test (extra k)
         (λ y. let e : result_place left right k ≡ place_behind left right k = rw y in absurd (omega (arith, a.count)))
         (λ z. let e : result_place left right k ≡ place_in (view_of left) d = rw z in
         place_is t a.formed d (place_in (view_of left) d) (omega (arith, held_low k z, a.count)) (held_at k z) ∙ sym e)
@@ -86,8 +86,8 @@ module _ (left right : Bytes) (both : Joinable left right) (k : ℕ) (t : Bytes)
 
     -- and else is not
     not_there : c ≤ result_place left right k → (p : ℕ) → p < c → digest_at t p ≢ d
-    not_there h p l e = by-test (extra k)
-        (λ y. by-test (ltb p n)
+    not_there h p l e = by_test (extra k)
+        (λ y. by_test (ltb p n)
         (λ o. let q : p < n = ltb-true p n o in
         let m = place_found (view_of left) d p q (sym (a.kept p q).digest ∙ e) in
         omega (arith, ltb-false (place_in (view_of left) d) n (not-true _ (sym (extra_is left right k) ∙ y))))

@@ -7,7 +7,7 @@ use Prim.Native.Nat.{ℕ}
 use lib.Dec.{eqb}
 use borrow.Author.Tests.{eqb-true, eqb-false, ne_eqb}
 use Rattle.base.specs.Bytes.{Bytes}
-use Rattle.base.proofs.Tests.{by-test}
+use Rattle.base.proofs.Tests.{by_test}
 use Rattle.table.specs.Form.{in_form}
 use Rattle.join.specs.Join.{join_answer, joined_table, joined_records, joined, copied}
 use Rattle.join.specs.Promises.{Shape, Copies, Promises}
@@ -50,7 +50,7 @@ module _ (left right : Bytes) (left_records right_records third : List ℕ) wher
     formed = subst (λ (x : Bytes). in_form x ≡ true) table_is (whole left right left_records right_records third p).formed
 
   kept : in_form left ≡ true → in_form t ≡ true
-  kept f = by-test (eqb refusal 0)
+  kept f = by_test (eqb refusal 0)
       (λ y. formed (eqb-true refusal 0 y))
       (λ n. subst (λ (x : Bytes). in_form x ≡ true) (sym (refused (eqb-false refusal 0 n)).0) f)
 

@@ -8,7 +8,7 @@ use borrow.Author.Tests.{eqb-true, eq-eqb, lt-ltb, ltb-true, ltb-false, not-fals
 use Rattle.base.specs.Search.{any_below}
 use Rattle.base.specs.Mask.{in_mask}
 use Rattle.base.specs.Bytes.{Bytes}
-use Rattle.base.proofs.Tests.{by-test, true-not-false, and_left, and_right, and_not_right, same_tests}
+use Rattle.base.proofs.Tests.{by_test, true_not_false, and_left, and_right, and_not_right, same_tests}
 use Rattle.base.proofs.Search.{first_le, first_passes, any_true, any_first, any_true_at, any_false_at, all_true_at}
 use Rattle.base.proofs.Bytes.{same_equal, equal_same}
 use Rattle.base.proofs.TopPlace.{not_in}
@@ -61,12 +61,12 @@ pub by_place : (t : Bytes) → in_form t ≡ true → (i : ℕ) → i < count_of
     → refers_by (view_of t) i d ≡ in_mask (references_at t i) (place_in (view_of t) d)
 by_place t f i h wide d = same_tests _ _
     (λ y. let k = by_from (view_of t) i d y in ap (in_mask (references_at t i)) (place_is t f d k.0 k.1 k.3) ∙ k.2)
-    (λ y. by-test (ltb p (count_of t))
+    (λ y. by_test (ltb p (count_of t))
     (λ z. let l : p < count_of t = ltb-true p (count_of t) z in by_has (view_of t) i d p l y (place_has (view_of t) d l))
-    (λ z. by-test (ltb p max_places)
+    (λ z. by_test (ltb p max_places)
     (λ o. absurd (omega (arith, ltb-false p (count_of t) z, (formed_row t f i h).lower p (ltb-true p max_places o) y)))
     (λ o. let e : p ≡ max_places = omega (arith, ltb-false p max_places o, few, first_le (has_digest (view_of t) d) (count_of t)) in
-    true-not-false y (ap (in_mask (references_at t i)) e ∙ not_in (references_at t i) max_places wide))))
+    true_not_false y (ap (in_mask (references_at t i)) e ∙ not_in (references_at t i) max_places wide))))
   where
     p : ℕ
     p = place_in (view_of t) d

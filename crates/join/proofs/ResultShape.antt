@@ -8,7 +8,7 @@ use native.Mathlib.Omega.{arith}
 use lib.Dec.{ltb}
 use borrow.Author.Tests.{eqb-true, eqb-false, eq-eqb, ltb-true, ltb-false}
 use Rattle.base.specs.Bytes.{Bytes}
-use Rattle.base.proofs.Tests.{by-test, not_true_false, same_tests, or_cases, or_true}
+use Rattle.base.proofs.Tests.{by_test, not_true_false, same_tests, or_cases, or_true}
 use Rattle.table.specs.View.{max_places, interpreted}
 use Rattle.table.specs.Layout.{count_of, digest_at, mark_at, row_at, view_of}
 use Rattle.table.proofs.InForm.{table_form, formed_row, one_place}
@@ -60,7 +60,7 @@ module _ (left right : Bytes) (left_records right_records third : List ℕ) (p :
     fields = record { digest = digest_is; site = its.site; sequence = its.sequence; request = its.request }
 
     refers : (a : ℕ) → a < c → (row_at t q).refers_to a ≡ refers_by (view_of right) j (digest_at t a)
-    refers a l = by-test (ltb a q) (λ o. its.refers a (ltb-true a q o)) (λ o.
+    refers a l = by_test (ltb a q) (λ o. its.refers a (ltb-true a q o)) (λ o.
         not_true_false ((row_at t q).refers_to a) (λ e. absurd (omega (arith, (formed_row t all.formed q below).lower a (omega (arith, few)) e, ltb-false a q o)))
         ∙ sym (not_true_false (refers_by (view_of right) j (digest_at t a)) (λ e.
         let i = by_from (view_of right) j (digest_at t a) e in

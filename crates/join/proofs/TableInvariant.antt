@@ -14,7 +14,7 @@ use borrow.Author.Tests.{eqb-true, eqb-false, eq-eqb, lt-ltb, ltb-true, ltb-fals
 use Rattle.base.specs.Search.{any_below}
 use Rattle.base.specs.Count.{count_below}
 use Rattle.base.specs.Bytes.{Bytes}
-use Rattle.base.proofs.Tests.{by-test, and_left, and_right, or_cases, same_tests}
+use Rattle.base.proofs.Tests.{by_test, and_left, and_right, or_cases, same_tests}
 use Rattle.base.proofs.Search.{any_true, any_false, any_false_at, any_first, first_passes}
 use Rattle.base.proofs.Count.{count_some, count_one, count_single, count_sent, count_grows}
 use Rattle.base.proofs.Bytes.{same_equal, equal_same, same_other, other_same}
@@ -158,7 +158,7 @@ module _ (left right : Bytes) (both : Joinable left right) where
     module _ (p : ℕ) (at : p < c) (e : digest_at t p ≡ d) where
       -- in the left
       in_left_lem : p < n
-      in_left_lem = by-test (ltb p n) (λ y. ltb-true p n y) (λ z.
+      in_left_lem = by_test (ltb p n) (λ y. ltb-true p n y) (λ z.
           let x = a.added p (omega (arith, ltb-false p n z)) at in
           absurd (row.new x.from x.below (sym x.digest ∙ e)))
 
@@ -312,11 +312,11 @@ module _ (left right : Bytes) (both : Joinable left right) where
               retired = is.retired;
               count = is.count;
               rows = λ q. let u = is.rows q in record { digest = u.digest; site = u.site; sequence = u.sequence; refers_to = u.refers_to; request = u.request };
-              up = λ q z. (is.rows q).mark ∙ by-test (eqb q p) (λ o. rw o) (λ o. rw o z);
-              down = λ q z. by-test (eqb q p)
+              up = λ q z. (is.rows q).mark ∙ by_test (eqb q p) (λ o. rw o) (λ o. rw o z);
+              down = λ q z. by_test (eqb q p)
                   (λ o. inr (eqb-true q p o, y))
                   (λ o. inl (sym ((is.rows q).mark ∙ rw o) ∙ z));
-              others = λ q h. (is.rows q).mark ∙ by-test (eqb q p) (λ o. absurd (omega (arith, in_left_lem, eqb-true q p o))) (λ o. rw o);
+              others = λ q h. (is.rows q).mark ∙ by_test (eqb q p) (λ o. absurd (omega (arith, in_left_lem, eqb-true q p o))) (λ o. rw o);
               sets = λ z. mark_there;
               canonical = mark_canonical t p (table_form t a.formed).size at held_few;
             }
@@ -415,7 +415,7 @@ module _ (left right : Bytes) (both : Joinable left right) where
       unfolding parent_rule parents
       parent_new = elim (or_cases (eqb (sequence_at right k) 0) _ (formed_parent right g both.right_retired k below)) [
         | inl z ↦ let o : eqb (sequence_at t' c) 0 ≡ true = ap (λ (y : ℕ). eqb y 0) gr.here.sequence ∙ z in rw o
-        | inr z ↦ by-test (eqb (sequence_at t' c) 0) (λ y. rw y) (λ y. rw (y, one_parent (eqb-true _ 1 z)))
+        | inr z ↦ by_test (eqb (sequence_at t' c) 0) (λ y. rw y) (λ y. rw (y, one_parent (eqb-true _ 1 z)))
       ]
 
       new_form : RowForm (setup_of t) (view_of t') c
@@ -513,11 +513,11 @@ module _ (left right : Bytes) (both : Joinable left right) where
 
     next : TableInvariant (suc k) (join_place t w k)
     unfolding join_place
-    next = by-test (any_below (has_digest (view_of t) d) c)
+    next = by_test (any_below (has_digest (view_of t) d) c)
         (λ y. let p : ℕ = place_of (view_of t) c d in
         let l : p < c = any_first (has_digest (view_of t) d) c y in
         let e : digest_at t p ≡ d = same_equal _ _ (first_passes (has_digest (view_of t) d) c l) in
-        by-test (interpreted (row_at right k))
+        by_test (interpreted (row_at right k))
         (λ z. rw (y, z) (touched_next p l e (with_mark t p) (touched p l e (eqb-true (mark_at right k) 1 z))))
         (λ z. rw (y, z) (touched_next p l e t (untouched p l e z))))
         (λ z. rw z (grown_next z))

@@ -11,7 +11,7 @@ use lib.ListN.{length, drop, length-drop}
 use lib.Seq.{length-take-le}
 use borrow.Author.Tests.{eqb-true, eqb-false, ltb-true, ltb-false}
 use Rattle.base.specs.Bytes.{Bytes, splice}
-use Rattle.base.proofs.Tests.{by-test, true-not-false}
+use Rattle.base.proofs.Tests.{by_test, true_not_false}
 use Rattle.base.proofs.Splice.{splice_nothing, length_splice}
 use Rattle.table.specs.View.{max_places, interpreted, View}
 use Rattle.table.specs.Layout.{count_of, digest_at, mark_at, row_at, view_of}
@@ -86,7 +86,7 @@ module _ (left right : Bytes) (left_records right_records third : List ℕ) (p :
 
   -- a mark of the result comes from a side
   pub marked_by : (q : ℕ) → q < c → mark_at t q ≡ 1 → (interpreted_at (view_of left) (in_left q) ≡ true) ⊎ (interpreted_at w (in_right q) ≡ true)
-  marked_by q h e = by-test (ltb q n)
+  marked_by q h e = by_test (ltb q n)
       (λ y. let l : q < n = ltb-true q n y in elim (whole.marks q l e) [
         | inl u ↦ inl (interpreted_here left p.joinable.formed.left_formed (digest_at t q) q l (sym (whole.kept q l).digest) u)
         | inr u ↦ inr (interpreted_here right p.joinable.formed.right_formed (digest_at t q) u.from u.below (sym u.digest ∙ sym (whole.kept q l).digest) u.mark)
@@ -96,12 +96,12 @@ module _ (left right : Bytes) (left_records right_records third : List ℕ) (p :
 
   pub source : (q : ℕ) → q < c → FromLeft q ⊎ (FromRight q ⊎ Neither q)
   unfolding handed_back
-  source q h = by-test (interpreted_at (view_of left) (in_left q))
+  source q h = by_test (interpreted_at (view_of left) (in_left q))
       (λ y. inl (from_left q h y))
-      (λ z. by-test (interpreted_at w (in_right q))
+      (λ z. by_test (interpreted_at w (in_right q))
       (λ y. let i = interpreted_from w (in_right q) y in
       inr (inl (record { from = in_right q; below = i.0; digest = sym (place_has w (digest_at t q) i.0); mark = i.1; is = rw (z, y) })))
-      (λ o. inr (inr (record { unmarked = λ e. elim (marked_by q h e) [ inl u ↦ true-not-false u z | inr u ↦ true-not-false u o ]; is = rw (z, o) }))))
+      (λ o. inr (inr (record { unmarked = λ e. elim (marked_by q h e) [ inl u ↦ true_not_false u z | inr u ↦ true_not_false u o ]; is = rw (z, o) }))))
 
   -- a place that the left interpreted
   pub left_part : (q : ℕ) → q < n → mark_at left q ≡ 1 → part q ≡ part_of left_records q
@@ -144,7 +144,7 @@ module _ (left right : Bytes) (left_records right_records third : List ℕ) (p :
   copied_length zero h = p.size
   copied_length (suc k) h =
       let e : length (copied_to k) ≡ buffer_size = copied_length k (omega arith) in
-      by-test (interpreted (row_at t k))
+      by_test (interpreted (row_at t k))
       (λ y. length_splice (copied_to k) (part_start k) (part k) (omega (arith, part_length k h (eqb-true _ 1 y), few)) ∙ e)
       (λ z. ap length (copied_unmarked k h (eqb-false _ 1 z)) ∙ e)
 
@@ -161,20 +161,20 @@ module _ (left right : Bytes) (left_records right_records third : List ℕ) (p :
 
   -- so a part is changed by its own place alone
   copied_other : (k : ℕ) → k < c → (q : ℕ) → q ≢ k → part_of (copied_to (suc k)) q ≡ part_of (copied_to k) q
-  copied_other k h q o = by-test (interpreted (row_at t k))
+  copied_other k h q o = by_test (interpreted (row_at t k))
       (λ y. put_elsewhere k h (eqb-true _ 1 y) q o)
       (λ z. ap (λ (b : List ℕ). part_of b q) (copied_unmarked k h (eqb-false _ 1 z)))
 
   copied_part : (k : ℕ) → k ≤ c → (q : ℕ) → q < k → mark_at t q ≡ 1 → part_of (copied_to k) q ≡ part q
   copied_part zero h q l y = absurd (omega arith)
-  copied_part (suc k) h q l y = by-test (eqb q k)
+  copied_part (suc k) h q l y = by_test (eqb q k)
       (λ o. let e : q ≡ k = eqb-true q k o in ap (part_of (copied_to (suc k))) e ∙ put_here k h (ap (mark_at t) (sym e) ∙ y) ∙ ap part (sym e))
       (λ o. copied_other k h q (eqb-false q k o) ∙ copied_part k (omega arith) q (omega (arith, eqb-false q k o)) y)
 
   copied_rest : (k : ℕ) → k ≤ c → (q : ℕ) → (q < c → mark_at t q ≢ 1) → part_of (copied_to k) q ≡ part_of third q
   unfolding copied_below
   copied_rest zero h q bare = refl
-  copied_rest (suc k) h q bare = by-test (eqb q k)
+  copied_rest (suc k) h q bare = by_test (eqb q k)
       (λ o. let e : q ≡ k = eqb-true q k o in
       ap (λ (b : List ℕ). part_of b q) (copied_unmarked k h (λ y. bare (omega arith) (ap (mark_at t) e ∙ y))) ∙ copied_rest k (omega arith) q bare)
       (λ o. copied_other k h q (eqb-false q k o) ∙ copied_rest k (omega arith) q bare)

@@ -13,7 +13,7 @@ use lib.ListN.{get_or}
 use lib.Pow.{pow_mono, pow_pos}
 use Rattle.base.specs.Search.{any_below}
 use Rattle.base.specs.Mask.{in_mask}
-use Rattle.base.proofs.Tests.{true-not-false, or_assoc, or_false}
+use Rattle.base.proofs.Tests.{true_not_false, or_assoc, or_false}
 use Rattle.base.proofs.Sets.{mask_or, mask_same, mask_members, one_in_lem}
 use Rattle.base.proofs.TopPlace.{not_in, lower_in, any_highest, any_no_place}
 use Rattle.table.specs.View.{max_places}
@@ -63,7 +63,7 @@ module _ (m j : ℕ) (low : j < max_places) (from : 2 ^ j ≤ m) (to : m < 2 ^ s
         wide = or_lt max_places mask (2 ^ q) a.wide (omega (arith, pow_pos q, pow-suc 2 q, pow_mono {i = suc q} {j = max_places} h));
         among = λ k y. elim (dec_lt k j) [
           | yes l ↦ a.among k (lower_in m j from to k l ∙ y)
-          | no n ↦ true-not-false y (not_in (m - 2 ^ j) k (omega (arith, pow-suc 2 j, pow_mono {i = j} {j = k} (omega arith))))
+          | no n ↦ true_not_false y (not_in (m - 2 ^ j) k (omega (arith, pow-suc 2 j, pow_mono {i = j} {j = k} (omega arith))))
         ];
         is = λ p l.
             ap (λ (t : Bool). t || some_at (m - 2 ^ j) places p) (mask_or mask (2 ^ q) p ∙ ap (λ (t : Bool). in_mask mask p || t) (one_in_lem q p ∙ ap (λ (x : ℕ). eqb x p) e))

@@ -1,6 +1,9 @@
 // Joining two controllers: two tables and their records made one. Promises: `join` answers and leaves what specs/Join.antt says, for any
 // tables and buffers; each of 2, 12, 31, 23, 24 and 25 comes under its cause and under no other, form is kept, and the result is told without the
 // order in which it is made (specs/Promises.antt). Assumes nothing.
+
+#![tactic(auto)]
+
 mod clash;
 mod parts;
 mod places;

@@ -7,7 +7,7 @@ use native.Mathlib.Omega.{arith}
 use lib.Dec.{ltb}
 use borrow.Author.Tests.{ltb-true, ltb-false}
 use Rattle.base.specs.Bytes.{Bytes}
-use Rattle.base.proofs.Tests.{by-test, not_true_false, same_tests}
+use Rattle.base.proofs.Tests.{by_test, not_true_false, same_tests}
 use Rattle.setup.specs.Setup.{slot_count}
 use Rattle.block.specs.Layout.{site_of, sequence_of, references_of, request_for}
 use Rattle.block.specs.Reading.{reading, fields_of}
@@ -95,7 +95,7 @@ module _ (digest : Bytes → Bytes) (left right : Bytes) (left_records right_rec
           site = old.site ∙ rows_l.sites q h;
           sequence = old.sequence ∙ rows_l.sequences q h;
           request = λ slot l. old.request slot l ∙ rows_l.requests q h slot l;
-          refers = λ a l. by-test (ltb a q)
+          refers = λ a l. by_test (ltb a q)
               (λ y. let la : a < n = omega (arith, ltb-true a q y) in
               old.refers_to a (omega (arith, few)) ∙ rows_l.refers q a h la ∙ ap (lists (block_l q)) (sym (all.kept a la).digest))
               (λ z. beyond q (block_l q) (omega (arith, within)) (shaped (block_l q) (rows_l.accepted q h)) low_left a l (omega (arith, ltb-false a q z)));
@@ -136,7 +136,7 @@ module _ (digest : Bytes → Bytes) (left right : Bytes) (left_records right_rec
           site = its.site ∙ rows_r.sites j l;
           sequence = its.sequence ∙ rows_r.sequences j l;
           request = λ slot o. its.request slot o ∙ rows_r.requests j l slot o;
-          refers = λ a o. by-test (ltb a q)
+          refers = λ a o. by_test (ltb a q)
               (λ y. refers_low a (ltb-true a q y))
               (λ z. beyond q b h (shaped b (rows_r.accepted j l)) low_right a o (omega (arith, ltb-false a q z)));
           linked = λ r k. let u = low_right r k in (u.0, omega (arith, u.1), u.2);
@@ -156,7 +156,7 @@ module _ (digest : Bytes → Bytes) (left right : Bytes) (left_records right_rec
       (i, sym (place_has w (digest_at t q) i))
 
   row_is : (q : ℕ) → q < c → RowIs q (block_of q)
-  row_is q h = by-test (ltb q n)
+  row_is q h = by_test (ltb q n)
       (λ y. rw y (left_row q (ltb-true q n y)))
       (λ z. let u = placed_right q (omega (arith, ltb-false q n z)) h in rw z (right_row q (place_in w (digest_at t q)) h u.0 u.1))
 

@@ -10,7 +10,7 @@ use native.Mathlib.Omega.{arith}
 use lib.Dec.{eqb}
 use borrow.Author.Tests.{eqb-true, eqb-false}
 use Rattle.base.specs.Bytes.{Bytes}
-use Rattle.base.proofs.Tests.{by-test}
+use Rattle.base.proofs.Tests.{by_test}
 use Rattle.setup.specs.Setup.{Setup}
 use Rattle.table.specs.View.{max_places, View}
 use Rattle.table.specs.Layout.{count_of, digest_at, site_at, sequence_at, mark_at, row_at, view_of}
@@ -165,7 +165,7 @@ module _ (left right : Bytes) (left_records right_records third : List ℕ) (p :
   pub restored_is : (k : ℕ) → k ≤ c → restored t records third k ≡ copied_to k
   unfolding restored copied_below
   restored_is zero h = refl
-  restored_is (suc k) h = by-test (eqb (mark_at t k) 1)
+  restored_is (suc k) h = by_test (eqb (mark_at t k) 1)
       (λ y. rw (y, restored_is k (omega arith), records_part k h (eqb-true _ 1 y)))
       (λ z. rw z (restored_is k (omega arith)) ∙ sym (copied_unmarked k h (eqb-false _ 1 z)))
 

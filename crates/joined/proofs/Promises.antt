@@ -10,7 +10,7 @@ use lib.Dec.{ltb}
 use lib.ListN.{length}
 use borrow.Author.Tests.{ltb-true, ltb-false}
 use Rattle.base.specs.Bytes.{Bytes}
-use Rattle.base.proofs.Tests.{by-test}
+use Rattle.base.proofs.Tests.{by_test}
 use Rattle.sha256.specs.Sha256.{sha256}
 use Rattle.sha256.proofs.Promises.{sha256_length}
 use Rattle.setup.specs.Setup.{Setup, lawful}
@@ -120,7 +120,7 @@ module _ (digest : Bytes → Bytes) (sized : (b : Bytes) → length (digest b) �
     stand₂ = standing digest sized z size₂ l₂ y r₂.invariant
 
     block_among : (i : ℕ) → i < c → Memᴰ (block i) (l₁.blocks ++ l₂.blocks)
-    block_among i h = by-test (ltb i n)
+    block_among i h = by_test (ltb i n)
         (λ o. rw o (Memᴰ.append_left l₂.blocks (stand₁.among i (stand₁.held i (ltb-true i n o)))))
         (λ o. let u = placed_right digest x.table y.table x.records y.records third p l₁.block l₂.block rows₁ rows₂ i (omega (arith, ltb-false i n o)) h in
         rw o (Memᴰ.append_right l₁.blocks (stand₂.among _ (stand₂.held _ u.0))))

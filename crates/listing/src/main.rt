@@ -3,6 +3,9 @@
 // it is safe, it ends, and it holds no more of the input than that buffer does; each turn makes the steps that are due on the unread bytes, keeps the
 // bytes that no step used, in their order, and puts the bytes that come behind them. Assumes: the contracts of the kit's calls on files. That a read
 // brings the next bytes of the input, and that the lines are written, is tested.
+
+#![tactic(auto)]
+
 ghost use Rattle.std.specs.Prelude.{◌≡◌, true, [], ◌+◌, ◌≤◌, ◌<◌, length, length as ListN·length, take, drop};
 ghost use Rattle.base.specs.Bytes.{Bytes, splice};
 ghost use Rattle.sha256.specs.Sha256.{sha256};

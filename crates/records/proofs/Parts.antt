@@ -10,7 +10,7 @@ use lib.Seq.{drop-drop, get_or-take, get_or-drop}
 use borrow.Author.Tests.{ltb-true, ltb-false}
 use Rattle.base.specs.Bytes.{part_at, parts, concat, splice}
 use Rattle.base.specs.List.{list_below}
-use Rattle.base.proofs.Tests.{by-test}
+use Rattle.base.proofs.Tests.{by_test}
 use Rattle.base.proofs.List.{length_list, list_at}
 use Rattle.base.proofs.Parts.{part_of_front, EachSize, length_joined, concat_list_more, parts_at, parts_joined}
 use Rattle.base.proofs.Splice.{splice_part_low, splice_part_in, take_splice, drop_splice}
@@ -81,7 +81,7 @@ module _ (buffer new : List ℕ) (i : ℕ) (size : length new ≡ part_size) (fi
       ap (λ (n : ℕ). take n (drop (part_start i) (splice buffer (part_start i) new))) (sym size) ∙ splice_part_in buffer (part_start i) new within
 
   pub part_other : (j : ℕ) → j ≢ i → part_of (splice buffer (part_start i) new) j ≡ part_of buffer j
-  part_other j n = by-test (ltb j i)
+  part_other j n = by_test (ltb j i)
       (λ b. splice_part_low buffer (part_start i) new within (part_start j) part_size (omega (arith, ltb-true j i b)))
       (λ b. let e : part_start j ≡ part_start i + length new + (part_start j - (part_start i + part_size)) = omega (arith, ltb-false j i b) in
       ap (take part_size) (ap (λ (k : ℕ). drop k (splice buffer (part_start i) new)) e

@@ -1,6 +1,9 @@
 // The record buffer, which the caller lends: where each number stands, a record read, a place's part read and put, and parts moved down. No
 // other crate computes an index into it. Promises: each function is its definition in specs/, and a record that was put is read back
 // (proofs/RecordNumbers.antt, proofs/Parts.antt). Assumes nothing.
+
+#![tactic(auto)]
+
 mod numbers;
 
 ghost use Rattle.std.specs.Prelude.{◌≡◌, ◌*◌, ◌≤◌, ◌<◌, length};

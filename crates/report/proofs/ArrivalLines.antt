@@ -8,7 +8,7 @@ use lib.ListN.{length, drop}
 use lib.Seq.{drop-drop}
 use borrow.Author.Tests.{ltb-true, ltb-false}
 use Rattle.base.specs.Bytes.{Bytes}
-use Rattle.base.proofs.Tests.{by-test}
+use Rattle.base.proofs.Tests.{by_test}
 use Rattle.block.specs.Limits.{max_block_size}
 use Rattle.run.specs.Run.{Site}
 use Rattle.report.specs.Text.{unread_line}
@@ -85,7 +85,7 @@ module _ (digest : Bytes → Bytes) where
           (block_next _ (whole_taken digest arrival x size input small (omega arith) _ (behind_lists (site_arrived digest x (first_block b) (first_verdict b)))))
 
     length_lists : Lists arrival x b
-    length_lists = by-test (overlong b) overlong_lists (λ fits. by-test (cut b)
+    length_lists = by_test (overlong b) overlong_lists (λ fits. by_test (cut b)
         (λ short. cut_lists fits (ltb-true (length b) (arrival_size b) short))
         (λ whole. whole_lists fits (ltb-false (length b) (arrival_size b) whole)))
 

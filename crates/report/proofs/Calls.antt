@@ -7,7 +7,7 @@ use Prim.Native.Nat.{ℕ}
 use lib.Dec.{eqb}
 use borrow.Author.Tests.{eq-eqb, eqb-true}
 use Rattle.base.specs.Bytes.{Bytes}
-use Rattle.base.proofs.Tests.{by-test}
+use Rattle.base.proofs.Tests.{by_test}
 use Rattle.sha256.specs.Sha256.{sha256}
 use Rattle.admission.specs.Admission.{admission, admitted}
 use Rattle.interpret.specs.Interpretation.{interpretation, marked, recorded}
@@ -64,7 +64,7 @@ module _ (x : Site) (b : Bytes) (verdict : ℕ) where
 
   -- an arrival that is not refused had an admission that passed
   pub accepted : arrival_refusal sha256 x b verdict ≡ 0 → number ≡ 0
-  accepted z = by-test (eqb number 0) (λ y. eqb-true number 0 y) (λ n. sym (refused_refusal n) ∙ z)
+  accepted z = by_test (eqb number 0) (λ y. eqb-true number 0 y) (λ n. sym (refused_refusal n) ∙ z)
 
   -- the calls, as specs/ListingCalls.antt lists them
   abbrev pub calls_at : List Call
@@ -72,7 +72,7 @@ module _ (x : Site) (b : Bytes) (verdict : ℕ) where
 
   pub site_after_calls : site_after sha256 x calls_at ≡ site_arrived sha256 x b verdict
   unfolding site_after site_arrived site_answer
-  site_after_calls = by-test (eqb number 0) (λ y. rw y) (λ n. rw n (refused_step n))
+  site_after_calls = by_test (eqb number 0) (λ y. rw y) (λ n. rw n (refused_step n))
 
 -- arrivals take nothing back
 pub none_back : (x : Site) (arrivals : List Arrival) → NoneBack (arrival_calls x arrivals)
@@ -81,4 +81,4 @@ none_back x [] = tt
 none_back x (unread ∷ rest) = none_back x rest
 none_back x (arrived b verdict ∷ rest) =
     let more = none_back (site_arrived sha256 x b verdict) rest in
-    (refl, by-test (eqb (admission_answer sha256 x b verdict).refusal 0) (λ y. rw y (refl, more)) (λ n. rw n more))
+    (refl, by_test (eqb (admission_answer sha256 x b verdict).refusal 0) (λ y. rw y (refl, more)) (λ n. rw n more))

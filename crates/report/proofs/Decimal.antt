@@ -9,7 +9,7 @@ use borrow.Author.Tests.{ltb-true, ltb-false, lt-ltb, le-ltb, ne_eqb}
 use lib.Dec.{eqb, ltb}
 use lib.ListN.{length, length-append}
 use Rattle.base.specs.Bytes.{Bytes}
-use Rattle.base.proofs.Tests.{by-test}
+use Rattle.base.proofs.Tests.{by_test}
 use Rattle.report.specs.Text.{digit, digits, decimal}
 
 -- the digits are the same, however many more there might be
@@ -18,7 +18,7 @@ unfolding digits
 digits_enough zero k n h g = absurd (omega arith)
 digits_enough (suc j) zero n h g = absurd (omega arith)
 digits_enough (suc j) (suc k) n h g =
-    by-test (ltb n 10)
+    by_test (ltb n 10)
     (λ e. rw (e, digits))
     (λ e.
     let many : 10 ≤ n = ltb-false n 10 e in
@@ -44,7 +44,7 @@ leading_some n h = rw (ne_eqb n 0 (λ q. omega arith))
 pub last_apart : (n : ℕ) → decimal n ≡ leading (n / 10) ++ (digit (n % 10) ∷ [])
 unfolding leading
 last_apart n =
-    by-test (ltb n 10)
+    by_test (ltb n 10)
     (λ e.
     let few : n < 10 = ltb-true n 10 e in
     let none : n / 10 ≡ 0 = omega arith in
@@ -61,7 +61,7 @@ leading_apart n h = leading_some n h ∙ last_apart n
 pub decimal_short : (k n : ℕ) → n < 10 ^ suc k → length (decimal n) ≤ suc k
 decimal_short zero n h = rw (decimal_one n h) (omega arith)
 decimal_short (suc k) n h =
-    by-test (ltb n 10)
+    by_test (ltb n 10)
     (λ e. rw (decimal_one n (ltb-true n 10 e)) (omega arith))
     (λ e.
     let p : n < 10 ^ suc k * 10 = rw (← pow-suc 10 (suc k)) h in

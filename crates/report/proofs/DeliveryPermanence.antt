@@ -10,7 +10,7 @@ use lib.Dec.{eqb}
 use lib.ListN.{length, get_or}
 use borrow.Author.Tests.{ne_eqb}
 use Rattle.base.specs.Bytes.{Bytes}
-use Rattle.base.proofs.Tests.{by-test, true-not-false}
+use Rattle.base.proofs.Tests.{by_test, true_not_false}
 use Rattle.setup.specs.Setup.{Setup}
 use Rattle.block.specs.Limits.{reference_size}
 use Rattle.records.specs.Layout.{record_size}
@@ -39,12 +39,12 @@ module _ (digest : Bytes → Bytes) (sized : (b : Bytes) → length (digest b) �
       let other = ne_eqb i l.held (λ q. absurd (omega (arith, w.below))) in
       inl (i, record { below = omega (arith, w.below); mark = ap (λ (z : Bool). cond z 0 (l.mark i)) other ∙ w.mark }, e ∙ sym (ap (λ (z : Bool). cond z a (l.block i)) other))
   interpreted_stays l (admit a verdict) n b (inr m) = inr m
-  interpreted_stays l (interpret place) n b (inl (i, w, e)) = inl (i, record { below = w.below; mark = by-test (eqb i place) (λ y. rw y) (λ z. rw z w.mark) }, e)
+  interpreted_stays l (interpret place) n b (inl (i, w, e)) = inl (i, record { below = w.below; mark = by_test (eqb i place) (λ y. rw y) (λ z. rw z w.mark) }, e)
   interpreted_stays l (interpret place) n b (inr m) = inr m
   interpreted_stays l retire n b (inl (zero, w, e)) = inr (Memᴰ.head e)
   interpreted_stays l retire n b (inl (suc i, w, e)) = inl (i, record { below = omega (arith, w.below); mark = w.mark }, e)
   interpreted_stays l retire n b (inr m) = inr (Memᴰ.tail m)
-  interpreted_stays l take_back n b w = true-not-false refl n
+  interpreted_stays l take_back n b w = true_not_false refl n
 
   module _ (l : Ledger) (x : Site) (t : RunInvariant digest sized s size l x) (c : Call) (keeping : is_taking_back c ≡ false) where
     abbrev l' : Ledger
@@ -52,7 +52,7 @@ module _ (digest : Bytes → Bytes) (sized : (b : Bytes) → length (digest b) �
 
     step_interpreted : (b : Bytes) → InterpretedBlock l b → InterpretedBlock l' b
     unfolding ledger_step
-    step_interpreted b i = by-test (eqb (ledger_answer digest s size l c).refusal 0) (λ y. rw y (interpreted_stays l c keeping b i)) (λ n. rw n i)
+    step_interpreted b i = by_test (eqb (ledger_answer digest s size l c).refusal 0) (λ y. rw y (interpreted_stays l c keeping b i)) (λ n. rw n i)
 
     -- a block keeps its history
     history_stays : NoCollision digest l'.blocks → (b : Bytes) → Memᴰ b l.blocks → history_of digest l.blocks b ≡ history_of digest l'.blocks b

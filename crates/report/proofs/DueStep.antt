@@ -6,7 +6,7 @@ use Prim.Native.Nat.{ℕ, ◌≤◌, ◌<◌}
 use native.Mathlib.Omega.{arith}
 use lib.Dec.{leb, ltb}
 use borrow.Author.Tests.{ltb-true, ltb-false, leb-true, leb-false, lt-ltb, le-ltb, le-leb, lt-leb}
-use Rattle.base.proofs.Tests.{by-test, and_left, and_right, or_cases, or_left, or_right, or_true}
+use Rattle.base.proofs.Tests.{by_test, and_left, and_right, or_cases, or_left, or_right, or_true}
 use Rattle.report.specs.Framing.{wanted, lines_size}
 use Rattle.report.specs.Gathering.{is_due}
 use Rattle.report.specs.declared.ListingState.{ListingState}
@@ -52,8 +52,8 @@ module _ (is_ended : Bool) (s : ListingState) (left room : ℕ) where
 
   pub is_not_due : is_due is_ended s left room ≡ false → (wanted s ≡ 0) ⊎ (((left < wanted s) × (is_ended ≡ false)) ⊎ (room < lines_size))
   unfolding is_due
-  is_not_due e = by-test (ltb 0 (wanted s))
-      (λ some. by-test (leb (wanted s) left || is_ended)
+  is_not_due e = by_test (ltb 0 (wanted s))
+      (λ some. by_test (leb (wanted s) left || is_ended)
       (λ there. inr (inr (leb-false lines_size room (last some there))))
       (λ short. inr (inl (leb-false (wanted s) left (or_left (leb (wanted s) left) is_ended short), or_right (leb (wanted s) left) is_ended short))))
       (λ none. inl (let z : wanted s ≤ 0 = ltb-false 0 (wanted s) none in omega arith))

@@ -8,7 +8,7 @@ use native.Mathlib.Omega.{arith}
 use lib.ListN.{length, length-drop, drop_of_length-le}
 use borrow.Author.Tests.{lt-ltb, le-ltb}
 use Rattle.base.specs.Bytes.{Bytes}
-use Rattle.base.proofs.Tests.{by-test}
+use Rattle.base.proofs.Tests.{by_test}
 use Rattle.run.specs.Run.{Site}
 use Rattle.report.specs.Text.{unread_line}
 use Rattle.report.specs.Arrivals.{Arrival, arrived, unread, arrival_size, overlong, first_verdict, first_block, after_first, first_arrival, arrivals, arrivals_in}
@@ -51,7 +51,7 @@ module _ (b : Bytes) where
 
   cut_unread : length b < arrival_size b → first_arrival b ≡ unread
   unfolding first_arrival
-  cut_unread short = by-test (overlong b) (λ long. rw long) (λ fits. rw (fits, lt-ltb (length b) (arrival_size b) short))
+  cut_unread short = by_test (overlong b) (λ long. rw long) (λ fits. rw (fits, lt-ltb (length b) (arrival_size b) short))
 
   whole_arrived : overlong b ≡ false → arrival_size b ≤ length b → first_arrival b ≡ arrived (first_block b) (first_verdict b)
   unfolding first_arrival

@@ -9,7 +9,7 @@ use lib.ListN.{length, take, drop, length-drop}
 use lib.Seq.{take_all}
 use borrow.Author.Tests.{leb-true, leb-false}
 use Rattle.base.specs.Bytes.{Bytes, splice}
-use Rattle.base.proofs.Tests.{by-test}
+use Rattle.base.proofs.Tests.{by_test}
 use Rattle.sha256.specs.Sha256.{sha256}
 use Rattle.run.specs.Run.{Site}
 use Rattle.report.specs.Framing.{wanted, Outcome, stepped, lines_size, lines_of, handed}
@@ -26,7 +26,7 @@ use Rattle.report.proofs.Termination.{work, length_piece, less_work, next_within
 -- a piece as the code cuts it
 pub piece_cut : (s : ListingState) (used end : ℕ) (unread : Bytes) → end ≡ used + min (wanted s) (length unread - used)
     → take (end - used) (drop used unread) ≡ piece_at s used unread
-piece_cut s used end unread e = by-test (leb (wanted s) (length unread - used))
+piece_cut s used end unread e = by_test (leb (wanted s) (length unread - used))
     (λ there.
     let h : wanted s ≤ length unread - used = leb-true (wanted s) (length unread - used) there in
     let k : end - used ≡ wanted s = omega arith in

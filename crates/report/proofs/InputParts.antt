@@ -10,7 +10,7 @@ use lib.Dec.{eqb}
 use lib.ListN.{length, drop, length-append, length-drop}
 use borrow.Author.Tests.{eqb-true, eqb-false, le-leb}
 use Rattle.base.specs.Bytes.{Bytes, concat}
-use Rattle.base.proofs.Tests.{by-test, true-not-false}
+use Rattle.base.proofs.Tests.{by_test, true_not_false}
 use Rattle.run.specs.Run.{Site}
 use Rattle.report.specs.Framing.{wanted_by, wanted, expecting, start, run, lines_size}
 use Rattle.report.specs.Gathering.{Gathering, no_steps, due, gathering, Progress, nothing_read, turn, turns, last_turns}
@@ -58,7 +58,7 @@ module _ (digest : Bytes → Bytes) (size : ℕ) where
     turns_go : (parts : List Bytes) (p : Progress) → Goes p (concat parts) → Goes (turns digest size p parts) []
     unfolding turns concat
     turns_go [] p g = g
-    turns_go (part ∷ parts) p g = turns_go parts (turned false p part) (turn_goes false p part (concat parts) (λ e. true-not-false e refl) g)
+    turns_go (part ∷ parts) p g = turns_go parts (turned false p part) (turn_goes false p part (concat parts) (λ e. true_not_false e refl) g)
 
     last_go : (k : ℕ) (p : Progress) → Goes p [] → Goes (last_turns digest size k p) []
     unfolding last_turns
@@ -119,7 +119,7 @@ module _ (digest : Bytes → Bytes) (size : ℕ) where
     ends_within : (k : ℕ) (p : Progress) → work_of p ≤ k → wanted (last_turns digest size k p).state ≡ 0
     unfolding last_turns
     ends_within zero p h = omega arith
-    ends_within (suc k) p h = by-test (eqb (wanted p.state) 0)
+    ends_within (suc k) p h = by_test (eqb (wanted p.state) 0)
         (λ e. at_end (suc k) p (eqb-true (wanted p.state) 0 e))
         (λ n. let some : 0 < wanted p.state = omega (arith, eqb-false (wanted p.state) 0 n) in ends_within k (turned true p []) (omega (arith, less_left p some)))
 

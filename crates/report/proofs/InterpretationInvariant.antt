@@ -9,7 +9,7 @@ use lib.Dec.{eqb}
 use lib.ListN.{length}
 use borrow.Author.Tests.{eqb-true, eqb-false}
 use Rattle.base.specs.Bytes.{Bytes}
-use Rattle.base.proofs.Tests.{by-test}
+use Rattle.base.proofs.Tests.{by_test}
 use Rattle.sha256.specs.Sha256.{sha256}
 use Rattle.table.specs.Layout.{count_of, mark_at, view_of}
 use Rattle.table.specs.Form.{in_form}
@@ -68,7 +68,7 @@ module _ (x : Site) (k : InterpretationInvariant x) (b : Bytes) (verdict : ℕ) 
     shown = promises.shown t x.records p interpretation_passes
 
     every_interpreted : (i : ℕ) → i < count_of (both x b verdict).table → mark_at (both x b verdict).table i ≡ 1
-    every_interpreted i h = (shown.rows i).mark ∙ by-test (eqb i p)
+    every_interpreted i h = (shown.rows i).mark ∙ by_test (eqb i p)
         (λ y. ap (λ (z : Bool). cond z 1 (mark_at t i)) y)
         (λ n. ap (λ (z : Bool). cond z 1 (mark_at t i)) n
         ∙ lower_interpreted i (omega (arith, eqb-false i p n, shown.count, grown.count, next)))
@@ -85,12 +85,12 @@ module _ (x : Site) (k : InterpretationInvariant x) (b : Bytes) (verdict : ℕ) 
 
   arrival_none_refused : arrival_refusal sha256 x b verdict ≡ (admission_answer sha256 x b verdict).refusal
   unfolding site_answer
-  arrival_none_refused = by-test (eqb (number x b verdict) 0)
+  arrival_none_refused = by_test (eqb (number x b verdict) 0)
       (λ y. let e = eqb-true (number x b verdict) 0 y in passed_refusal x b verdict e ∙ interpretation_passes e ∙ sym e)
       (refused_refusal x b verdict)
 
   arrival_invariant : InterpretationInvariant (site_arrived sha256 x b verdict)
-  arrival_invariant = by-test (eqb (number x b verdict) 0)
+  arrival_invariant = by_test (eqb (number x b verdict) 0)
       (λ y. let e = eqb-true (number x b verdict) 0 y in subst InterpretationInvariant (sym (passed_site x b verdict e)) (both_invariant e))
       (λ n. subst InterpretationInvariant (sym (refused_site x b verdict n)) k)
 

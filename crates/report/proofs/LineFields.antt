@@ -10,7 +10,7 @@ use lib.Dec.{eqb}
 use lib.ListN.{get_or, drop}
 use Rattle.base.specs.Bytes.{Bytes, concat}
 use Rattle.base.specs.List.{list_below}
-use Rattle.base.proofs.Tests.{by-test}
+use Rattle.base.proofs.Tests.{by_test}
 use Rattle.report.specs.declared.Delivery.{Delivery}
 use Rattle.report.specs.declared.Field.{Field}
 use Rattle.report.specs.declared.Field.TheVariants.{Number, Empty}
@@ -46,7 +46,7 @@ record Says (x : Bytes) (n : ℕ) : Type 0 where
 leading_says : (n : ℕ) → (n ≢ 0 → Says (decimal n) n) → Says (leading n) n
 unfolding leading number
 leading_says n some =
-    by-test (eqb n 0)
+    by_test (eqb n 0)
     (λ e. rw e (record { digits = tt; value = sym (eqb-true n 0 e) }))
     (λ e. rw e (some (eqb-false n 0 e)))
 
@@ -127,7 +127,7 @@ fields_same end low f g (suc k) e i h = go i h (λ j l. fields_same (λ i. end (
 
 ending_low : (i : ℕ) → ending i ≤ space
 unfolding ending
-ending_low i = by-test (eqb i (field_count - 1)) (λ e. rw e (omega arith)) (λ e. rw e (omega arith))
+ending_low i = by_test (eqb i (field_count - 1)) (λ e. rw e (omega arith)) (λ e. rw e (omega arith))
 
 line_says : (fs gs : List Field) → line fs ≡ line gs → (i : ℕ) → i < field_count → get_or fs i (Number 0) ≡ get_or gs i (Number 0)
 unfolding line

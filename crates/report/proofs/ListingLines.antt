@@ -12,7 +12,7 @@ use lib.Dec.{eqb}
 use Rattle.base.specs.Bytes.{Bytes, concat}
 use Rattle.base.specs.List.{list_below}
 use Rattle.base.proofs.Parts.{concat_append}
-use Rattle.base.proofs.Tests.{by-test}
+use Rattle.base.proofs.Tests.{by_test}
 use Rattle.sha256.specs.Sha256.{sha256}
 use Rattle.setup.specs.Setup.{slot_count}
 use Rattle.block.specs.Layout.{site_of, sequence_of}
@@ -57,7 +57,7 @@ deliveries f (suc k) = before (f 0) (deliveries (λ i. f (suc i)) k)
 
 before_joined : (d : Delivery) (rest : List Bytes) → concat (before d rest) ≡ delivery_text d ++ concat rest
 unfolding before delivery_text concat
-before_joined d rest = by-test (eqb d.number 0) (λ e. rw e) (λ e. rw e)
+before_joined d rest = by_test (eqb d.number 0) (λ e. rw e) (λ e. rw e)
 
 deliveries_joined : (f : ℕ → Delivery) (k : ℕ) → concat (deliveries f k) ≡ concat (list_below (λ i. delivery_text (f i)) k)
 unfolding deliveries concat list_below
@@ -73,7 +73,7 @@ unfolding deliveries before
 deliveries_lines f zero = tt
 deliveries_lines f (suc k) =
     let rest = deliveries_lines (λ i. f (suc i)) k in
-    by-test (eqb (f 0).number 0) (λ e. rw e rest) (λ e. rw e (delivery_is_line (f 0), rest))
+    by_test (eqb (f 0).number 0) (λ e. rw e rest) (λ e. rw e (delivery_is_line (f 0), rest))
 
 deliveries_have : (f : ℕ → Delivery) (k i : ℕ) → i < k → (f i).number ≢ 0 → Memᴰ (delivery_line (f i)) (deliveries f k)
 unfolding deliveries before
@@ -81,7 +81,7 @@ deliveries_have f zero i h n = absurd (omega arith)
 deliveries_have f (suc k) zero h n = rw (ne_eqb (f 0).number 0 n) (mathlib.Core.List.Memᴰ.head refl)
 deliveries_have f (suc k) (suc i) h n =
     let there = deliveries_have (λ i. f (suc i)) k i (le_of_suc-le-suc h) n in
-    by-test (eqb (f 0).number 0) (λ e. rw e there) (λ e. rw e (mathlib.Core.List.Memᴰ.tail there))
+    by_test (eqb (f 0).number 0) (λ e. rw e there) (λ e. rw e (mathlib.Core.List.Memᴰ.tail there))
 
 -- one of the first k
 record OneOf (f : ℕ → Delivery) (k : ℕ) (line : Bytes) : Type 0 where
@@ -129,7 +129,7 @@ module _ (x : Site) (b : Bytes) (verdict arrival : ℕ) where
 
   arrival_joined : concat arrival_texts ≡ arrival_lines sha256 x b verdict arrival
   unfolding arrival_texts arrival_lines delivery_lines concat
-  arrival_joined = by-test (eqb refusal 0) (λ e. rw e (deliveries_joined in_slot slot_count)) (λ e. rw e (append-nil (refused_line arrival refusal)))
+  arrival_joined = by_test (eqb refusal 0) (λ e. rw e (deliveries_joined in_slot slot_count)) (λ e. rw e (append-nil (refused_line arrival refusal)))
 
 pub refusal_is_line : (what : Field) (refusal : ℕ) → is_line (refusal_line what refusal) ≡ true
 unfolding refusal_line
@@ -156,7 +156,7 @@ texts_lines arrival x [] = tt
 texts_lines arrival x (unread ∷ rest) = (refusal_is_line (Number arrival) 3, texts_lines (suc arrival) x rest)
 texts_lines arrival x (arrived b verdict ∷ rest) =
     lines_append (arrival_texts x b verdict arrival) (texts_from (suc arrival) (site_arrived sha256 x b verdict) rest)
-    (by-test (eqb (refusal x b verdict arrival) 0) (λ e. rw e (deliveries_lines (in_slot x b verdict arrival) slot_count))
+    (by_test (eqb (refusal x b verdict arrival) 0) (λ e. rw e (deliveries_lines (in_slot x b verdict arrival) slot_count))
     (λ e. rw e (refusal_is_line (Number arrival) (refusal x b verdict arrival), tt)))
     (texts_lines (suc arrival) (site_arrived sha256 x b verdict) rest)
 
@@ -169,7 +169,7 @@ texts_kinds arrival x (unread ∷ rest) line m = elim (mathlib.Core.List.Memᴰ.
   | inr n ↦ texts_kinds (suc arrival) x rest line n
 ]
 texts_kinds arrival x (arrived b verdict ∷ rest) line m = elim (mathlib.Core.List.Memᴰ.append_cases (arrival_texts x b verdict arrival) m) [
-  | inl n ↦ by-test (eqb (refusal x b verdict arrival) 0)
+  | inl n ↦ by_test (eqb (refusal x b verdict arrival) 0)
       (λ e.
       let w = deliveries_from (in_slot x b verdict arrival) slot_count line (subst (Memᴰ line) (passed_texts x b verdict arrival (eqb-true _ 0 e)) n) in
       inl (record { made = in_slot x b verdict arrival w.index; low = w.below; text = w.text }))
@@ -207,7 +207,7 @@ line_shown arrival x (unread ∷ rest) d m = elim (mathlib.Core.List.Memᴰ.case
   | inr n ↦ past (line_shown (suc arrival) x rest d n)
 ]
 line_shown arrival x (arrived b verdict ∷ rest) d m = elim (mathlib.Core.List.Memᴰ.append_cases (arrival_texts x b verdict arrival) m) [
-  | inl n ↦ by-test (eqb (refusal x b verdict arrival) 0)
+  | inl n ↦ by_test (eqb (refusal x b verdict arrival) 0)
       (λ e.
       let z = eqb-true _ 0 e in
       let w = deliveries_from (in_slot x b verdict arrival) slot_count (delivery_line d) (subst (Memᴰ (delivery_line d)) (passed_texts x b verdict arrival z) n) in

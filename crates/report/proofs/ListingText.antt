@@ -7,7 +7,7 @@ use mathlib.Core.List.{List, [], ◌∷◌, ◌++◌, append-nil, Memᴰ}
 use Prim.Native.Nat.{ℕ, ◌<◌}
 use lib.ListN.{drop}
 use Rattle.base.specs.Bytes.{Bytes, concat}
-use Rattle.base.proofs.Tests.{by-test}
+use Rattle.base.proofs.Tests.{by_test}
 use Rattle.setup.specs.Setup.{Setup, lawful, slot_count}
 use Rattle.run.specs.Run.{Site, started}
 use Rattle.report.specs.declared.Delivery.{Delivery}
@@ -39,13 +39,13 @@ module _ (buffer : List ℕ) (input : Bytes) where
   text_joined : text buffer input ≡ concat (names ∷ further)
   unfolding listing concat further
   text_joined =
-      by-test (lawful setup)
+      by_test (lawful setup)
       (λ y. rw y (ap (λ (b : Bytes). names ++ b) (sym (texts_joined 0 site all))))
       (λ n. rw n (ap (λ (b : Bytes). names ++ b) (sym (append-nil (setup_line 1)))))
 
   further_lines : AllLines further
   unfolding further
-  further_lines = by-test (lawful setup) (λ y. rw y (texts_lines 0 site all)) (λ n. rw n (refusal_is_line Empty 1, tt))
+  further_lines = by_test (lawful setup) (λ y. rw y (texts_lines 0 site all)) (λ n. rw n (refusal_is_line Empty 1, tt))
 
   lines_are : lines_in (text buffer input) ≡ names ∷ further
   lines_are = ap lines_in text_joined ∙ split_all (names ∷ further) (names_line, further_lines)
@@ -53,7 +53,7 @@ module _ (buffer : List ℕ) (input : Bytes) where
   further_kinds : (line : Bytes) → Memᴰ line further → Delivers line ⊎ Refuses line
   unfolding further
   further_kinds line =
-      by-test (lawful setup)
+      by_test (lawful setup)
       (λ y. rw y (texts_kinds 0 site all line))
       (λ n. rw n (λ m. elim (Memᴰ.cases_cons m) [ inl q ↦ inr (record { what = Empty; refusal = 1; text = q }) | inr z ↦ absurd (Memᴰ.not-nil z) ]))
 

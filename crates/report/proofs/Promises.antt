@@ -7,7 +7,7 @@ use native.Mathlib.Omega.{arith}
 use lib.ListN.{length, take, drop, length-take, length-drop}
 use lib.Seq.{get_or-take}
 use Rattle.base.specs.Bytes.{Bytes, concat}
-use Rattle.base.proofs.Tests.{by-test}
+use Rattle.base.proofs.Tests.{by_test}
 use Rattle.base.proofs.Parts.{part_of_front}
 use Rattle.setup.specs.Setup.{Setup, lawful, slot_count}
 use Rattle.setup.proofs.Thresholds.{eight_owners}
@@ -61,7 +61,7 @@ module _ (digest : Bytes → Bytes) (input : Bytes) (x : Site) where
       (lists digest 0 site (drop setup_size input) (omega (arith, length-drop setup_size input))))
 
   input_listed : length x.table ≡ table_size → length input < count_limit → Writes digest start x input (listing digest x.records input)
-  input_listed sized few = by-test (lawful setup) (λ law. lawful_listed law sized few) unlawful_listed
+  input_listed sized few = by_test (lawful setup) (λ law. lawful_listed law sized few) unlawful_listed
 
 pub promises : (digest : Bytes → Bytes) → Promises digest
 promises digest =

@@ -9,7 +9,7 @@ use lib.ListN.{length, take, drop, length-take, length-drop, drop_of_length-le}
 use lib.Seq.{drop-drop}
 use borrow.Author.Tests.{ltb-true, ltb-false, leb-true, leb-false}
 use Rattle.base.specs.Bytes.{Bytes}
-use Rattle.base.proofs.Tests.{by-test}
+use Rattle.base.proofs.Tests.{by_test}
 use Rattle.run.specs.Run.{Site}
 use Rattle.report.specs.Framing.{piece_size, wanted_by, expecting, outcome_of, step_by, site_by, run}
 use Rattle.report.specs.declared.Expected.TheVariants.{Length, Skip}
@@ -65,11 +65,11 @@ module _ (digest : Bytes → Bytes) (arrival : ℕ) (x : Site) where
   skipped_within : (n left : ℕ) (input text : Bytes) → left ≤ n → 1 ≤ left
       → Writes digest length_next x (drop left input) text → Writes digest (skipping left) x input text
   skipped_within zero left input text h some w = absurd (omega arith)
-  skipped_within (suc n) left input text h some w = by-test (ltb (length input) (min left piece_size))
+  skipped_within (suc n) left input text h some w = by_test (ltb (length input) (min left piece_size))
       (λ short. cut_skipped left input text (ltb-true (length input) (min left piece_size) short) w)
       (λ whole.
       let there : min left piece_size ≤ length input = ltb-false (length input) (min left piece_size) whole in
-      by-test (leb left piece_size)
+      by_test (leb left piece_size)
       (λ last. last_skipped left input text there some (leb-true left piece_size last) w)
       (λ long.
       let more : piece_size < left = leb-false left piece_size long in

@@ -9,7 +9,7 @@ use lib.Dec.{eqb}
 use lib.ListN.{length, get_or}
 use Rattle.base.specs.Bytes.{Bytes, concat}
 use Rattle.base.specs.List.{list_below}
-use Rattle.base.proofs.Tests.{true-not-false}
+use Rattle.base.proofs.Tests.{true_not_false}
 use Rattle.report.specs.declared.Field.{Field}
 use Rattle.report.specs.declared.Field.TheVariants.{Number}
 use Rattle.report.specs.Text.{ascii, space, line_feed, field_text, ending, line, names}
@@ -28,7 +28,7 @@ nothing (c ∷ cs) e = absurd (omega arith)
 -- the first line is split off
 split_line : (x : Bytes) → is_line x ≡ true → (before rest : Bytes) → lines_after before (x ++ rest) ≡ (before ++ x) ∷ lines_after [] rest
 unfolding is_line lines_after
-split_line [] y before rest = true-not-false y refl
+split_line [] y before rest = true_not_false y refl
 split_line (c ∷ cs) y before rest = go (eqb c line_feed) y (λ l. split_line cs l (before ++ (c ∷ [])) rest)
   where
     go : (t : Bool) → cond t (eqb (length cs) 0) (is_line cs) ≡ true

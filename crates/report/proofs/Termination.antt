@@ -8,7 +8,7 @@ use lib.Dec.{ltb}
 use lib.ListN.{length, drop, length-take, length-drop}
 use borrow.Author.Tests.{ltb-true, ltb-false}
 use Rattle.base.specs.Bytes.{Bytes}
-use Rattle.base.proofs.Tests.{by-test}
+use Rattle.base.proofs.Tests.{by_test}
 use Rattle.run.specs.Run.{Site}
 use Rattle.report.specs.Framing.{wanted}
 use Rattle.report.specs.Gathering.{Gathering, no_steps, piece_at, due, one_more, gather_on, gathering}
@@ -48,7 +48,7 @@ module _ (digest : Bytes → Bytes) (unread : Bytes) (is_ended : Bool) (size : �
   less_work g w d =
       let wants : 0 < wanted g.state = (is_due_lem is_ended g.state (length unread - g.used) (size - length g.lines) d).wants in
       let l : length (piece_at g.state g.used unread) ≡ min (wanted g.state) (length unread - g.used) = length_piece g.state g.used unread in
-      by-test (ltb g.used (length unread))
+      by_test (ltb g.used (length unread))
       (λ some. let more : g.used < length unread = ltb-true g.used (length unread) some in omega arith)
       (λ none.
       let all : length unread ≤ g.used = ltb-false g.used (length unread) none in
@@ -75,17 +75,17 @@ module _ (digest : Bytes → Bytes) (unread : Bytes) (is_ended : Bool) (size : �
 
   pub enough : (n m : ℕ) (g : Gathering) → g.used ≤ length unread → work (length unread) g.state g.used ≤ n → work (length unread) g.state g.used ≤ m
       → gather_on digest unread is_ended size n g ≡ gather_on digest unread is_ended size m g
-  enough zero m g w h k = by-test (is_due_at g) (λ d. absurd (omega (arith, less_work g w d))) (λ d. none_due zero g d ∙ sym (none_due m g d))
-  enough (suc n) zero g w h k = by-test (is_due_at g) (λ d. absurd (omega (arith, less_work g w d))) (λ d. none_due (suc n) g d ∙ sym (none_due zero g d))
-  enough (suc n) (suc m) g w h k = by-test (is_due_at g)
+  enough zero m g w h k = by_test (is_due_at g) (λ d. absurd (omega (arith, less_work g w d))) (λ d. none_due zero g d ∙ sym (none_due m g d))
+  enough (suc n) zero g w h k = by_test (is_due_at g) (λ d. absurd (omega (arith, less_work g w d))) (λ d. none_due (suc n) g d ∙ sym (none_due zero g d))
+  enough (suc n) (suc m) g w h k = by_test (is_due_at g)
       (λ d.
       let less : work_at (next g) < work_at g = less_work g w d in
       one_due n g d ∙ enough n m (next g) (next_within g w) (omega arith) (omega arith) ∙ sym (one_due m g d))
       (λ d. none_due (suc n) g d ∙ sym (none_due (suc m) g d))
 
   settled : (n : ℕ) (g : Gathering) → Within g → work_at g ≤ n → is_due_at (on n g) ≡ false
-  settled zero g w h = by-test (is_due_at g) (λ d. absurd (omega (arith, less_work g w d))) (λ d. ap is_due_at (none_due zero g d) ∙ d)
-  settled (suc n) g w h = by-test (is_due_at g)
+  settled zero g w h = by_test (is_due_at g) (λ d. absurd (omega (arith, less_work g w d))) (λ d. ap is_due_at (none_due zero g d) ∙ d)
+  settled (suc n) g w h = by_test (is_due_at g)
       (λ d. ap is_due_at (one_due n g d) ∙ settled n (next g) (next_within g w) (omega (arith, less_work g w d)))
       (λ d. ap is_due_at (none_due (suc n) g d) ∙ d)
 
@@ -98,7 +98,7 @@ module _ (digest : Bytes → Bytes) (unread : Bytes) (is_ended : Bool) (size : �
   pub kept_on : (P : Gathering → Type 0) → ((g : Gathering) → due digest unread is_ended size g ≡ true → P g → P (one_more digest unread is_ended size g))
       → (n : ℕ) (g : Gathering) → P g → P (gather_on digest unread is_ended size n g)
   kept_on P keep zero g p = subst P (sym (no_more g)) p
-  kept_on P keep (suc n) g p = by-test (is_due_at g)
+  kept_on P keep (suc n) g p = by_test (is_due_at g)
       (λ d. subst P (sym (one_due n g d)) (kept_on P keep n (next g) (keep g d p)))
       (λ d. subst P (sym (none_due (suc n) g d)) p)
 

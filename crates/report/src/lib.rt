@@ -4,6 +4,9 @@
 // the lines stand in their order, in however many parts the input comes (specs/Promises.antt); no interpretation is refused, and what a listing shows
 // is delivered in the ledger of its calls (specs/ListingCalls.antt); and the deliveries' lines of a listing's text are what the listing shows
 // (specs/Lines.antt). Assumes nothing.
+
+#![tactic(auto)]
+
 mod arrival;
 mod framing;
 mod gathering;

@@ -12,7 +12,7 @@ use borrow.Author.Tests.{eqb-true, eq-eqb, lt-ltb, ltb-true}
 use Rattle.base.specs.Search.{any_below}
 use Rattle.base.specs.List.{some_in}
 use Rattle.base.specs.Bytes.{Bytes}
-use Rattle.base.proofs.Tests.{by-test, and_left, and_right}
+use Rattle.base.proofs.Tests.{by_test, and_left, and_right}
 use Rattle.base.proofs.Search.{any_true, any_true_at, any_false}
 use Rattle.answer.specs.Checks.{Check}
 use Rattle.answer.specs.Promises.{elsewhere, different, Decided}
@@ -43,7 +43,7 @@ module _ (t : Bytes) where
   is_follows i f = rw (eq-eqb (site_at t i) (site_at t 0) f.site, f.marked, lt-ltb (sequence_at t 0) (sequence_at t i) f.greater)
 
   none_waits : ((i : ℕ) → i < count_of t → (row_at t i).refers_to 0 ≡ true → mark_at t i ≡ 1) → any_below (waits_for_first (view_of t)) (count_of t) ≡ false
-  none_waits all = any_false (waits_for_first (view_of t)) (count_of t) (λ i h. by-test ((row_at t i).refers_to 0) (λ y. rw (y, all i h y)) (λ n. rw n))
+  none_waits all = any_false (waits_for_first (view_of t)) (count_of t) (λ i h. by_test ((row_at t i).refers_to 0) (λ y. rw (y, all i h y)) (λ n. rw n))
 
   retirable_is : (retirable (view_of t) ≡ true) ↔ Retirable t
   unfolding retirable

@@ -12,7 +12,7 @@ use lib.ListN.{length}
 use borrow.Author.Tests.{eqb-true, eqb-false, eq-eqb, ne_eqb, lt-ltb, ltb-true, not-true, not-false}
 use Rattle.base.specs.Search.{any_below}
 use Rattle.base.specs.Bytes.{Bytes}
-use Rattle.base.proofs.Tests.{by-test, and_left, and_right, and_not_right, or_cases, or_true}
+use Rattle.base.proofs.Tests.{by_test, and_left, and_right, and_not_right, or_cases, or_true}
 use Rattle.base.proofs.Search.{any_false_at}
 use Rattle.base.proofs.Count.{count_first, count_same}
 use Rattle.answer.specs.Promises.{FirstHold, elsewhere, different}
@@ -85,7 +85,7 @@ module _ (s : Setup) (v : View) (form : ViewInForm s v) (r : retirable v ≡ tru
     parent_left = elim (or_cases (parent_rule v (suc i) here) _ was.parent) [
       | inl p ↦ elim (or_cases (eqb here.sequence 0) _ p) [
         | inl z ↦ has_rule (rw z)
-        | inr o ↦ let one : parents v (suc i) here ≡ 1 = eqb-true _ 1 o in by-test (is_one 0)
+        | inr o ↦ let one : parents v (suc i) here ≡ 1 = eqb-true _ 1 o in by_test (is_one 0)
             (λ y. let c : ◌≡◌ {A = ℕ} (cond (is_one 0) 1 0) 1 = rw y in
             none_left (omega (arith, parents_moved)) (waits_none v r (suc i) h (and_left (here.refers_to 0) (parent_row here (v.row 0)) y)))
             (λ n. let c : ◌≡◌ {A = ℕ} (cond (is_one 0) 1 0) 0 = rw n in
@@ -163,7 +163,7 @@ module _ (t : Bytes) (buffer : List ℕ) where
   refused n = let z = ne_eqb (retiring t buffer).refusal 0 n in (rw z, rw z)
 
   either : (P : Bytes → Type 0) → P t → ((retiring t buffer).refusal ≡ 0 → P (move_down t)) → P (retired_table t buffer)
-  either P was now = by-test (eqb (retiring t buffer).refusal 0)
+  either P was now = by_test (eqb (retiring t buffer).refusal 0)
       (λ y. let e = eqb-true (retiring t buffer).refusal 0 y in subst P (sym (table_passed t buffer e)) (now e))
       (λ n. subst P (sym (refused (eqb-false (retiring t buffer).refusal 0 n)).0) was)
 
@@ -171,6 +171,6 @@ module _ (t : Bytes) (buffer : List ℕ) where
   kept f = either (λ (x : Bytes). in_form x ≡ true) f (form_left t buffer)
 
   pub sized : length (retired_records t buffer) ≡ length buffer
-  sized = by-test (eqb (retiring t buffer).refusal 0)
+  sized = by_test (eqb (retiring t buffer).refusal 0)
       (λ y. let e = eqb-true (retiring t buffer).refusal 0 y in ap length (records_passed t buffer e) ∙ (parts_left t buffer e).size)
       (λ n. ap length (refused (eqb-false (retiring t buffer).refusal 0 n)).1)

@@ -1,6 +1,9 @@
 // Retiring: place 0 leaves the table, and every other place and its records move down by one. Promises: `retire` answers and leaves what
 // specs/Retiring.antt says, for any table and record buffer; form is kept, each of 2, 12, 13 and 29 comes under its cause and under no other,
 // and a campaign whose places are all interpreted can go on (specs/Promises.antt). Assumes nothing.
+
+#![tactic(auto)]
+
 mod may;
 
 ghost use Rattle.std.specs.Prelude.{◌≡◌};

@@ -11,7 +11,7 @@ use lib.ListN.{length, get_or, drop, length-drop}
 use borrow.Author.Tests.{eq-eqb, ne_eqb, eqb-true, eqb-false, le-leb, lt-leb, leb-true}
 use Rattle.base.specs.Bytes.{Bytes}
 use Rattle.base.specs.LowFirst.{low_first_at}
-use Rattle.base.proofs.Tests.{by-test, and_left, and_right, and_false, or_cases}
+use Rattle.base.proofs.Tests.{by_test, and_left, and_right, and_false, or_cases}
 use Rattle.run.specs.Ledger.{Call}
 use Rattle.run.specs.Encoding.{admission_byte, interpretation_byte, retiring_byte, taking_back_byte, admission_header, interpretation_size, bare_size, admission_first, interpretation_first, bare_first, first_size, first_call, first_calls, calls_in}
 use Rattle.run.specs.Steps.{WholeCall}
@@ -79,10 +79,10 @@ module _ (b : Bytes) where
 
   pub size_within : first_size b ≤ length b
   unfolding first_size
-  size_within = by-test (admission_first b)
+  size_within = by_test (admission_first b)
       (λ y. rw y (leb-true (admission_header + low_first_at b 2) (length b) (search (and_right, y))))
-      (λ n. by-test (interpretation_first b) (λ y. rw (n, y) (leb-true interpretation_size (length b) (search (and_right, y))))
-      (λ m. by-test (bare_first b) (λ y. rw (n, m, y) (leb-true bare_size (length b) (search (and_right, y)))) (λ o. rw (n, m, o) (omega arith))))
+      (λ n. by_test (interpretation_first b) (λ y. rw (n, y) (leb-true interpretation_size (length b) (search (and_right, y))))
+      (λ m. by_test (bare_first b) (λ y. rw (n, m, y) (leb-true bare_size (length b) (search (and_right, y)))) (λ o. rw (n, m, o) (omega arith))))
 
   none_first : admission_first b ≡ false → interpretation_first b ≡ false → bare_first b ≡ false → first_size b ≡ 0
   unfolding first_size
@@ -95,16 +95,16 @@ module _ (b : Bytes) where
   ]
 
   pub first_whole : first_size b ≢ 0 → WholeCall b
-  first_whole some = by-test (admission_first b)
+  first_whole some = by_test (admission_first b)
       (λ y.
       let header : admission_header ≤ length b = leb-true admission_header (length b) (search (and_left, and_right, y)) in
       record { some = omega arith; word = λ _. omega arith; block = λ _. leb-true (admission_header + low_first_at b 2) (length b) (search (and_right, y)) })
-      (λ n. by-test (interpretation_first b)
+      (λ n. by_test (interpretation_first b)
       (λ y.
       let first : get_or b 0 0 ≡ interpretation_byte = eqb-true (get_or b 0 0) interpretation_byte (search (and_left, y)) in
       let word : interpretation_size ≤ length b = leb-true interpretation_size (length b) (search (and_right, y)) in
       record { some = omega arith; word = λ _. word; block = λ e. absurd (omega arith) })
-      (λ m. by-test (bare_first b)
+      (λ m. by_test (bare_first b)
       (λ y.
       let bare = bare_byte (search (and_left, y)) in
       record { some = leb-true bare_size (length b) (search (and_right, y)); word = λ e. absurd (bare.0 e); block = λ e. absurd (bare.1 e) })
@@ -125,7 +125,7 @@ one_here k b n = rw (ne_eqb (first_size b) 0 n, first_calls)
 enough : (k m : ℕ) (b : Bytes) → length b ≤ k → length b ≤ m → first_calls k b ≡ first_calls m b
 enough zero m b h l = let e : first_size b ≡ 0 = omega (arith, size_within b) in none_here 0 b e ∙ sym (none_here m b e)
 enough (suc k) zero b h l = let e : first_size b ≡ 0 = omega (arith, size_within b) in none_here (suc k) b e ∙ sym (none_here 0 b e)
-enough (suc k) (suc m) b h l = by-test (eqb (first_size b) 0)
+enough (suc k) (suc m) b h l = by_test (eqb (first_size b) 0)
     (λ y. let e = eqb-true (first_size b) 0 y in none_here (suc k) b e ∙ sym (none_here (suc m) b e))
     (λ n.
     let some : first_size b ≢ 0 = eqb-false (first_size b) 0 n in

@@ -8,7 +8,7 @@ use native.Mathlib.Omega.{arith}
 use lib.Dec.{eqb}
 use lib.ListN.{length}
 use Rattle.base.specs.Bytes.{Bytes}
-use Rattle.base.proofs.Tests.{by-test, true-not-false}
+use Rattle.base.proofs.Tests.{by_test, true_not_false}
 use Rattle.setup.specs.Setup.{Setup}
 use Rattle.run.specs.Ledger.{Call, admit, interpret, retire, take_back, Ledger, taken, retired_mark, ledger_answer, ledger_step, ledger_after}
 
@@ -23,7 +23,7 @@ unfolding taken
 taken_keeps l (admit a verdict) e b m = Memᴰ.tail m
 taken_keeps l (interpret i) e b m = m
 taken_keeps l retire e b m = m
-taken_keeps l take_back e b m = true-not-false refl e
+taken_keeps l take_back e b m = true_not_false refl e
 
 pub some_retired : (b : Bytes) (bs : List Bytes) → b ∷ bs ≡ [] → ⊥
 some_retired b bs e = let n : length (b ∷ bs) ≡ 0 = ap length e in omega arith
@@ -50,7 +50,7 @@ taken_plain : (l : Ledger) (c : Call) → is_retiring c ≡ false → (taken l c
 unfolding taken
 taken_plain l (admit b verdict) e = refl
 taken_plain l (interpret i) e = refl
-taken_plain l retire e = true-not-false refl e
+taken_plain l retire e = true_not_false refl e
 taken_plain l take_back e = refl
 
 -- none of the calls is a taking back
@@ -61,7 +61,7 @@ NoneBack (c ∷ cs) = (is_taking_back c ≡ false) × NoneBack cs
 module _ (digest : Bytes → Bytes) (s : Setup) (size : ℕ) where
   pub step_keeps : (l : Ledger) (c : Call) → is_taking_back c ≡ false → (b : Bytes) → Memᴰ b l.blocks → Memᴰ b (ledger_step digest s size l c).blocks
   unfolding ledger_step
-  step_keeps l c e b m = by-test (eqb (ledger_answer digest s size l c).refusal 0) (λ y. rw y (taken_keeps l c e b m)) (λ n. rw n m)
+  step_keeps l c e b m = by_test (eqb (ledger_answer digest s size l c).refusal 0) (λ y. rw y (taken_keeps l c e b m)) (λ n. rw n m)
 
   pub after_keeps : (l : Ledger) (cs : List Call) → NoneBack cs → (b : Bytes) → Memᴰ b l.blocks → Memᴰ b (ledger_after digest s size l cs).blocks
   unfolding ledger_after
@@ -70,12 +70,12 @@ module _ (digest : Bytes → Bytes) (s : Setup) (size : ℕ) where
 
   pub step_unretired : (l : Ledger) (c : Call) → (ledger_step digest s size l c).retired ≡ [] → l.retired ≡ []
   unfolding ledger_step
-  step_unretired l c e = by-test (eqb (ledger_answer digest s size l c).refusal 0) (λ y. taken_unretired l c (rw y at e)) (λ n. rw n at e)
+  step_unretired l c e = by_test (eqb (ledger_answer digest s size l c).refusal 0) (λ y. taken_unretired l c (rw y at e)) (λ n. rw n at e)
 
   -- where none of them is a retiring, nothing is retired
   step_plain : (l : Ledger) (c : Call) → is_retiring c ≡ false → (ledger_step digest s size l c).retired ≡ l.retired
   unfolding ledger_step
-  step_plain l c e = by-test (eqb (ledger_answer digest s size l c).refusal 0) (λ y. rw y (taken_plain l c e)) (λ n. rw n)
+  step_plain l c e = by_test (eqb (ledger_answer digest s size l c).refusal 0) (λ y. rw y (taken_plain l c e)) (λ n. rw n)
 
   pub after_plain : (l : Ledger) (cs : List Call) → ((c : Call) → Memᴰ c cs → is_retiring c ≡ false) → (ledger_after digest s size l cs).retired ≡ l.retired
   unfolding ledger_after

@@ -8,7 +8,7 @@ use lib.Dec.{eqb}
 use lib.ListN.{length}
 use borrow.Author.Tests.{eqb-true, eqb-false}
 use Rattle.base.specs.Bytes.{Bytes, splice}
-use Rattle.base.proofs.Tests.{by-test}
+use Rattle.base.proofs.Tests.{by_test}
 use Rattle.base.proofs.Splice.{length_splice}
 use Rattle.setup.specs.Setup.{Setup}
 use Rattle.table.specs.Layout.{setup_of, view_of}
@@ -48,10 +48,10 @@ module _ (digest : Bytes → Bytes) (s : Setup) (size : ℕ) (l : Ledger) (x : S
   records_sized_lem = length_splice x.records (part_start i) new (omega (arith, new_length, fits)) ∙ t.sized
 
   still : (j : ℕ) → l.mark j ≡ 1 → cond (eqb j i) 1 (l.mark j) ≡ 1
-  still j m = by-test (eqb j i) (λ y. rw y) (λ n. rw n m)
+  still j m = by_test (eqb j i) (λ y. rw y) (λ n. rw n m)
 
   shown : (j : ℕ) → j < l.held → cond (eqb j i) 1 (l.mark j) ≡ 1 → part_of records_after j ≡ meaning s (g.history j)
-  shown j h m = by-test (eqb j i)
+  shown j h m = by_test (eqb j i)
       (λ y. let q : j ≡ i = eqb-true j i y in
       ap (part_of records_after) q ∙ part_written x.records new i new_length fits ∙ new_is ∙ ap (λ (k : ℕ). meaning s (g.history k)) (sym q))
       (λ n. part_other x.records new i new_length fits j (eqb-false j i n) ∙ g.shown j h (sym (ap (λ (z : Bool). cond z 1 (l.mark j)) n) ∙ m))

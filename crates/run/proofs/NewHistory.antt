@@ -12,7 +12,7 @@ use borrow.Author.Tests.{eqb-true, lt-ltb}
 use Rattle.base.specs.Search.{any_below}
 use Rattle.base.specs.Count.{count_below}
 use Rattle.base.specs.Bytes.{Bytes}
-use Rattle.base.proofs.Tests.{by-test, and_left, and_right, or_cases}
+use Rattle.base.proofs.Tests.{by_test, and_left, and_right, or_cases}
 use Rattle.base.proofs.Search.{any_first, first_passes, any_false_at}
 use Rattle.base.proofs.Count.{count_some, count_one}
 use Rattle.base.proofs.Bytes.{same_equal, same_other}
@@ -71,7 +71,7 @@ module _ (digest : Bytes → Bytes) (t : Bytes) (block : ℕ → Bytes)
   place r = place_of (view_of t) (count_of t) r
 
   there : (r : Bytes) → Memᴰ r (references_of b) → any_below (has_digest (view_of t) r) (count_of t) ≡ true
-  there r m = by-test (any_below (has_digest (view_of t) r) (count_of t)) (λ y. y) (λ n. absurd (lost n))
+  there r m = by_test (any_below (has_digest (view_of t) r) (count_of t)) (λ y. y) (λ n. absurd (lost n))
     where
       lost : any_below (has_digest (view_of t) r) (count_of t) ≡ false → ⊥
       lost n =

@@ -15,7 +15,7 @@ use lib.Seq.{length-take-le}
 use borrow.Author.Tests.{eq-eqb, eqb-true, eqb-false, lt-ltb, le-ltb, ltb-true, ltb-false}
 use Rattle.base.specs.Bytes.{Bytes, splice}
 use Rattle.base.proofs.Members.{member_behind}
-use Rattle.base.proofs.Tests.{by-test, true-not-false, not_true_false}
+use Rattle.base.proofs.Tests.{by_test, true_not_false, not_true_false}
 use Rattle.base.proofs.Splice.{length_splice}
 use Rattle.setup.specs.Setup.{Setup, lawful}
 use Rattle.block.specs.Limits.{reference_size}
@@ -82,16 +82,16 @@ restored t records buffer (suc k) =
 module _ (digest : Bytes → Bytes) (s : Setup) (size : ℕ) where
   step_blocks : (l : Ledger) (c : Call) (b : Bytes) → Memᴰ b (ledger_step digest s size l c).blocks → Memᴰ b l.blocks ⊎ ((verdict : ℕ) × (c ≡ admit b verdict))
   unfolding ledger_step taken
-  step_blocks l (admit a verdict) b k = by-test (eqb (ledger_answer digest s size l (admit a verdict)).refusal 0)
+  step_blocks l (admit a verdict) b k = by_test (eqb (ledger_answer digest s size l (admit a verdict)).refusal 0)
       (λ y. elim (Memᴰ.cases_cons (rw y at k)) [ inl e ↦ inr (verdict, ap (λ (x : Bytes). admit x verdict) (sym e)) | inr o ↦ inl o ])
       (λ z. inl (rw z at k))
-  step_blocks l (interpret i) b k = by-test (eqb (ledger_answer digest s size l (interpret i)).refusal 0)
+  step_blocks l (interpret i) b k = by_test (eqb (ledger_answer digest s size l (interpret i)).refusal 0)
       (λ y. inl (rw y at k))
       (λ z. inl (rw z at k))
-  step_blocks l retire b k = by-test (eqb (ledger_answer digest s size l retire).refusal 0)
+  step_blocks l retire b k = by_test (eqb (ledger_answer digest s size l retire).refusal 0)
       (λ y. inl (rw y at k))
       (λ z. inl (rw z at k))
-  step_blocks l take_back b k = by-test (eqb (ledger_answer digest s size l take_back).refusal 0)
+  step_blocks l take_back b k = by_test (eqb (ledger_answer digest s size l take_back).refusal 0)
       (λ y. inl (member_behind l.blocks b (rw y at k)))
       (λ z. inl (rw z at k))
 
@@ -135,7 +135,7 @@ interpreting_none t (suc k) b verdict m = elim (Memᴰ.append_cases (interpretin
 ]
   where
     last : (z : Bool) → Memᴰ (admit b verdict) (cond z (interpret k ∷ []) []) → ⊥
-    last true o = true-not-false refl (ap is_admission (Memᴰ.eq_of_singleton o))
+    last true o = true_not_false refl (ap is_admission (Memᴰ.eq_of_singleton o))
     last false o = Memᴰ.not-nil o
 
 -- none of them is a retiring
@@ -238,7 +238,7 @@ module _ (digest : Bytes → Bytes) (sized : (b : Bytes) → length (digest b) �
     g = (promises digest sized).shown u b 1 passes
 
     refers_all : (j : ℕ) → j < max_places → (ltb j (count_of u) && lists b (digest_at u j)) ≡ (row_at t k).refers_to j
-    refers_all j h = by-test (ltb j k)
+    refers_all j h = by_test (ltb j k)
         (λ y. refers_is j (ltb-true j k y))
         (λ z. rw (a.count, z) (sym (not_true_false _ (λ y. absurd (omega (arith, row.lower j h y, ltb-false j k z))))))
 
@@ -298,15 +298,15 @@ module _ (digest : Bytes → Bytes) (sized : (b : Bytes) → length (digest b) �
     restored_length zero h = whole
     restored_length (suc k) h =
         let e : length (restored_to k) ≡ buffer_size = restored_length k (omega arith) in
-        by-test (interpreted (row_at t k))
+        by_test (interpreted (row_at t k))
         (λ y. rw y (length_splice (restored_to k) (part_start k) (part_of records k) (omega (arith, part_length k h, few)) ∙ e))
         (λ z. rw z e)
 
     restored_part : (k : ℕ) → k ≤ n → (p : ℕ) → p < k → mark_at t p ≡ 1 → part_of (restored_to k) p ≡ part_of records p
     unfolding restored
     restored_part zero h p l m = absurd (omega arith)
-    restored_part (suc k) h p l m = by-test (interpreted (row_at t k))
-        (λ y. rw y (by-test (eqb p k)
+    restored_part (suc k) h p l m = by_test (interpreted (row_at t k))
+        (λ y. rw y (by_test (eqb p k)
         (λ q. let e : p ≡ k = eqb-true p k q in ap (part_of (splice (restored_to k) (part_start k) (part_of records k))) e
         ∙ part_written (restored_to k) (part_of records k) k (part_length k h) (room k h) ∙ ap (part_of records) (sym e))
         (λ q. part_other (restored_to k) (part_of records k) k (part_length k h) (room k h) p (eqb-false p k q) ∙ restored_part k (omega arith) p (omega (arith, eqb-false p k q)) m)))
@@ -373,9 +373,9 @@ module _ (digest : Bytes → Bytes) (sized : (b : Bytes) → length (digest b) �
             ∙ sym (fixed k here m)
 
         mark_is : (p : ℕ) → p < n → cond (eqb p k) 1 (mark_at w p) ≡ cond (ltb p (suc k)) (mark_at t p) 0
-        mark_is p h = by-test (eqb p k)
+        mark_is p h = by_test (eqb p k)
             (λ y. let e : p ≡ k = eqb-true p k y in rw (y, lt-ltb p (suc k) (omega arith), e, m))
-            (λ z. by-test (ltb p k)
+            (λ z. by_test (ltb p k)
             (λ y. rw (z, lt-ltb p (suc k) (omega (arith, ltb-true p k y))) (mark_low p (ltb-true p k y)))
             (λ o. rw (z, le-ltb p (suc k) (omega (arith, ltb-false p k o, eqb-false p k z))) ((a.same p h).mark ∙ rw o)))
 
@@ -425,9 +425,9 @@ module _ (digest : Bytes → Bytes) (sized : (b : Bytes) → length (digest b) �
           }
         where
           mark_is : (p : ℕ) → cond (ltb p k) (mark_at t p) 0 ≡ cond (ltb p (suc k)) (mark_at t p) 0
-          mark_is p = by-test (ltb p k)
+          mark_is p = by_test (ltb p k)
               (λ y. rw (y, lt-ltb p (suc k) (omega (arith, ltb-true p k y))))
-              (λ o. by-test (eqb p k)
+              (λ o. by_test (eqb p k)
               (λ y. let e : p ≡ k = eqb-true p k y in
               let v : mark_at t p ≡ 0 = ap (mark_at t) e ∙ omega (arith, row_t.mark, eqb-false (mark_at t k) 1 z) in
               rw (o, lt-ltb p (suc k) (omega arith)) (sym v))
@@ -448,7 +448,7 @@ module _ (digest : Bytes → Bytes) (sized : (b : Bytes) → length (digest b) �
     interpreting_all (suc k) h =
         let simulated = ties (calls_to k) in
         let a = interpreting_all k (omega arith) in
-        by-test (interpreted (row_at t k))
+        by_test (interpreted (row_at t k))
         (λ y. subst (Interpreting (suc k))
         (sym (ap (site_with digest s buffer) (ap (λ (cs : List Call). admitting block n ++ (interpreting t k ++ cs)) (ap (λ (z : Bool). cond z (interpret k ∷ []) []) y)
         ∙ sym (append_assoc (admitting block n) (interpreting t k) (interpret k ∷ []))) ∙ after_append digest (started s buffer) (calls_to k) (interpret k ∷ [])))

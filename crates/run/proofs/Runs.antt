@@ -9,7 +9,7 @@ use lib.Dec.{eqb}
 use lib.ListN.{length, drop}
 use borrow.Author.Tests.{eqb-true, eqb-false, eq-eqb, ne_eqb}
 use Rattle.base.specs.Bytes.{Bytes}
-use Rattle.base.proofs.Tests.{by-test, true-not-false}
+use Rattle.base.proofs.Tests.{by_test, true_not_false}
 use Rattle.answer.proofs.Checks.{number_of}
 use Rattle.answer.specs.declared.Answer.{Answer}
 use Rattle.answer.specs.Checks.{Check, check, answer_to}
@@ -45,11 +45,11 @@ after_append digest x (k ∷ cs) ds = after_append digest (site_step digest x k)
 
 admission_not_two : (digest : Bytes → Bytes) (s : Setup) (v : View) (b : Bytes) (verdict value : ℕ) (f : Bool) → f ≡ true
     → (answer_to (admission_checks digest f s v b verdict) value).refusal ≢ 2
-admission_not_two digest s v b verdict value f y e = true-not-false y ((first_refused (decided_by digest f s v b verdict value)).0 e)
+admission_not_two digest s v b verdict value f y e = true_not_false y ((first_refused (decided_by digest f s v b verdict value)).0 e)
 
 -- where the first check is that of form, and holds
 formed_not_two : (cs : List Check) (f : Bool) → f ≡ true → different (check 2 f 0 ∷ cs) ≡ true → (answer_to (check 2 f 0 ∷ cs) 0).refusal ≢ 2
-formed_not_two cs f y d e = true-not-false y ((first_refused (decided (check 2 f 0 ∷ cs) 0 d)).0 e)
+formed_not_two cs f y d e = true_not_false y ((first_refused (decided (check 2 f 0 ∷ cs) 0 d)).0 e)
 
 -- ---- one call
 
@@ -118,7 +118,7 @@ module _ (digest : Bytes → Bytes) (sized : (b : Bytes) → length (digest b) �
     pass take_back e = taking_back_invariant e
 
     pub step_invariant : (c : Call) → RunInvariant (ledger_step digest s size l c) (site_step digest x c)
-    step_invariant c = by-test (eqb (site_answer digest x c).refusal 0)
+    step_invariant c = by_test (eqb (site_answer digest x c).refusal 0)
         (λ y. let e : (site_answer digest x c).refusal ≡ 0 = eqb-true _ 0 y in rw (passed c e) (pass c e))
         (λ n. let e : (site_answer digest x c).refusal ≢ 0 = eqb-false _ 0 n in rw (refused c e, site_stays c e) t)
 

@@ -8,7 +8,7 @@ use lib.Dec.{eqb, ltb}
 use borrow.Author.Tests.{ltb-true}
 use Rattle.base.specs.Search.{first_below, any_below}
 use Rattle.base.specs.Bytes.{Bytes}
-use Rattle.base.proofs.Tests.{by-test}
+use Rattle.base.proofs.Tests.{by_test}
 use Rattle.base.proofs.Search.{first_same_lem, any_same}
 use Rattle.answer.specs.Checks.{Check, check, answer_to}
 use Rattle.setup.specs.Setup.{Setup}
@@ -30,7 +30,7 @@ cut c cs ds value z = rw z
 
 rest_same : (c : Check) (cs ds : List Check) (value : ℕ) → (c.holds ≡ true → answer_to cs value ≡ answer_to ds value) → answer_to (c ∷ cs) value ≡ answer_to (c ∷ ds) value
 unfolding answer_to
-rest_same c cs ds value h = by-test c.holds (λ y. rw (y, h y)) (λ z. cut c cs ds value z)
+rest_same c cs ds value h = by_test c.holds (λ y. rw (y, h y)) (λ z. cut c cs ds value z)
 
 module _ (v w : View) (n : v.held ≡ w.held) (e : SameBelow v w v.held) (f g : Bool) (formed : f ≡ g) where
   module _ (digest : Bytes → Bytes) (b : Bytes) where

@@ -11,7 +11,7 @@ use lib.Dec.{eqb, ltb}
 use lib.ListN.{length, drop}
 use borrow.Author.Tests.{eq-eqb, ne_eqb, lt-ltb, le-ltb, ltb-true, ltb-false}
 use Rattle.base.specs.Bytes.{Bytes}
-use Rattle.base.proofs.Tests.{by-test, and_false}
+use Rattle.base.proofs.Tests.{by_test, and_false}
 use Rattle.base.proofs.Members.{newest, newest_same, newest_all, newest_last}
 use Rattle.answer.specs.Checks.{answer_to}
 use Rattle.setup.specs.Setup.{Setup}
@@ -99,7 +99,7 @@ module _ (digest : Bytes → Bytes) where
 
       -- a place refers to lower places, and those stay
       pub refers_old : (a : Bytes) (i j : ℕ) → i ≤ l.held → (ltb j i && lists a (digest (l.block j))) ≡ (ltb j i && lists a (digest (after.block j)))
-      refers_old a i j h = by-test (ltb j i)
+      refers_old a i j h = by_test (ltb j i)
           (λ y. ap (λ (c : Bytes). ltb j i && lists a (digest c)) (sym (block_old j (omega (arith, ltb-true j i y)))))
           (λ n. rw n)
 
@@ -117,7 +117,7 @@ module _ (digest : Bytes → Bytes) where
 
       -- what the row shows of the places is what the ledger does
       refers_is : (j : ℕ) → (ltb j (count_of table) && lists b (digest_at table j)) ≡ (ltb j l.held && lists b (digest (l.block j)))
-      refers_is j = by-test (ltb j (count_of table))
+      refers_is j = by_test (ltb j (count_of table))
           (λ y. ap₂ (λ (k : ℕ) (d : Bytes). ltb j k && lists b d) t.count (t.rows j (ltb-true j (count_of table) y)).digest)
           (λ z. rw (← t.count, z))
 
@@ -214,7 +214,7 @@ module _ (digest : Bytes → Bytes) where
       pub refers_moved : (i j : ℕ) → suc i < l.held
           → (ltb (suc j) max_places && ((view_in digest l).row (suc i)).refers_to (suc j)) ≡ ((view_in digest (taken l retire)).row i).refers_to j
       unfolding taken
-      refers_moved i j h = by-test (ltb j i)
+      refers_moved i j h = by_test (ltb j i)
           (λ y. let k : j < i = ltb-true j i y in rw (y, lt-ltb (suc j) (suc i) (omega arith), lt-ltb (suc j) max_places (omega (arith, few, t.count))))
           (λ n. let k : i ≤ j = ltb-false j i n in rw (n, le-ltb (suc j) (suc i) (omega arith), and_false (ltb (suc j) max_places)))
 
@@ -226,7 +226,7 @@ module _ (digest : Bytes → Bytes) where
             digest = r.digest;
             site = r.site;
             sequence = r.sequence;
-            refers_to = λ j k. by-test (ltb (suc j) max_places)
+            refers_to = λ j k. by_test (ltb (suc j) max_places)
                 (λ y. ap (λ (z : Bool). ltb (suc j) max_places && z) (r.refers_to (suc j) (ltb-true (suc j) max_places y)) ∙ refers_moved i j h)
                 (λ n. rw n (sym (rw n at (sym (refers_moved i j h)))));
             request = r.request;

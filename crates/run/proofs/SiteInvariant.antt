@@ -11,7 +11,7 @@ use lib.Dec.{eqb}
 use lib.ListN.{length}
 use borrow.Author.Tests.{eqb-true, eqb-false}
 use Rattle.base.specs.Bytes.{Bytes, splice}
-use Rattle.base.proofs.Tests.{by-test, same_tests}
+use Rattle.base.proofs.Tests.{by_test, same_tests}
 use Rattle.setup.specs.Setup.{Setup, lawful, slot_count}
 use Rattle.block.specs.Limits.{reference_size}
 use Rattle.block.specs.Layout.{site_of, sequence_of, references_of, request_for}
@@ -92,7 +92,7 @@ module _ (digest : Bytes → Bytes) (sized : (b : Bytes) → length (digest b) �
 
     interprets_fixed : (i : ℕ) → (interpretation t x.records i).refusal ≡ 0
         → Fixed s (with_mark t i) (splice x.records (part_start i) (written (setup_of t) (view_of t) x.records i))
-    interprets_fixed i e j h m = by-test (eqb j i) (λ y. at_place (eqb-true j i y)) (λ n. elsewhere (eqb-false j i n) (sym ((a.rows j).mark ∙ rw n) ∙ m))
+    interprets_fixed i e j h m = by_test (eqb j i) (λ y. at_place (eqb-true j i y)) (λ n. elsewhere (eqb-false j i n) (sym ((a.rows j).mark ∙ rw n) ∙ m))
       where
         new : List ℕ
         new = written (setup_of t) (view_of t) x.records i
@@ -192,7 +192,7 @@ module _ (digest : Bytes → Bytes) (sized : (b : Bytes) → length (digest b) �
     pass_accepted : (c : Call) → (site_answer digest x c).refusal ≡ 0 → (taken l c).retired ≡ []
         → (p : ℕ) → p < (taken l c).held → reading ((taken l c).block p) ≡ Block (fields_of ((taken l c).block p))
     unfolding site_answer taken
-    pass_accepted (admit b verdict) e o p h = by-test (eqb p l.held)
+    pass_accepted (admit b verdict) e o p h = by_test (eqb p l.held)
         (λ y. rw y (((promises digest sized).causes x.table b verdict).none.0 e).0.linked.is_new.readable.accepted)
         (λ n. rw n (r.accepted p (omega (arith, eqb-false p l.held n))))
     pass_accepted (interpret i) e o p h = r.accepted p h
@@ -200,7 +200,7 @@ module _ (digest : Bytes → Bytes) (sized : (b : Bytes) → length (digest b) �
     pass_accepted take_back e o p h = r.accepted p (omega arith)
 
     call_reached : (c : Call) → (ledger_step digest s size l c).retired ≡ [] → SiteInvariant size (ledger_step digest s size l c) (site_step digest x c)
-    call_reached c o = by-test (eqb (site_answer digest x c).refusal 0) (λ y. pass (eqb-true _ 0 y)) (λ n. stay (eqb-false _ 0 n))
+    call_reached c o = by_test (eqb (site_answer digest x c).refusal 0) (λ y. pass (eqb-true _ 0 y)) (λ n. stay (eqb-false _ 0 n))
       where
         pass : (site_answer digest x c).refusal ≡ 0 → SiteInvariant size (ledger_step digest s size l c) (site_step digest x c)
         pass e =

@@ -1,6 +1,9 @@
 // Calls, a site's run of them, and the ledger that is fed the same calls. Promises: `replay` runs a whole list of calls, call by call; and for every
 // lawful setup, record buffer and list of calls of admission, interpretation, retiring and taking back, the site keeps to its ledger
 // (specs/Promises.antt says it, proofs/Promises.antt shows it). Assumes nothing.
+
+#![tactic(auto)]
+
 mod call;
 
 ghost use Rattle.std.specs.Prelude.{◌≡◌, length};

@@ -1,6 +1,9 @@
 // A campaign's setup, which is how many sites there are and who owns each slot, and the numbers that follow from it: how many sites may fork, and how
 // many supporters a message needs. Promises: each function is its definition in specs/Setup.antt, for all numbers, lawful or not; what the theorems
 // use of these numbers stands in proofs/Thresholds.antt. Assumes nothing.
+
+#![tactic(auto)]
+
 ghost use Rattle.std.specs.Prelude.{◌≡◌};
 ghost use Rattle.setup.specs.Setup.{lawful_sites, owners_below, lawful, faults, echo_quorum, ready_amplification, ready_quorum};
 

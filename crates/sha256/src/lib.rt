@@ -2,6 +2,9 @@
 //
 // Promises: `digest` answers the standard's digest of every message that a slice can hold, and it ends: no index, sum or cast in it can go wrong. The
 // contract cites specs/Sha256.antt, which is the standard in its own steps and names. Assumes nothing, neither of its callers nor as an axiom.
+
+#![tactic(auto)]
+
 mod hash;
 mod padding;
 mod rounds;

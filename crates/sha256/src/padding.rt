@@ -30,7 +30,8 @@ fn put_rest(message: &[u8], at: usize, tail: &mut [u8])
     requires { (at ≤ length message.now) × (length message.now < at + 64) × (tail.old ≡ replicate 128 0) }
     ensures { tail.new ≡ drop at message.now ++ (0x80 ∷ replicate (127 - (length message.now - at)) 0) }
 {
-    let n = bytes::copy(&message[at..], tail);
+    let n = message.len() - at;
+    tail[..n].copy_from_slice(&message[at..]);
     tail[n] = 0x80;
 }
 

@@ -12,7 +12,7 @@ use Rattle.base.specs.Bytes.{Bytes, same_bytes}
 use Rattle.base.specs.Search.{all_below}
 use Rattle.base.specs.Count.{sum_below}
 use Rattle.base.specs.List.{some_in, count_in}
-use Rattle.base.proofs.Tests.{by-test, true-not-false, not_true_false, and_left, and_right, or_left, or_right}
+use Rattle.base.proofs.Tests.{by_test, true_not_false, not_true_false, and_left, and_right, or_left, or_right}
 use Rattle.base.proofs.Search.{all_true, all_true_at}
 use Rattle.base.proofs.Sum.{sum_same, sum_without}
 use Rattle.base.proofs.Selection.{count_in_mid}
@@ -56,10 +56,10 @@ others_mid : (us : List Waiting) (w : Waiting) (vs : List Waiting) → others_la
 others_mid us w vs =
     sum_same (λ d. cond (eqb d w.campaign) 0 (lack d (us ++ (w ∷ vs)))) (λ d. cond (eqb d w.campaign) 0 (lack d (us ++ vs))) campaign_count
     (λ d h.
-    by-test (eqb d w.campaign)
+    by_test (eqb d w.campaign)
     (λ y. rw y)
     (λ n.
-    let o : eqb w.campaign d ≡ false = ne_eqb w.campaign d (λ q. true-not-false (eq-eqb d w.campaign (sym q)) n) in
+    let o : eqb w.campaign d ≡ false = ne_eqb w.campaign d (λ q. true_not_false (eq-eqb d w.campaign (sym q)) n) in
     let e : holds d (us ++ (w ∷ vs)) ≡ holds d (us ++ vs) = holds_mid d us w vs ∙ rw o (omega arith) in
     rw n (ap (λ (x : ℕ). reserved - x) e)))
 
@@ -102,7 +102,7 @@ same_other c d b e n =
     (λ y.
     let p = eqb-true c d (and_left (eqb c d) (same_bytes b e) y) in
     let q = same_equal b e (and_right (eqb c d) (same_bytes b e) y) in
-    true-not-false (rw (eq-eqb d c (sym p), equal_same e b (sym q)) refl) n)
+    true_not_false (rw (eq-eqb d c (sym p), equal_same e b (sym q)) refl) n)
 
 waits_last : (c : ℕ) (b : Bytes) (us : List Waiting) (w : Waiting) → waits c b us ≡ false → is_same c b w ≡ false → waits c b (us ++ (w ∷ [])) ≡ false
 unfolding waits some_in
@@ -168,7 +168,7 @@ module _ (ws : List Waiting) (w : Waiting) where
 
   end_shares : (d : ℕ) → holds d ws ≤ max_share → holds w.campaign ws < max_share → holds d (ws ++ (w ∷ [])) ≤ max_share
   end_shares d h k =
-      by-test (eqb w.campaign d)
+      by_test (eqb w.campaign d)
       (λ y. let e = end_holds d in let q = eqb-true w.campaign d y in let k' : holds d ws < max_share = rw q at k in rw (end_holds d, y) (omega arith))
       (λ n. rw (end_holds d, n) (omega arith))
 

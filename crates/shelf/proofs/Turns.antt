@@ -11,7 +11,7 @@ use lib.Seq.{drop-cons}
 use borrow.Author.Tests.{leb-true, leb-false, lt-leb}
 use Rattle.base.specs.Bytes.{Bytes}
 use Rattle.base.specs.List.{list_below, some_in, count_in}
-use Rattle.base.proofs.Tests.{by-test, true-not-false, not_true_false, and_left, and_right}
+use Rattle.base.proofs.Tests.{by_test, true_not_false, not_true_false, and_left, and_right}
 use Rattle.base.proofs.List.{length_list, list_at}
 use Rattle.block.specs.Limits.{max_block_size}
 use Rattle.block.specs.Reading.{well_shaped, reading}
@@ -64,10 +64,10 @@ overlong s i h = rw (lt-leb (length_at s i) max_block_size h)
 -- so the block of a sound entry lies in it
 pub sound_short : (s : Bytes) (i : ℕ) → sound_at s i ≡ true → length_at s i ≤ max_block_size
 sound_short s i e =
-    by-test (leb (length_at s i) max_block_size) (leb-true _ _)
+    by_test (leb (length_at s i) max_block_size) (leb-true _ _)
     (λ n.
     let rest = and_right (leb (campaign_at s i) max_campaign) (accepts (block_at s i) && not (waits (campaign_at s i) (block_at s i) (drop (i + 1) (waiting_in s)))) e in
-    true-not-false (and_left (accepts (block_at s i)) (not (waits (campaign_at s i) (block_at s i) (drop (i + 1) (waiting_in s)))) rest)
+    true_not_false (and_left (accepts (block_at s i)) (not (waits (campaign_at s i) (block_at s i) (drop (i + 1) (waiting_in s)))) rest)
     (overlong s i (leb-false _ _ n)))
 
 pub sound_fits : (s : Bytes) → ShelfSized s → each_sound (waiting_in s) ≡ true → Fits s 0
@@ -94,4 +94,4 @@ shown_fit s = list_fit (waiting_at s) (waiting_count s) (shown_short s)
     list_fit f (suc k) h = (h 0, list_fit (λ i. f (suc i)) k (λ i. h (suc i)))
 
 pub not_sound : (ws : List Waiting) (i : ℕ) → each_sound (drop i ws) ≡ false → each_sound ws ≡ false
-not_sound ws i n = not_true_false (each_sound ws) (λ e. true-not-false (sound_drop ws i e) n)
+not_sound ws i n = not_true_false (each_sound ws) (λ e. true_not_false (sound_drop ws i e) n)

@@ -15,7 +15,7 @@ use borrow.Author.Tests.{eqb-true}
 use Rattle.base.specs.Bytes.{Bytes, part_at, concat}
 use Rattle.base.specs.List.{list_below}
 use Rattle.base.specs.Number.{pair}
-use Rattle.base.proofs.Tests.{by-test}
+use Rattle.base.proofs.Tests.{by_test}
 use Rattle.base.proofs.Bytes.{zeros_replicate}
 use Rattle.base.proofs.List.{list_same}
 use Rattle.base.proofs.Parts.{part_and_rest, parts_list, concat_parts}
@@ -90,7 +90,7 @@ module _ (t : Bytes) (i : ℕ) (size : length t ≡ table_size) (low : i < count
   row_is j x e = row_bytes_same _ _ (is.rows j) ∙ ap (λ (y : Bool). row_bytes (marked_if y (row_at t j))) e
 
   pub mark_canonical : Canonical (with_mark t i)
-  mark_canonical j h = by-test (eqb j i)
+  mark_canonical j h = by_test (eqb j i)
       (λ y. row_is j true y ∙ (let q : j ≡ i = eqb-true j i y in rw q (sym here)))
       (λ n. row_is j false n ∙ c j (omega (arith, is.count)) ∙ sym (mark.other t i size (omega arith) j n))
 

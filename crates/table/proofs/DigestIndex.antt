@@ -12,7 +12,7 @@ use lib.Dec.{eqb}
 use lib.ListN.{get_or, set}
 use borrow.Author.Tests.{eq-eqb, ne_eqb, eqb-false}
 use Rattle.base.specs.Bytes.{Bytes}
-use Rattle.base.proofs.Tests.{by-test}
+use Rattle.base.proofs.Tests.{by_test}
 use Rattle.base.proofs.Search.{first_hit, first_nowhere}
 use Rattle.base.proofs.List.{set_list}
 use Rattle.base.proofs.Bytes.{same_equal, other_same}
@@ -36,13 +36,13 @@ module _ (t : Bytes) (byte : ℕ) where
   pub last_le : (k : ℕ) → last_of t byte k ≤ k
   unfolding last_of
   last_le zero = omega arith
-  last_le (suc k) = by-test (eqb (get_or (digest_at t k) 0 0) byte) (λ y. rw y (omega arith)) (λ n. rw n (omega (arith, last_le k)))
+  last_le (suc k) = by_test (eqb (get_or (digest_at t k) 0 0) byte) (λ y. rw y (omega arith)) (λ n. rw n (omega (arith, last_le k)))
 
   -- from there on no digest begins with the byte
   pub none_past : (k : ℕ) (j : ℕ) → last_of t byte k ≤ j → j < k → get_or (digest_at t j) 0 0 ≢ byte
   unfolding last_of
   none_past zero j l h = absurd (omega arith)
-  none_past (suc k) j l h = by-test (eqb (get_or (digest_at t k) 0 0) byte)
+  none_past (suc k) j l h = by_test (eqb (get_or (digest_at t k) 0 0) byte)
       (λ y. let z : suc k ≤ j = rw y at l in absurd (omega arith))
       (λ n. let z : last_of t byte k ≤ j = rw n at l in elim (eq-or-lt_of_le (le_of_suc-le-suc h)) [
         | inl q ↦ rw q (eqb-false (get_or (digest_at t k) 0 0) byte n)

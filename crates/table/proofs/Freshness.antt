@@ -11,7 +11,7 @@ use lib.ListN.{length, replicate}
 use borrow.Author.Tests.{eqb-true, eqb-false, eq-eqb, ne_eqb}
 use Rattle.base.specs.List.{some_in}
 use Rattle.base.specs.Bytes.{Bytes}
-use Rattle.base.proofs.Tests.{by-test}
+use Rattle.base.proofs.Tests.{by_test}
 use Rattle.answer.specs.Promises.{elsewhere, different, Decided}
 use Rattle.answer.specs.Checks.{Check, check}
 use Rattle.answer.proofs.Checks.{valued_only, no_value}
@@ -44,7 +44,7 @@ module _ (s : Setup) where
 
   -- what holds on both ways holds of the answer
   by_way : (P : FreshTable → Type 0) → (lawful s ≡ false → P unlawful) → (lawful s ≡ true → P made) → P (fresh_table s)
-  by_way P w1 w0 = by-test (lawful s) (λ y. subst P (sym (is_made y)) (w0 y)) (λ n. subst P (sym (is_unlawful n)) (w1 n))
+  by_way P w1 w0 = by_test (lawful s) (λ y. subst P (sym (is_made y)) (w0 y)) (λ n. subst P (sym (is_unlawful n)) (w1 n))
 
   pub fresh : FreshCauses s
   fresh =

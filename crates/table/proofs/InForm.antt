@@ -7,7 +7,7 @@ use lib.Dec.{ltb}
 use lib.ListN.{length, drop}
 use borrow.Author.Tests.{eq-eqb, eqb-true, ltb-true, ltb-false}
 use Rattle.base.specs.Bytes.{Bytes, all_zero}
-use Rattle.base.proofs.Tests.{by-test, and_left, and_right}
+use Rattle.base.proofs.Tests.{by_test, and_left, and_right}
 use Rattle.setup.specs.Setup.{Setup}
 use Rattle.table.specs.View.{View}
 use Rattle.table.specs.Layout.{table_size, row_start, setup_of, retired_of, count_of, digest_at, row_at, view_of}
@@ -47,9 +47,9 @@ formed_parent t f none i h = sym (form_rule (view_of t) i (row_at t i) none) ∙
 
 -- a digest stands at one place
 pub one_place : (t : Bytes) → in_form t ≡ true → (i j : ℕ) → i < count_of t → j < count_of t → digest_at t i ≡ digest_at t j → i ≡ j
-one_place t f i j h l e = by-test (ltb i j)
+one_place t f i j h l e = by_test (ltb i j)
     (λ y. absurd ((formed_row t f j l).new i (ltb-true i j y) e))
-    (λ n. by-test (ltb j i)
+    (λ n. by_test (ltb j i)
     (λ y. absurd ((formed_row t f i h).new j (ltb-true j i y) (sym e)))
     (λ m. omega (arith, ltb-false i j n, ltb-false j i m)))
 

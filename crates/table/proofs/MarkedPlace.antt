@@ -12,7 +12,7 @@ use Rattle.base.specs.Bytes.{Bytes, all_zero, splice}
 use Rattle.base.specs.Mask.{in_mask}
 use Rattle.base.specs.LowFirst.{word_size, low_first}
 use Rattle.base.specs.Number.{number, number_at}
-use Rattle.base.proofs.Tests.{by-test, true-not-false}
+use Rattle.base.proofs.Tests.{by_test, true_not_false}
 use Rattle.base.proofs.Count.{count_same}
 use Rattle.base.proofs.Splice.{drop_splice, splice_low, splice_in, splice_part_low, length_splice}
 use Rattle.setup.specs.Setup.{slot_count}
@@ -71,12 +71,12 @@ module _ (t : Bytes) (i : ℕ) (size : length t ≡ table_size) (low : i < max_p
 
   -- any other
   pub other : (j : ℕ) → eqb j i ≡ false → row_part (with_mark t i) j ≡ row_part t j
-  other j n = by-test (ltb j i)
+  other j n = by_test (ltb j i)
       (λ b. part_kept (row_start j) row_size (omega (arith, ltb-true j i b)))
       (λ b. ap (take row_size) (behind (row_start j) (omega (arith, ltb-false j i b, eqb-false j i n))))
 
   row_of : (j : ℕ) → SameRow (row_at (with_mark t i) j) (marked_if (eqb j i) (row_at t j))
-  row_of j = by-test (eqb j i)
+  row_of j = by_test (eqb j i)
       (λ y. subst (λ (x : Bool). SameRow (row_at (with_mark t i) j) (marked_if x (row_at t j))) (sym y)
       (subst (λ (n : ℕ). SameRow (row_at (with_mark t i) n) (marked_if true (row_at t n))) (sym (eqb-true j i y)) row_here))
       (λ n. subst (λ (x : Bool). SameRow (row_at (with_mark t i) j) (marked_if x (row_at t j))) (sym n) (part_same (with_mark t i) t j (other j n)))
@@ -112,7 +112,7 @@ rule_marks v k r true e = go (parent_rule v k r) (eqb v.retired 1) (interpreted 
     go : (a b c d : Bool) → (a || ((b && c) && d)) ≡ true → (a || ((b && true) && d)) ≡ true
     go true b c d h = refl
     go false true true d h = h
-    go false true false d h = true-not-false h refl
+    go false true false d h = true_not_false h refl
     go false false c d h = h
 
 module _ (t t' : Bytes) (i : ℕ) (f : TableForm t) (m : Marked t t' i) (below : i < count_of t)
@@ -125,17 +125,17 @@ module _ (t t' : Bytes) (i : ℕ) (f : TableForm t) (m : Marked t t' i) (below :
 
   -- what was interpreted still is
   still : (j : ℕ) → (row_at t j).mark ≡ 1 → (row_at t' j).mark ≡ 1
-  still j e = mark_is j ∙ by-test (eqb j i) (λ y. rw y) (λ n. rw n e)
+  still j e = mark_is j ∙ by_test (eqb j i) (λ y. rw y) (λ n. rw n e)
 
   marks : (j : ℕ) → j < count_of t → (row_at t' j).mark ≤ 1
-  marks j h = by-test (eqb j i)
+  marks j h = by_test (eqb j i)
       (λ y. let e : (row_at t' j).mark ≡ 1 = mark_is j ∙ rw y in omega arith)
       (λ n. let e : (row_at t' j).mark ≡ (row_at t j).mark = mark_is j ∙ rw n in omega (arith, (was j h).mark))
 
   closed : (j : ℕ) → j < count_of t → (row_at t' j).mark ≡ 1 → (k : ℕ) → k < j → (row_at t' j).refers_to k ≡ true → (row_at t' k).mark ≡ 1
   closed j h e k l y =
       let z : (row_at t j).refers_to k ≡ true = sym ((m.rows j).refers_to k (omega (arith, f.held.fits))) ∙ y in
-      by-test (eqb j i)
+      by_test (eqb j i)
       (λ s. let q : j ≡ i = eqb-true j i s in still k (ready k (omega arith) (ap (λ (n : ℕ). (row_at t n).refers_to k) (sym q) ∙ z)))
       (λ n. still k ((was j h).closed (sym (mark_is j ∙ rw n) ∙ e) k l z))
 

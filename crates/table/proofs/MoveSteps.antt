@@ -15,7 +15,7 @@ use Rattle.base.specs.Mask.{mask_below, bit_at, in_mask}
 use Rattle.base.specs.List.{list_below}
 use Rattle.base.specs.Bytes.{Bytes, concat, splice}
 use Rattle.base.specs.LowFirst.{word_size, low_first_bytes}
-use Rattle.base.proofs.Tests.{by-test}
+use Rattle.base.proofs.Tests.{by_test}
 use Rattle.base.proofs.Mask.{bit_suc}
 use Rattle.base.proofs.Sets.{mask_members, mask_same}
 use Rattle.base.proofs.Parts.{concat_list_more}
@@ -34,7 +34,7 @@ moved_same : (t u : Bytes) (i : ℕ) → row_part t i ≡ row_part u i → moved
 unfolding moved_bytes
 moved_same t u i e =
     ap₂ (λ (b : Bytes) (m : ℕ). splice b references_offset (low_first_bytes word_size m)) e
-    (mask_same (moved_row (row_at t i)).refers_to (moved_row (row_at u i)).refers_to max_places (λ j h. by-test (ltb (suc j) max_places)
+    (mask_same (moved_row (row_at t i)).refers_to (moved_row (row_at u i)).refers_to max_places (λ j h. by_test (ltb (suc j) max_places)
     (λ y. ap (λ (x : Bool). ltb (suc j) max_places && x) ((part_same t u i e).refers_to (suc j) (ltb-true (suc j) max_places y)))
     (λ n. rw n)))
 
@@ -45,7 +45,7 @@ half m h =
     ∙ mask_same (in_mask (m / 2)) (λ j. ltb (suc j) max_places && in_mask m (suc j)) max_places (λ j l. bit j)
   where
     bit : (j : ℕ) → in_mask (m / 2) j ≡ (ltb (suc j) max_places && in_mask m (suc j))
-    bit j = ap (λ (x : ℕ). eqb x 1) (sym (bit_suc m j)) ∙ by-test (ltb (suc j) max_places)
+    bit j = ap (λ (x : ℕ). eqb x 1) (sym (bit_suc m j)) ∙ by_test (ltb (suc j) max_places)
         (λ y. rw y)
         (λ n. let z : bit_at m (suc j) ≡ 0 = ap (λ (x : ℕ). x % 2) (div-eq_of_lt (omega (arith, h, pow_mono (ltb-false (suc j) max_places n)))) in rw (n, z))
 

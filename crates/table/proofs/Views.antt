@@ -11,7 +11,7 @@ use borrow.Author.Tests.{eq-eqb, eqb-true, lt-ltb, ltb-true, le-leb, leb-true, l
 use Rattle.base.specs.Bytes.{Bytes, same_bytes}
 use Rattle.base.specs.Search.{any_below, all_below}
 use Rattle.base.specs.Count.{count_below}
-use Rattle.base.proofs.Tests.{by-test, true-not-false, not_true_false, and_left, and_right, and_not_right, or_false}
+use Rattle.base.proofs.Tests.{by_test, true_not_false, not_true_false, and_left, and_right, and_not_right, or_false}
 use Rattle.base.proofs.Search.{first_same_lem, any_same, all_same, any_false, any_false_at, all_true, all_true_at}
 use Rattle.base.proofs.Count.{count_same}
 use Rattle.base.proofs.Bytes.{other_same, same_other}
@@ -146,7 +146,7 @@ row_form s v i e =
     }
   where
     lower : (j : ℕ) → (v.row i).refers_to j ≡ true → (leb i j && (v.row i).refers_to j) ≡ false → j < i
-    lower j y n = by-test (leb i j) (λ l. true-not-false y (and_not_right (leb i j) ((v.row i).refers_to j) n l)) (λ l. leb-false i j l)
+    lower j y n = by_test (leb i j) (λ l. true_not_false y (and_not_right (leb i j) ((v.row i).refers_to j) n l)) (λ l. leb-false i j l)
 
     none : (v.row i).mark ≡ 1 → (interpreted (v.row i) && any_below (refers_uninterpreted v (v.row i)) i) ≡ false → any_below (refers_uninterpreted v (v.row i)) i ≡ false
     none m n = and_not_right (interpreted (v.row i)) (any_below (refers_uninterpreted v (v.row i)) i) n (eq-eqb (v.row i).mark 1 m)
@@ -173,10 +173,10 @@ form_row s v i f =
         absurd (omega (arith, leb-true i j (and_left (leb i j) ((v.row i).refers_to j) e))))
 
     closed : (interpreted (v.row i) && any_below (refers_uninterpreted v (v.row i)) i) ≡ false
-    closed = by-test (interpreted (v.row i)) (λ y. rw (y, any_false (refers_uninterpreted v (v.row i)) i (none (eqb-true (v.row i).mark 1 y)))) (λ n. rw n)
+    closed = by_test (interpreted (v.row i)) (λ y. rw (y, any_false (refers_uninterpreted v (v.row i)) i (none (eqb-true (v.row i).mark 1 y)))) (λ n. rw n)
       where
         none : (v.row i).mark ≡ 1 → (j : ℕ) → j < i → refers_uninterpreted v (v.row i) j ≡ false
-        none m j h = by-test ((v.row i).refers_to j) (λ y. rw (y, f.closed m j h y)) (λ n. rw n)
+        none m j h = by_test ((v.row i).refers_to j) (λ y. rw (y, f.closed m j h y)) (λ n. rw n)
 
 -- ---- what a view in form has
 

@@ -2,6 +2,9 @@
 // Promises: whether a lent buffer of any length and content is a table in form is as specs/Form.antt says, a fresh table is the layout of its setup,
 // a table in form is the layout of its own contents (proofs/TableLayout.antt), and what is written is what specs/Layout.antt and Writing.antt say.
 // Assumes nothing of the bytes.
+
+#![tactic(auto)]
+
 mod form;
 pub mod index;
 pub mod moving;

@@ -8,7 +8,7 @@ use native.Mathlib.Omega.{arith}
 use lib.Dec.{eqb}
 use borrow.Author.Tests.{eqb-true, eqb-false, ne_eqb, ltb-true}
 use Rattle.base.specs.Bytes.{Bytes}
-use Rattle.base.proofs.Tests.{by-test}
+use Rattle.base.proofs.Tests.{by_test}
 use Rattle.answer.specs.Promises.{FirstHold, elsewhere, different}
 use Rattle.answer.proofs.Promises.{all_passed}
 use Rattle.setup.specs.Setup.{Setup}
@@ -65,7 +65,7 @@ module _ (t : Bytes) where
   refused n = rw (ne_eqb (taking_back t).refusal 0 n)
 
   either : (P : Bytes → Type 0) → P t → ((taking_back t).refusal ≡ 0 → P (taken_back t)) → P (taken_back t)
-  either P was now = by-test (eqb (taking_back t).refusal 0)
+  either P was now = by_test (eqb (taking_back t).refusal 0)
       (λ y. now (eqb-true (taking_back t).refusal 0 y))
       (λ n. subst P (sym (refused (eqb-false (taking_back t).refusal 0 n))) was)
 

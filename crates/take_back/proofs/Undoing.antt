@@ -9,7 +9,7 @@ use lib.Dec.{eqb}
 use lib.ListN.{length}
 use borrow.Author.Tests.{eqb-true, eqb-false, lt-ltb}
 use Rattle.base.specs.Bytes.{Bytes}
-use Rattle.base.proofs.Tests.{by-test}
+use Rattle.base.proofs.Tests.{by_test}
 use Rattle.answer.proofs.Checks.{number_of}
 use Rattle.answer.specs.Checks.{success, answer_to}
 use Rattle.block.specs.Limits.{reference_size}
@@ -77,7 +77,7 @@ module _ (digest : Bytes → Bytes) (sized : (b : Bytes) → length (digest b) �
   all_undone (b ∷ bs) t n t₀ w =
       let t₁ : Bytes = admitted digest t b.block b.verdict in
       let more = all_undone bs t₁ in
-      by-test (eqb (admission digest t b.block b.verdict).refusal 0)
+      by_test (eqb (admission digest t b.block b.verdict).refusal 0)
       (λ y.
       let k : admitted_of digest t₁ bs + suc n ≡ 1 + admitted_of digest t₁ bs + n = omega arith in
       rw y (subst (λ (m : ℕ). UndoneBy m (loaded digest t₁ bs) t₀) k (more (suc n) t₀ (one_more_lem t b.block b.verdict y n t₀ w))))

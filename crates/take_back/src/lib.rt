@@ -1,6 +1,9 @@
 // Taking back: the last place leaves the table, as if its block had not been admitted. Promises: `take_back` answers and leaves what
 // specs/TakingBack.antt says, for any table; form is kept, each of 2, 32 and 33 comes under its cause and under no other, and straight after an
 // admission what is left is the table before it, all bytes (specs/Promises.antt). Assumes nothing.
+
+#![tactic(auto)]
+
 ghost use Rattle.std.specs.Prelude.{◌≡◌};
 ghost use Rattle.take_back.specs.TakingBack.{taking_back, taken_back};
 

@@ -2,6 +2,9 @@
 // what one message does to a record, what the blocks of document 01's campaigns make, what the watch names and what building writes in further
 // campaigns, and what retiring answers and leaves, also in a campaign of 240 blocks. The file stdout has what the program must write; the values
 // there are those of the standard and of documents 01 and 02. Promises: it is safe, and it ends. Assumes: the contracts of io and libc.
+
+#![tactic(auto)]
+
 mod admissions;
 mod blocks;
 mod building;

@@ -12,7 +12,7 @@ use borrow.Author.Tests.{eq-eqb, eqb-true}
 use Rattle.base.specs.Count.{count_below}
 use Rattle.base.specs.Mask.{in_mask}
 use Rattle.base.specs.Bytes.{Bytes}
-use Rattle.base.proofs.Tests.{by-test, not_true_false}
+use Rattle.base.proofs.Tests.{by_test, not_true_false}
 use Rattle.base.proofs.Mask.{mask_below_lem}
 use Rattle.base.proofs.Sets.{ones_members}
 use Rattle.table.specs.Layout.{count_of, view_of}
@@ -31,12 +31,12 @@ module _ (t : Bytes) (i : ℕ) where
 
   pub found_count : (ancestors t i).count ≡ count_below (in_mask (ancestors t i).places) (count_of t)
   unfolding ones ones_in
-  found_count = by-test (eqb (ancestor_answer t i).refusal 0)
+  found_count = by_test (eqb (ancestor_answer t i).refusal 0)
       (λ y. rw (ancestors_found t i y) (ones_members (count_of t) (ancestor_mask (view_of t) i) (mask_below_lem (is_ancestor (view_of t) i) (count_of t))))
       (λ n. rw (ancestors_refused t i n) (ones_members (count_of t) 0 (pow_pos (count_of t))))
 
   pub itself_not : in_mask (ancestors t i).places i ≡ false
-  itself_not = by-test (eqb (ancestor_answer t i).refusal 0)
+  itself_not = by_test (eqb (ancestor_answer t i).refusal 0)
       (λ y. rw (ancestors_found t i y) (not_true_false _ (above ((answer_none t i).0 (eqb-true _ 0 y)))))
       (λ n. rw (ancestors_refused t i n, zero-div (2 ^ i)))
     where

@@ -10,7 +10,7 @@ use lib.Bits.{bit_or}
 use lib.Pow.{pow_mono}
 use Rattle.base.specs.Mask.{in_mask}
 use Rattle.base.specs.Bytes.{Bytes}
-use Rattle.base.proofs.Tests.{by-test, true-not-false, or_cases, same_tests}
+use Rattle.base.proofs.Tests.{by_test, true_not_false, or_cases, same_tests}
 use Rattle.base.proofs.Mask.{mask_below_lem}
 use Rattle.base.proofs.Sets.{mask_same, mask_members, mask_or}
 use Rattle.table.specs.View.{max_places}
@@ -78,13 +78,13 @@ module _ (t : Bytes) (fits : count_of t ≤ max_places) (lower : RefersLower (vi
   turn_passes : (j m a : ℕ) → in_mask m j ≡ false → Below t a j m ↔ Below t a (suc j) m
   turn_passes j m a n = (
     λ b. (below_suc t a j m).0 (inl b),
-    λ b. ⊎_elim (λ b. b) (λ p. true-not-false p.0 n) ((below_suc t a j m).1 b),
+    λ b. ⊎_elim (λ b. b) (λ p. true_not_false p.0 n) ((below_suc t a j m).1 b),
   )
 
   pub gathered_has : (j m a : ℕ) → j ≤ count_of t → a < max_places → (in_mask (gathered t j m) a ≡ true) ↔ Below t a j m
   unfolding gathered
   gathered_has zero m a l s = (inl, λ b. ⊎_elim (λ y. y) (λ w. absurd (omega arith)) b)
-  gathered_has (suc j) m a l s = by-test (in_mask m j)
+  gathered_has (suc j) m a l s = by_test (in_mask m j)
       (λ y. rw y (Iff.trans (gathered_has j (bit_or m (references_at t j)) a (omega arith) s) (turn_adds j m a (omega arith) s y)))
       (λ n. rw n (Iff.trans (gathered_has j m a (omega arith) s) (turn_passes j m a n)))
 

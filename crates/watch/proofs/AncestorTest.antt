@@ -7,7 +7,7 @@ use Prim.Native.Nat.{ℕ, zero, suc, ◌≤◌, ◌<◌}
 use native.Mathlib.Decide.{dec_lt}
 use native.Mathlib.Omega.{arith}
 use Rattle.base.specs.Mask.{in_mask}
-use Rattle.base.proofs.Tests.{true-not-false, and_left, and_right, or_cases}
+use Rattle.base.proofs.Tests.{true_not_false, and_left, and_right, or_cases}
 use Rattle.base.proofs.Search.{any_true, any_true_at}
 use Rattle.base.proofs.Sets.{mask_has, mask_has_not}
 use Rattle.table.specs.View.{max_places, View}
@@ -32,7 +32,7 @@ module _ (v : View) (fits : v.held ≤ max_places) (lower : RefersLower v) where
 
   reached_ancestor : (k i a : ℕ) → i < v.held → a < max_places → reached v k i a ≡ true → PlaceAncestor v a i
   unfolding reached
-  reached_ancestor zero i a l s e = true-not-false e refl
+  reached_ancestor zero i a l s e = true_not_false e refl
   reached_ancestor (suc k) i a l s e = elim (or_cases ((v.row i).refers_to a) _ e) [
     | inl r ↦ let h : a < v.held = omega (arith, lower i l a s r) in direct h r
     | inr e ↦
@@ -58,7 +58,7 @@ module _ (v : View) (fits : v.held ≤ max_places) (lower : RefersLower v) where
   ancestor_bit i a l = (
     λ e. elim (dec_lt a v.held) [
       | yes h ↦ (ancestor_is i a l (omega arith)).0 (sym (mask_has (is_ancestor v i) v.held a h) ∙ e)
-      | no n ↦ true-not-false e (mask_has_not (is_ancestor v i) v.held a (omega arith))
+      | no n ↦ true_not_false e (mask_has_not (is_ancestor v i) v.held a (omega arith))
     ],
     λ p. let h = ancestor_held v a i p in mask_has (is_ancestor v i) v.held a h ∙ (ancestor_is i a l (omega arith)).1 p,
   )

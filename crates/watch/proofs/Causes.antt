@@ -9,7 +9,7 @@ use lib.Count.{ones}
 use lib.Dec.{eqb}
 use borrow.Author.Tests.{eqb-true, ne_eqb, ltb-true, lt-ltb, ltb-false, le-ltb}
 use Rattle.base.specs.Bytes.{Bytes}
-use Rattle.base.proofs.Tests.{by-test, not_true_false}
+use Rattle.base.proofs.Tests.{by_test, not_true_false}
 use Rattle.answer.specs.Promises.{elsewhere, different, Decided}
 use Rattle.answer.proofs.Promises.{first_refused, second_refused, decided}
 use Rattle.table.specs.Layout.{setup_of, count_of, view_of}
@@ -38,7 +38,7 @@ module _ (t : Bytes) where
 
   pub forks_none : ((forks t).refusal ≡ 0) ↔ (in_form t ≡ true)
   forks_none = (
-    λ e. by-test (in_form t) (λ y. y) (λ n. absurd (omega (arith, e, ap (λ (r : ForkedSites). r.refusal) (forks_refused n)))),
+    λ e. by_test (in_form t) (λ y. y) (λ n. absurd (omega (arith, e, ap (λ (r : ForkedSites). r.refusal) (forks_refused n)))),
     λ y. ap (λ (r : ForkedSites). r.refusal) (forks_reported y),
   )
 
@@ -61,7 +61,7 @@ module _ (t : Bytes) where
 
     -- the number is that of the checks
     ancestors_number : (ancestors t i).refusal ≡ (ancestor_answer t i).refusal
-    ancestors_number = by-test (eqb (ancestor_answer t i).refusal 0)
+    ancestors_number = by_test (eqb (ancestor_answer t i).refusal 0)
         (λ y. ap (λ (r : AncestorPlaces). r.refusal) (ancestors_found y) ∙ sym (eqb-true _ 0 y))
         (λ n. ap (λ (r : AncestorPlaces). r.refusal) (ancestors_refused n))
 

@@ -11,7 +11,7 @@ use Rattle.base.specs.Search.{any_below}
 use Rattle.base.specs.Mask.{mask_below, in_mask}
 use Rattle.base.specs.Steps.{print_count}
 use Rattle.base.specs.Bytes.{Bytes}
-use Rattle.base.proofs.Tests.{by-test, not_true_false, and_left, and_right}
+use Rattle.base.proofs.Tests.{by_test, not_true_false, and_left, and_right}
 use Rattle.base.proofs.Search.{any_false}
 use Rattle.base.proofs.Sets.{some_put, some_skip}
 use Rattle.base.proofs.Prints.{new_print}
@@ -46,11 +46,11 @@ module _ (t : Bytes) (n i : ℕ) where
   -- one place more: its site is put in, or no site is
   pub forked_put : n ≤ 16 → (site : ℕ) → site ≡ site_at t i → site < n → sequence_repeated_at (view_of t) everywhere (site_at t i) i ≡ true
       → bit_or (forked_below t n i) (1 * 2 ^ site % 2 ^ 16) ≡ forked_below t n (i + 1)
-  forked_put few site e l y = some_put (sequence_repeated_at (view_of t) everywhere) 16 n i site few l (λ p m. by-test (eqb site p)
+  forked_put few site e l y = some_put (sequence_repeated_at (view_of t) everywhere) 16 n i site few l (λ p m. by_test (eqb site p)
       (λ z. let q = sym (eqb-true site p z) ∙ e in z ∙ sym (ap (λ (x : ℕ). sequence_repeated_at (view_of t) everywhere x i) q ∙ y))
       (λ z. z ∙ sym (other_site_lem p (λ q. eqb-false site p z (e ∙ q)))))
 
   pub forked_skip : sequence_repeated_at (view_of t) everywhere (site_at t i) i ≡ false → forked_below t n i ≡ forked_below t n (i + 1)
-  forked_skip z = some_skip (sequence_repeated_at (view_of t) everywhere) n i (λ p m. by-test (eqb (site_at t i) p)
+  forked_skip z = some_skip (sequence_repeated_at (view_of t) everywhere) n i (λ p m. by_test (eqb (site_at t i) p)
       (λ y. ap (λ (x : ℕ). sequence_repeated_at (view_of t) everywhere x i) (sym (eqb-true (site_at t i) p y)) ∙ z)
       (λ d. other_site_lem p (eqb-false (site_at t i) p d)))

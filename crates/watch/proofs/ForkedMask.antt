@@ -12,7 +12,7 @@ use borrow.Author.Tests.{eqb-true, le-leb, leb-true}
 use Rattle.base.specs.Count.{count_below}
 use Rattle.base.specs.Mask.{mask_below, in_mask}
 use Rattle.base.specs.Bytes.{Bytes}
-use Rattle.base.proofs.Tests.{by-test, true-not-false, and_right}
+use Rattle.base.proofs.Tests.{by_test, true_not_false, and_right}
 use Rattle.base.proofs.Mask.{mask_below_lem}
 use Rattle.base.proofs.Sets.{mask_has, mask_has_not, ones_members}
 use Rattle.setup.specs.Setup.{faults}
@@ -41,18 +41,18 @@ module _ (t : Bytes) where
   forked_bit y p = rw (forks_reported t y) (
     λ e. elim (dec_lt p n) [
       | yes h ↦ (forked_shares (view_of t) everywhere p).0 (sym (mask_has is_forked n p h) ∙ e)
-      | no h ↦ true-not-false e (mask_has_not is_forked n p (omega arith))
+      | no h ↦ true_not_false e (mask_has_not is_forked n p (omega arith))
     ],
     λ s. mask_has is_forked n p (shares_site p y s) ∙ (forked_shares (view_of t) everywhere p).1 s,
   )
 
   pub forked_count : (forks t).count ≡ count_below (in_mask (forks t).sites) (setup_of t).sites
   unfolding ones ones_in
-  forked_count = by-test (in_form t)
+  forked_count = by_test (in_form t)
       (λ y. rw (forks_reported t y) (ones_members n (mask_below is_forked n) (mask_below_lem is_forked n)))
       (λ e. rw (forks_refused t e) (ones_members n 0 (pow_pos n)))
 
   pub forked_at_most_f : ((forks t).at_most_f ≡ true) ↔ ((in_form t ≡ true) × ((forks t).count ≤ faults (setup_of t).sites))
-  forked_at_most_f = by-test (in_form t)
+  forked_at_most_f = by_test (in_form t)
       (λ y. rw (forks_reported t y) (λ e. (y, leb-true _ _ e), λ p. le-leb _ _ p.1))
-      (λ e. rw (forks_refused t e) (λ y. true-not-false y refl, λ p. true-not-false p.0 e))
+      (λ e. rw (forks_refused t e) (λ y. true_not_false y refl, λ p. true_not_false p.0 e))

@@ -1,6 +1,9 @@
 // The watch for forks: which sites have two blocks of one sequence number, and which places are the ancestors of a place. Promises: `forks` and
 // `ancestors` answer what specs/Forks.antt and specs/Ancestors.antt say, for any table and place; the set bits of the masks are exactly the forked
 // sites and the ancestors (specs/Promises.antt). Assumes nothing; the table is read only.
+
+#![tactic(auto)]
+
 mod ancestry;
 pub mod sites;
 

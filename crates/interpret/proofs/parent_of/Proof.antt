@@ -6,7 +6,7 @@ use Prim.Native.Nat.{◌-◌, ◌≤◌, ◌<◌}
 use native.Mathlib.Omega.{arith}
 use lib.ListN.{length}
 use borrow.Author.Rules.{rules}
-use Rattle.base.proofs.Tests.{true-not-false}
+use Rattle.base.proofs.Tests.{true_not_false}
 use Rattle.table.specs.View.{max_places}
 use Rattle.table.specs.Layout.{row_at, view_of}
 use Rattle.table.specs.Rules.{parent_row}
@@ -33,7 +33,7 @@ start c = c.before.before.before
 -- of two tests the first of which passes
 both : (x y t : Bool) → x ≡ true → t ≡ (x && y) → y ≡ t
 both true y t e q = sym q
-both false y t e q = true-not-false e refl
+both false y t e q = true_not_false e refl
 
 -- the place is one of the list
 held : (c : tie.After-wide invariant-loop decreases-loop) → c.wide.result < max_places

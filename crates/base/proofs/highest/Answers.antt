@@ -4,8 +4,7 @@ use Prim.Native.Nat.{ℕ, suc, ◌-◌, ◌^◌, ◌≤◌, ◌<◌}
 use native.Mathlib.Omega.{arith}
 use lib.Count.{count_leading_zeros, leading_top}
 use borrow.Author.Rules.{rules}
-use Rattle.base.proofs.highest.Statement.{statement}
-use Rattle.base.proofs.highest.Tie as tie
+use Rattle.base.proofs.highest.Goals as goal
 
 module _ (m : ℕ) (some : 0 < m) (wide : m < 2 ^ 64) where
   zeros_above : count_leading_zeros 64 m ≤ 63
@@ -17,11 +16,8 @@ module _ (m : ℕ) (some : 0 < m) (wide : m < 2 ^ 64) where
       let e : h.0 ≡ 63 - count_leading_zeros 64 m = omega (arith, h.1) in
       (omega arith, subst (λ (j : ℕ). 2 ^ j ≤ m) e h.2, subst (λ (j : ℕ). m < 2 ^ suc j) e h.3)
 
-sub_result : tie.Need-overflow-sub-result
-sub_result c = zeros_above c.args.mask (search rules) (search rules)
+pub overflow_sub-result : goal.overflow_sub-result
+overflow_sub-result c = zeros_above c.args.mask (search rules) (search rules)
 
-returns : tie.Need-returns
+pub returns : goal.returns
 returns c = highest_place c.args.mask (search rules) (search rules)
-
-pub highest_spec : {M : Type 1} → statement M
-highest_spec = tie.close (tie.spec sub_result (λ c. search rules) returns)

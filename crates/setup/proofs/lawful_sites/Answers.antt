@@ -5,8 +5,7 @@ use mathlib.Core.Logic.{◌⊎◌, inl, inr}
 use Prim.Native.Nat.{ℕ}
 use borrow.Author.Tests.{ne_eqb}
 use Rattle.setup.specs.Setup.{lawful_sites}
-use Rattle.setup.proofs.lawful_sites.Statement.{statement}
-use Rattle.setup.proofs.lawful_sites.Tie as tie
+use Rattle.setup.proofs.lawful_sites.Goals as goal
 
 abbrev Listed : ℕ → Type 0
 Listed n = (n ≡ 1) ⊎ ((n ≡ 4) ⊎ ((n ≡ 7) ⊎ ((n ≡ 10) ⊎ ((n ≡ 13) ⊎ (n ≡ 16)))))
@@ -32,11 +31,8 @@ none n h =
       ne_eqb n 16 (λ e. h (inr (inr (inr (inr (inr e)))))),
     )
 
-returns : tie.Need-returns
-returns c = one c.before.args.sites c.match.keys1
+pub returns-in-1 : goal.returns-in-1
+returns-in-1 c = one c.args.sites c.in_default.keys1
 
-returns-2 : tie.Need-returns-2
-returns-2 c = none c.before.args.sites c.match.rest.1
-
-pub lawful_sites_spec : {M : Type 1} → statement M
-lawful_sites_spec = tie.close (tie.spec returns returns-2)
+pub returns-in_default : goal.returns-in_default
+returns-in_default c = none c.args.sites c.in_default.rest.1

@@ -5,13 +5,11 @@ use Prim.Native.Nat.{ℕ, ◌+◌, ◌*◌, ◌/◌, ◌≤◌, ◌<◌}
 use native.Mathlib.Numerals.{add-one}
 use native.Mathlib.Omega.{arith}
 use lib.ListN.{length, set, length-set}
-use borrow.Author.Rules.{rules}
 use borrow.Author.Tests.{le-leb, lt-leb}
 use Rattle.base.proofs.Splice.{splice_of_stores}
 use Rattle.answer.specs.Buffer.{put_answer}
 use Rattle.answer.specs.declared.Answer.{Answer}
-use Rattle.answer.proofs.put_answer.Statement.{statement}
-use Rattle.answer.proofs.put_answer.Tie as tie
+use Rattle.answer.proofs.put_answer.Goals as goal
 
 module _ (b : List ℕ) (i : ℕ) (a : Answer) where
   answer_put : 2 * i + 2 ≤ length b → set (set b (2 * i) a.refusal) (2 * i + 1) a.value ≡ put_answer b i a
@@ -31,29 +29,13 @@ fits i n h = omega arith
 lost : (i n : ℕ) → n / 2 ≤ i → n < 2 * i + 2
 lost i n h = omega arith
 
-slice_write_answers_2 : tie.Need-slice-write-answers-2
-slice_write_answers_2 c =
-    let a = c.before.before.args in
-    omega (arith, length-set a.answers.now (2 * a.i) a.answer.refusal, fits a.i (length a.answers.now) c.before.if1.true)
+pub bounds-answers-i-then-i-answers : goal.bounds-answers-i-then-i-answers
+bounds-answers-i-then-i-answers c =
+    let a = c.args in
+    omega (arith, length-set a.answers.now (2 * a.i) a.answer.refusal, fits a.i (length a.answers.now) c.if-i-answers.true)
 
-returns : tie.Need-returns
-returns c = answer_put _ _ _ (fits _ _ c.before.if1.true)
+pub returns-then-i-answers : goal.returns-then-i-answers
+returns-then-i-answers c = answer_put _ _ _ (fits _ _ c.if-i-answers.true)
 
-returns-2 : tie.Need-returns-2
-returns-2 c = answer_lost _ _ _ (lost _ _ c.if1.false)
-
-pub put_answer_spec : {M : Type 1} → statement M
-put_answer_spec =
-    tie.close
-    (tie.spec
-    (λ c. search rules)
-    (λ c. search rules)
-    (λ c. search rules)
-    (λ c. search rules)
-    (λ c. search rules)
-    (λ c. search rules)
-    (λ c. search rules)
-    slice_write_answers_2
-    (λ c. search rules)
-    returns
-    returns-2)
+pub returns-else-i-answers : goal.returns-else-i-answers
+returns-else-i-answers c = answer_lost _ _ _ (lost _ _ c.if-i-answers.false)
