@@ -7,11 +7,11 @@ use Rattle.setup.proofs.lawful.Goals as goal
 use Rattle.setup.proofs.lawful.Goals.{Else-not-lawful_sites}
 
 sites : (c : Else-not-lawful_sites) → lawful_sites c.args.sites ≡ true
-sites c = sym c.lawful_sites.ensures ∙ not-false _ c.if-not-lawful_sites.false
+sites c = sym c.lawful_sites.ensures ∙ c.if-not-lawful_sites.false
 
 pub returns-then-not-lawful_sites : goal.returns-then-not-lawful_sites
 unfolding lawful
-returns-then-not-lawful_sites c = rw (sym c.lawful_sites.ensures ∙ not-true _ c.if-not-lawful_sites.true)
+returns-then-not-lawful_sites c = rw (sym c.lawful_sites.ensures ∙ c.if-not-lawful_sites.true)
 
 pub returns-then-owners-ne-SLOTS : goal.returns-then-owners-ne-SLOTS
 unfolding lawful

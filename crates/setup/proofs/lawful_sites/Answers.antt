@@ -32,7 +32,7 @@ none n h =
     )
 
 pub returns-in-1 : goal.returns-in-1
-returns-in-1 c = one c.args.sites c.in_default.keys1
+returns-in-1 c = one c.args.sites c.in-1.is
 
 pub returns-in_default : goal.returns-in_default
-returns-in_default c = none c.args.sites c.in_default.rest.1
+returns-in_default c = none c.args.sites c.in_default.in_default-own.rest.1
