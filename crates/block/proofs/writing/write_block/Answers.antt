@@ -4,15 +4,13 @@ use mathlib.Core.List.{[], ◌∷◌, ◌++◌}
 use Prim.Native.Nat.{ℕ, ◌+◌, ◌/◌, ◌%◌}
 use native.Mathlib.Omega.{arith}
 use lib.ListN.{length, length-append}
-use borrow.Author.Rules.{rules}
 use Rattle.base.specs.Bytes.{Bytes, AllBytes, splice}
 use Rattle.base.proofs.Splice.{splice_append}
 use Rattle.block.specs.Limits.{header_size, reference_size, request_size}
 use Rattle.block.specs.Layout.{content, encode}
 use Rattle.block.specs.Steps.{Writable}
 use Rattle.block.proofs.Encoding.{encode_content}
-use Rattle.block.proofs.writing.write_block.Statement.{statement}
-use Rattle.block.proofs.writing.write_block.Tie as tie
+use Rattle.block.proofs.writing.write_block.Goals as goal
 
 module _ (site sequence : ℕ) (references requests output : Bytes) (w : Writable references requests output) where
   abbrev header : Bytes
@@ -27,28 +25,8 @@ module _ (site sequence : ℕ) (references requests output : Bytes) (w : Writabl
       ∙ splice_append output 0 (header ++ references) (omega (arith, w.room, length-append header references)) requests
       ∙ ap (splice output 0) (sym (encode_content site sequence references requests w.references_whole w.requests_whole a))
 
-returns : tie.Need-returns
+pub returns : goal.returns
 returns c =
-    let third = c.before.before in
-    let lent2 = third.before.before in let second = lent2.before.before in
-    let lent1 = second.before.before in let first = lent1.before.before in
-    let known = first.before.before.before in
-    let a = known.before.before.before.args in
-    put_all a.site a.sequence a.references.now a.requests.now a.output.now known.before.before.before.requires (λ i. (known.before.shared-slice-known2.given i).fits)
-    _ _ _ first.put.ensures second.put2.ensures third.put3.ensures
-
-pub write_block_spec : {M : Type 1} → statement M
-write_block_spec =
-    tie.close
-    (tie.spec
-    (λ c. search rules)
-    (λ c. search rules)
-    (λ c. search rules)
-    (λ c. search rules)
-    (λ c. search rules)
-    (λ c κs. search rules)
-    (λ c κs. search rules)
-    (λ c. search rules)
-    (λ c κs. search rules)
-    (λ c. search rules)
-    returns)
+    let a = c.args in
+    put_all a.site a.sequence a.references.now a.requests.now a.output.now c.requires (λ i. (c.shared_slice_known-2-1.given i).fits)
+    _ _ _ c.put.ensures c.put-2.ensures c.put-3.ensures

@@ -5,14 +5,12 @@ use native.Mathlib.Nat.{add-zero}
 use native.Mathlib.Omega.{arith}
 use lib.ListN.{get_or, drop}
 use lib.Seq.{get_or-take, get_or-drop}
-use borrow.Author.Rules.{rules}
 use Rattle.base.specs.Bytes.{Bytes, part_at}
 use Rattle.base.specs.Number.{number}
 use Rattle.block.specs.Limits.{request_size}
 use Rattle.block.specs.Layout.{request_at}
 use Rattle.block.specs.declared.Request.{Request}
-use Rattle.block.proofs.requests.request.Statement.{statement}
-use Rattle.block.proofs.requests.request.Tie as tie
+use Rattle.block.proofs.requests.request.Goals as goal
 
 byte : (list : Bytes) (i j : ℕ) → j < request_size → get_or (part_at request_size list i) j 0 ≡ get_or list (request_size * i + j) 0
 byte list i j h = get_or-take request_size (drop (request_size * i) list) j 0 h ∙ get_or-drop (request_size * i) list j 0
@@ -23,18 +21,5 @@ made list i n e =
     let s : get_or (part_at request_size list i) 0 0 ≡ get_or list (request_size * i) 0 = byte list i 0 (omega arith) ∙ ap (λ (k : ℕ). get_or list k 0) (add-zero (request_size * i)) in
     rw (e, s, byte list i 1 (omega arith), byte list i 2 (omega arith))
 
-returns : tie.Need-returns
-returns c = let known = c.before.before.before in let a = known.before.before.args in made a.list.now a.i _ c.number_of.ensures
-
-pub request_spec : {M : Type 1} → statement M
-request_spec =
-    tie.close
-    (tie.spec
-    (λ c. search rules)
-    (λ c. search rules)
-    (λ c. search rules)
-    (λ c. search rules)
-    (λ c. search rules)
-    (λ c. search rules)
-    (λ c κs. search rules)
-    returns)
+pub returns : goal.returns
+returns c = let a = c.args in made a.list.now a.i _ c.number_of.ensures
