@@ -9,7 +9,7 @@ use answer::Answer;
 
 // What is found for a list of references: the mask of the places that hold them, and the index of the first reference that no place holds, or the
 // number of references if all are held.
-#[derive(Drop)]
+#[derive(Clone, Copy)]
 pub struct Found {
     pub places: u64,
     pub missing: usize,

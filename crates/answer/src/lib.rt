@@ -10,7 +10,7 @@ ghost use Rattle.answer.specs.Checks.{success as Checks·success, refused as Che
 
 // A refusal's number, 0 for none, and the value that goes with it.
 #[repr(C)]
-#[derive(Drop)]
+#[derive(Clone, Copy)]
 pub struct Answer {
     pub refusal: u8,
     pub value: usize,

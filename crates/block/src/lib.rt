@@ -33,7 +33,7 @@ pub const MAX_BLOCK_SIZE: usize = HEADER_SIZE
     + MAX_REQUEST_LIST_SIZE;
 
 // A slot, and the amendment number that is requested in it.
-#[derive(Drop)]
+#[derive(Clone, Copy)]
 pub struct Request {
     pub slot: u8,
     pub number: u16,
@@ -41,7 +41,7 @@ pub struct Request {
 
 // A block's fields. Of its two lists only the counts of entries are here: the lists are parts of the block's bytes.
 #[repr(C)]
-#[derive(Drop)]
+#[derive(Clone, Copy)]
 pub struct Fields {
     pub site: u8,
     pub sequence: u16,
@@ -50,7 +50,7 @@ pub struct Fields {
 }
 
 // What reading a block gives: its fields, or the check that fails, of 6, 18 and 7 with the index of the first entry that fails it.
-#[derive(Drop)]
+#[derive(Clone, Copy)]
 pub enum Reading {
     Block(Fields),
     Misshapen,

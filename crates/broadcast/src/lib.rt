@@ -14,7 +14,7 @@ ghost use Rattle.broadcast.specs.Process.{support, take_send, take_echo, take_re
 use setup::MAX_SITES;
 
 // The SEND, ECHO and READY that were sent and the number that was delivered; 0 is none.
-#[derive(Drop)]
+#[derive(Clone, Copy)]
 pub struct Sent {
     pub send: u16,
     pub echo: u16,
@@ -23,7 +23,7 @@ pub struct Sent {
 }
 
 // A slot's record: what was sent so far, the ECHO and the READY heard from each site, and what was made in this block.
-#[derive(Drop)]
+#[derive(Clone, Copy)]
 pub struct SlotRecord {
     pub sent: Sent,
     pub echoes: [u16; MAX_SITES],
@@ -32,7 +32,7 @@ pub struct SlotRecord {
 }
 
 // A message's kind, in the order in which messages are heard.
-#[derive(Drop)]
+#[derive(Clone, Copy)]
 pub enum Kind {
     Send,
     Echo,

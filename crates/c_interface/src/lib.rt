@@ -15,7 +15,7 @@ use block::{Fields, REFERENCE_SIZE, Reading};
 
 // What reading a block answers: a success and the block's fields, or the refusal beside fields that are all 0.
 #[repr(C)]
-#[derive(Drop)]
+#[derive(Clone, Copy)]
 pub struct BlockReading {
     pub answer: Answer,
     pub fields: Fields,
@@ -23,7 +23,7 @@ pub struct BlockReading {
 
 // A request of a block, or a refusal beside which slot and number are 0.
 #[repr(C)]
-#[derive(Drop)]
+#[derive(Clone, Copy)]
 pub struct Requested {
     pub answer: Answer,
     pub slot: u8,

@@ -23,7 +23,7 @@ pub const OUTCOMES_SIZE: usize = 2 * MAX_SHARE;
 
 // An arrival's own answer, and how many blocks that waited were let in or dropped by it.
 #[repr(C)]
-#[derive(Drop)]
+#[derive(Clone, Copy)]
 pub struct ArrivalAnswer {
     pub answer: Answer,
     pub ended: usize,
@@ -31,7 +31,7 @@ pub struct ArrivalAnswer {
 
 // A pass over the shelf: the entry at which it stands, whether it has let a block in, and how many blocks have ended since the arrival. A block has
 // ended when it was let in or dropped.
-#[derive(Drop)]
+#[derive(Clone, Copy)]
 pub struct Pass {
     pub at: usize,
     pub admitted: bool,

@@ -10,7 +10,7 @@ use table::rows;
 
 // For each site, the lowest number of each kind that was made in its blocks, 0 if there is none. A higher number has no effect: of a sender's
 // messages of one kind only the first counts.
-#[derive(Drop)]
+#[derive(Clone, Copy)]
 struct Lowest {
     sends: [u16; MAX_SITES],
     echoes: [u16; MAX_SITES],

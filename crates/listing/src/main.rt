@@ -18,7 +18,7 @@ use report::ListingState;
 use table::TABLE_SIZE;
 
 // What a read leaves: how many bytes stand at the front of the input buffer, whether no more will come, and whether reading failed.
-#[derive(Drop)]
+#[derive(Clone, Copy)]
 struct Front {
     count: usize,
     is_ended: bool,
@@ -97,7 +97,7 @@ fn write_front(output: &[u8], count: usize) -> bool
 
 // How far the program has come, between two turns: the state, how many bytes at the front of the input buffer are unread, whether no more will come,
 // and whether the program is done, since the listing is at its end or reading or writing failed.
-#[derive(Drop)]
+#[derive(Clone, Copy)]
 struct ProgramState {
     state: ListingState,
     count: usize,

@@ -39,14 +39,14 @@ pub const LINE_SIZE: usize = FIELDS * (MAX_DIGITS + 1);
 pub const LINES_SIZE: usize = SLOTS * LINE_SIZE;
 
 // A field of a line: a number, or none, which is written as `-`.
-#[derive(Drop)]
+#[derive(Clone, Copy)]
 pub enum Field {
     Number(u64),
     Empty,
 }
 
 // What a delivery's line shows.
-#[derive(Drop)]
+#[derive(Clone, Copy)]
 pub struct Delivery {
     pub arrival: u64,
     pub place: usize,
@@ -58,7 +58,7 @@ pub struct Delivery {
 
 // What is expected of the input next: the setup; the length of an arrival; a verdict and a block of this size; so many bytes that are skipped; or
 // nothing, since the listing is at its end.
-#[derive(Drop)]
+#[derive(Clone, Copy)]
 pub enum Expected {
     Setup,
     Length,
@@ -68,7 +68,7 @@ pub enum Expected {
 }
 
 // The state between two steps: what is expected next, and how many arrivals there were.
-#[derive(Drop)]
+#[derive(Clone, Copy)]
 pub struct ListingState {
     pub expected: Expected,
     pub arrivals: u64,
@@ -82,7 +82,7 @@ pub struct Lines {
 }
 
 // What a step gives: the next state, and the lines to write.
-#[derive(Drop)]
+#[derive(Clone, Copy)]
 pub struct Stepped {
     pub state: ListingState,
     pub lines: Lines,
@@ -90,7 +90,7 @@ pub struct Stepped {
 
 // What the steps of one gathering came to: the next state, how many of the unread bytes were used, and how many bytes of lines stand at the front of
 // the output.
-#[derive(Drop)]
+#[derive(Clone, Copy)]
 pub struct Gathered {
     pub state: ListingState,
     pub used: usize,

@@ -8,7 +8,7 @@ ghost use Rattle.report.specs.Framing.{max_digits, field_size, line_size, lines_
 use crate::{FIELDS, Field, LINES_SIZE, Lines, MAX_DIGITS};
 
 // The last bytes of an array, from index `start` on.
-#[derive(Drop)]
+#[derive(Clone, Copy)]
 struct Tail {
     bytes: [u8; MAX_DIGITS],
     start: usize,

@@ -5,7 +5,7 @@ ghost use Rattle.sha256.specs.Sha256.{T1, T2, round, rounds};
 use crate::words::{add, big_sigma0, big_sigma1, ch, low, maj};
 
 // The eight working variables, and the hash value between two blocks.
-#[derive(Drop)]
+#[derive(Clone, Copy)]
 pub struct State {
     pub a: u32,
     pub b: u32,

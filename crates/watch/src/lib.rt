@@ -15,7 +15,7 @@ use table::rows;
 
 // The mask of the sites that forked, how many they are, and whether that is at most f. Beside a refusal mask and count are 0, and the last is false.
 #[repr(C)]
-#[derive(Drop)]
+#[derive(Clone, Copy)]
 pub struct ForkedSites {
     pub refusal: u8,
     pub sites: u16,
@@ -25,7 +25,7 @@ pub struct ForkedSites {
 
 // The mask of the places of a block's ancestors, and how many they are. Beside a refusal both are 0.
 #[repr(C)]
-#[derive(Drop)]
+#[derive(Clone, Copy)]
 pub struct AncestorPlaces {
     pub refusal: u8,
     pub places: u64,
