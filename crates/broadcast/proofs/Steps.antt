@@ -73,14 +73,22 @@ put_new delivery_entry v s = refl
 
 -- what an entry is after one was put: the old number, or the new one in its own entry
 pub put_cases : (e f : Entry) (v : ℕ) → ((s : Sent) → entry_of f (put_at e v s) ≡ entry_of f s) ⊎ ((f ≡ e) × ((s : Sent) → entry_of f (put_at e v s) ≡ v))
-put_cases send_entry f v =
-    elim f [ send_entry ↦ inr (refl, λ _. refl) | echo_entry ↦ inl (λ _. refl) | ready_entry ↦ inl (λ _. refl) | delivery_entry ↦ inl (λ _. refl) ]
-put_cases echo_entry f v =
-    elim f [ send_entry ↦ inl (λ _. refl) | echo_entry ↦ inr (refl, λ _. refl) | ready_entry ↦ inl (λ _. refl) | delivery_entry ↦ inl (λ _. refl) ]
-put_cases ready_entry f v =
-    elim f [ send_entry ↦ inl (λ _. refl) | echo_entry ↦ inl (λ _. refl) | ready_entry ↦ inr (refl, λ _. refl) | delivery_entry ↦ inl (λ _. refl) ]
-put_cases delivery_entry f v =
-    elim f [ send_entry ↦ inl (λ _. refl) | echo_entry ↦ inl (λ _. refl) | ready_entry ↦ inl (λ _. refl) | delivery_entry ↦ inr (refl, λ _. refl) ]
+put_cases send_entry send_entry v = inr (refl, λ _. refl)
+put_cases send_entry echo_entry v = inl (λ _. refl)
+put_cases send_entry ready_entry v = inl (λ _. refl)
+put_cases send_entry delivery_entry v = inl (λ _. refl)
+put_cases echo_entry send_entry v = inl (λ _. refl)
+put_cases echo_entry echo_entry v = inr (refl, λ _. refl)
+put_cases echo_entry ready_entry v = inl (λ _. refl)
+put_cases echo_entry delivery_entry v = inl (λ _. refl)
+put_cases ready_entry send_entry v = inl (λ _. refl)
+put_cases ready_entry echo_entry v = inl (λ _. refl)
+put_cases ready_entry ready_entry v = inr (refl, λ _. refl)
+put_cases ready_entry delivery_entry v = inl (λ _. refl)
+put_cases delivery_entry send_entry v = inl (λ _. refl)
+put_cases delivery_entry echo_entry v = inl (λ _. refl)
+put_cases delivery_entry ready_entry v = inl (λ _. refl)
+put_cases delivery_entry delivery_entry v = inr (refl, λ _. refl)
 
 -- ---- every step
 
