@@ -1,0 +1,56 @@
+-- `fresh_in_lem` meets its contract: one law for each way out. Assumes nothing.
+use mathlib.Core.Path.{◌≡◌, sym, ap, ◌∙◌}
+use mathlib.Core.Bool.{true, false}
+use mathlib.Core.Logic.{◌≢◌}
+use Prim.Native.Nat.{ℕ}
+use lib.ListN.{length, replicate}
+use borrow.Author.Tests.{eq-eqb, ne_eqb}
+use Rattle.base.specs.Bytes.{Bytes}
+use Rattle.answer.specs.Checks.{success, refused, answer_to}
+use Rattle.setup.specs.Setup.{Setup, lawful}
+use Rattle.setup.proofs.Thresholds.{eight_owners}
+use Rattle.table.specs.Layout.{table_size}
+use Rattle.table.specs.Fresh.{empty_table, fresh_answer, fresh_in}
+use Rattle.table.proofs.fresh_in.Goals as goal
+use Rattle.table.proofs.fresh_in.Goals.{After-lawful, Else-not-lawful}
+
+module _ (s : Setup) (t : Bytes) where
+  way1 : lawful s ≡ false → (refused 1 0 ≡ fresh_answer s t) × (t ≡ fresh_in s t)
+  unfolding fresh_in fresh_answer answer_to
+  way1 e = (rw e, rw e)
+
+  way2 : lawful s ≡ true → length t ≢ table_size → (refused 2 0 ≡ fresh_answer s t) × (t ≡ fresh_in s t)
+  unfolding fresh_in fresh_answer answer_to
+  way2 e n = (rw (e, ne_eqb (length t) table_size n), rw (e, ne_eqb (length t) table_size n))
+
+  way0 : (t' : Bytes) → lawful s ≡ true → length t ≡ table_size → t' ≡ empty_table s → (success 0 ≡ fresh_answer s t) × (t' ≡ fresh_in s t)
+  unfolding fresh_in fresh_answer answer_to
+  way0 t' e n m = (rw (e, eq-eqb (length t) table_size n), rw (e, eq-eqb (length t) table_size n) m)
+
+abbrev setup : After-lawful → Setup
+setup c = let a = c.args in record { sites = a.sites; owners = a.owners.now }
+
+is_lawful : (c : Else-not-lawful) → lawful (setup (goal.at.Else-not-lawful c).After-lawful) ≡ true
+is_lawful c = sym c.lawful.ensures ∙ c.if-not-lawful.false
+
+pub returns-then-not-lawful : goal.returns-then-not-lawful
+returns-then-not-lawful c = let w = way1 (setup (goal.at.returns-then-not-lawful c).After-lawful) _ (sym c.lawful.ensures ∙ c.if-not-lawful.true) in record {
+  value = rw c.refused.ensures w.0;
+  table_after = w.1;
+}
+
+pub returns-then-table-ne-TABLE_SIZE : goal.returns-then-table-ne-TABLE_SIZE
+returns-then-table-ne-TABLE_SIZE c = let w = way2 (setup (goal.at.returns-then-table-ne-TABLE_SIZE c).After-lawful) _ (is_lawful (goal.at.returns-then-table-ne-TABLE_SIZE c).Else-not-lawful) c.if-table-ne-TABLE_SIZE.true in record {
+  value = rw c.refused-then-table-ne-TABLE_SIZE.ensures w.0;
+  table_after = w.1;
+}
+
+pub put_setup-requires : goal.put_setup-requires
+put_setup-requires c =
+    (eight_owners (setup (goal.at.put_setup-requires c).After-lawful) (is_lawful (goal.at.put_setup-requires c).Else-not-lawful), c.clear.ensures ∙ ap (λ (n : ℕ). replicate n 0) c.if-table-ne-TABLE_SIZE.false)
+
+pub returns : goal.returns
+returns c = let w = way0 (setup (goal.at.returns c).After-lawful) _ _ (is_lawful (goal.at.returns c).Else-not-lawful) c.if-table-ne-TABLE_SIZE.false c.put_setup.ensures in record {
+  value = rw c.success.ensures w.0;
+  table_after = w.1;
+}
