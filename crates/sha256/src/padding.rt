@@ -31,7 +31,7 @@ fn put_rest(message: &[u8], at: usize, tail: &mut [u8])
     ensures { tail.new ≡ drop at message.now ++ (0x80 ∷ replicate (127 - (length message.now - at)) 0) }
 {
     let n = message.len() - at;
-    tail[..n].copy_from_slice(&message[at..]);
+    base::put(tail, 0, &message[at..]);
     tail[n] = 0x80;
 }
 

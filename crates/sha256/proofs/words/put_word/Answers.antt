@@ -9,9 +9,7 @@ use native.Mathlib.Omega.{arith}
 use lib.ListN.{length, set, length-set}
 use Rattle.base.specs.Bytes.{Bytes, splice}
 use Rattle.base.proofs.Splice.{splice_of_stores}
-use borrow.Author.Rules.{rules}
-use Rattle.sha256.proofs.words.put_word.Statement.{statement}
-use Rattle.sha256.proofs.words.put_word.Tie as tie
+use Rattle.sha256.proofs.words.put_word.Goals as goal
 
 four : (b : Bytes) (i x y z w : ℕ) → i + 4 ≤ length b → set (set (set (set b i x) (i + 1) y) (i + 2) z) (i + 3) w ≡ splice b i (x ∷ y ∷ z ∷ w ∷ [])
 four b i x y z w h =
@@ -19,20 +17,14 @@ four b i x y z w h =
     let two : i + 2 ≡ suc (suc i) = omega arith in
     rw (three, two, add-one) (splice_of_stores b (x ∷ y ∷ z ∷ w ∷ []) i h)
 
-pub put_word_spec : {M : Type 1} → statement M
-put_word_spec =
-    tie.close
-    (tie.spec
-    (λ c. search rules)
-    (λ c. search rules)
-    (λ c. search rules)
-    (λ c. search rules)
-    (λ c. simp length-set (omega arith))
-    (λ c. search rules)
-    (λ c. search rules)
-    (λ c. simp length-set (omega arith))
-    (λ c. search rules)
-    (λ c. search rules)
-    (λ c. simp length-set (omega arith))
-    (λ c. search rules)
-    (λ c. simp div-one (four c.args.m.now c.args.i _ _ _ _ c.requires)))
+pub bounds-m-i-2 : goal.bounds-m-i-2
+bounds-m-i-2 c = simp length-set (omega arith)
+
+pub bounds-m-i-3 : goal.bounds-m-i-3
+bounds-m-i-3 c = simp length-set (omega arith)
+
+pub bounds-m-i-4 : goal.bounds-m-i-4
+bounds-m-i-4 c = simp length-set (omega arith)
+
+pub returns : goal.returns
+returns c = simp div-one (four c.args.m.now c.args.i _ _ _ _ c.requires)

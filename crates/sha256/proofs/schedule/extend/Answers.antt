@@ -1,5 +1,3 @@
--- `extend` meets its contract. The loop's invariant: the first t words are the schedule's, and `a` and `b` are the last two of them.
--- Assumes nothing.
 use borrow.Author.Rules.{rules}
 use native.Mathlib.Omega.{arith}
 use Prim.Native.Nat.{ℕ, suc, ◌+◌, ◌-◌, ◌≤◌, ◌<◌}
@@ -10,8 +8,7 @@ use mathlib.Core.List.{List}
 use lib.ListN.{length, take, set, get_or, length-set}
 use lib.Seq.{take-suc-set, get_or-take, get_or-set_same, get_or-set_other, take_all}
 use Rattle.sha256.specs.Sha256.{next, schedule}
-use Rattle.sha256.proofs.schedule.extend.Statement.{statement}
-use Rattle.sha256.proofs.schedule.extend.Tie as tie
+use Rattle.sha256.proofs.schedule.extend.Goals as goal
 
 next_take : (w : List ℕ) (t : ℕ) → 16 ≤ t → next (take t w) t ≡ next w t
 unfolding next
@@ -44,46 +41,17 @@ newer w t v h =
 finish : (M w : List ℕ) (t : ℕ) → t ≡ 64 → length w ≡ 64 → take t w ≡ schedule M (t - 16) → w ≡ schedule M 48
 finish M w t e l h = sym (take_all t w (omega arith)) ∙ h ∙ ap (λ (n : ℕ). schedule M (n - 16)) e
 
-abbrev invariant-loop : tie.invariant-loop
-invariant-loop w₀ a₀ b₀ t₀ w a b t = (16 ≤ t) × (t ≤ 64) × (length w ≡ 64) × (a ≡ get_or w (t - 2) 0) × (b ≡ get_or w (t - 1) 0) × (take t w ≡ schedule (take 16 w₀) (t - 16))
-
-abbrev decreases-loop : tie.decreases-loop
-decreases-loop w₀ a₀ b₀ t₀ w a b t = 64 - t
-
-loop-holds : tie.Need-loop-init invariant-loop decreases-loop
+pub loop-t-init : goal.loop-t-init
 unfolding schedule
-loop-holds c = (omega arith, omega arith, search rules, refl, refl, refl)
+loop-t-init c = (omega arith, omega arith, search rules, refl, refl, refl)
 
-loop-again : tie.Need-loop-preserved invariant-loop decreases-loop
+pub loop-t-preserved : goal.loop-t-preserved
 unfolding next
-loop-again c =
-    let l = c.before.before.loop in
-    let v = c.next_of.result in
-    let n : v ≡ next l.w l.t = rw l.invariant.3 at c.next_of.ensures in
+loop-t-preserved c =
+    let l = c.loop-t in
+    let v = c.next_of-c.result in
+    let n : v ≡ next l.w l.t = rw l.invariant.3 at c.next_of-c.ensures in
     (omega arith, omega arith, simp length-set l.invariant.2, older l.w l.t v l.b l.invariant.0 l.invariant.4, newer l.w l.t v (omega arith), step _ l.w l.t v l.invariant.0 (omega arith) l.invariant.5 n)
 
-pub extend_spec : {M : Type 1} → statement M
-extend_spec =
-    tie.close
-    (tie.spec
-    invariant-loop
-    decreases-loop
-    (λ c. search rules)
-    (λ c. search rules)
-    loop-holds
-    (λ c. search rules)
-    (λ c. search rules)
-    (λ c. search rules)
-    (λ c. search rules)
-    (λ c. search rules)
-    (λ c. search rules)
-    (λ c. search rules)
-    (λ c. search rules)
-    (λ c. search rules)
-    (λ c κs. search rules)
-    (λ c. search rules)
-    (λ c. search rules)
-    (λ c. search rules)
-    (λ c. search rules)
-    loop-again
-    (λ c. let l = c.before.loop in finish _ l.w l.t (omega arith) l.invariant.2 l.invariant.5))
+pub returns : goal.returns
+returns c = let l = c.loop-t in finish _ l.w l.t (omega arith) l.invariant.2 l.invariant.5
