@@ -11,8 +11,8 @@ use Rattle.broadcast.specs.declared.SlotRecord.{SlotRecord}
 use Rattle.broadcast.proofs.Steps.{Sized}
 use Rattle.records.specs.Layout.{echoes_offset, readies_offset, made_offset, sent_numbers, flatten}
 use Rattle.records.proofs.EntryCounts.{held_sized}
-use Rattle.records.proofs.numbers.put_record.Statement.{statement}
-use Rattle.records.proofs.numbers.put_record.Tie as tie
+use Rattle.records.proofs.numbers.put_record.Goals as goal
+use Rattle.records.proofs.numbers.put_record.Goals.{After-put_sent}
 
 module _ (out a b c d : List ℕ) (at : ℕ) (s : SlotRecord) (sized : Sized s) (within : at ≤ length out) where
   all_put : a ≡ splice out at (sent_numbers s.sent) → b ≡ splice a (at + echoes_offset) s.echoes → c ≡ splice b (at + readies_offset) s.readies
@@ -24,41 +24,16 @@ module _ (out a b c d : List ℕ) (at : ℕ) (s : SlotRecord) (sized : Sized s) 
       stored_behind out c d ((sent_numbers s.sent ++ s.echoes) ++ s.readies) (sent_numbers s.made) at (at + made_offset) within three (simp length-append (omega arith)) t
       ∙ ap (splice out at) (simp append_assoc)
 
--- the places on the way, each from the next one
-abbrev start : tie.After-put-sent → tie.Start
-start c = c.before.before.before.before.before
+sized : (c : After-put_sent) → Sized c.args.state
+sized c = held_sized _ c.well_formed.1.1.0
 
-abbrev sent : tie.After-put-arg → tie.After-put-sent
-sent c = c.before.before.before
-
-abbrev echoes : tie.After-put-arg2 → tie.After-put
-echoes c = c.before.before.before
-
-sized : (c : tie.After-put-sent) → Sized (start c).args.state
-sized c = held_sized _ (start c).well-formed.1.1.0
-
-returns : tie.Need-returns
+pub returns : goal.returns
 returns c =
-    let fourth = c.before.before in
-    let lent = fourth.before.before in let third = lent.before.before in
-    let second = echoes third.before.before in
-    let first = sent second.before.before in
-    let s = start first in
-    all_put s.args.out.now _ _ _ _ s.args.at s.args.state (sized first) (omega (arith, s.pre))
-    first.put-sent.ensures second.put.ensures third.put2.ensures fourth.put-sent2.ensures
+    all_put c.args.out.now _ _ _ _ c.args.at c.args.state (sized (goal.at.returns c).After-put_sent) (omega (arith, c.requires))
+    c.put_sent.ensures c.put.ensures c.put-2.ensures c.put_sent-2.ensures
 
-pub put_record_spec : {M : Type 1} → statement M
-put_record_spec =
-    tie.close
-    (tie.spec
-    (λ c κs. search rules)
-    (λ c. search rules)
-    (λ c. search rules)
-    (λ c κs. let h = sized (sent c.before) in search rules)
-    (λ c. search rules)
-    (λ c. search rules)
-    (λ c κs. let h = sized (sent (echoes c.before).before.before) in search rules)
-    (λ c. search rules)
-    (λ c κs. search rules)
-    (λ c. search rules)
-    returns)
+pub put-requires : goal.put-requires
+put-requires c = let h = sized (goal.at.put-requires c).After-put_sent in search rules
+
+pub put-requires-2 : goal.put-requires-2
+put-requires-2 c = let h = sized (goal.at.put-requires-2 c).After-put_sent in search rules
