@@ -5,8 +5,7 @@ use Prim.Native.Nat.{ℕ, ◌≤◌, ◌<◌}
 use native.Mathlib.Omega.{arith}
 use lib.Dec.{ltb}
 use lib.ListN.{drop}
-use borrow.Author.Rules.{rules}
-use borrow.Author.Tests.{lt-ltb, le-ltb, not-true, not-false}
+use borrow.Author.Tests.{lt-ltb, le-ltb}
 use Rattle.base.specs.Search.{first_below, any_below}
 use Rattle.base.specs.Mask.{in_mask}
 use Rattle.base.specs.Bytes.{Bytes}
@@ -23,8 +22,8 @@ use Rattle.table.proofs.InForm.{formed_places}
 use Rattle.admission.specs.Admission.{missing, row_for, held_checks}
 use Rattle.admission.specs.Steps.{LookedUp, held_answer}
 use Rattle.admission.proofs.HeldReferences.{first_missing_lem, listed}
-use Rattle.admission.proofs.held.held_answer.Statement.{statement}
-use Rattle.admission.proofs.held.held_answer.Tie as tie
+use Rattle.admission.proofs.held.held_answer.Goals as goal
+use Rattle.admission.proofs.held.held_answer.Goals.{After-parent_rule}
 
 -- the ways out behind the parent rule
 record Behind (t b : Bytes) (k : ℕ) (rule : Bool) : Type 0 where
@@ -80,69 +79,44 @@ module _ (t index b d : Bytes) (references none k place : ℕ) (ready : LookedUp
             way0 = placed;
           }
 
--- the places on the way, each from the next one
-abbrev begin : tie.After-shared-slice-known4 → tie.Start
-begin c = c.before.before.before.before
-
-abbrev start : tie.After-find → tie.Start
-start c = begin c.before.before
-
-abbrev new : tie.After-reference-count → tie.Else1
-new c = c.before
-
-abbrev linked : tie.After-parent-rule → tie.Else2
-linked c = c.before.before.before
-
 -- the ways out behind the parent rule, from where it was asked
-behind : (c : tie.After-parent-rule) → let f = (new (linked c).before).before in
-    Behind (start f).args.table.now (start f).args.block.now f.before.count_of.result c.parent-rule.result
+behind : (c : After-parent_rule) → Behind c.args.table.now c.args.block.now c.count_of-k.result c.parent_rule.result
 behind c =
-    let e = linked c in
-    let g = new e.before in
-    let f = g.before in
-    let s = start f in
-    ways _ _ _ _ _ _ _ _ s.pre.0 s.pre.1 f.before.count_of.ensures f.find.ensures g.if1.left _ e.before.reference-count.ensures e.if2.left
-    _ _ _ c.before.before.site-of.ensures c.before.sequence-of.ensures c.parent-rule.ensures
+    ways _ _ _ _ _ _ _ _ c.requires.0 c.requires.1 c.count_of-k.ensures c.find-place.ensures c.if-place-k.false _ c.reference_count.ensures c.if-missing-reference_count.false
+    _ _ _ c.site_of.ensures c.sequence_of.ensures c.parent_rule.ensures
 
-returns : tie.Need-returns
-returns c =
-    let b = c.before in
-    let f = b.before in
-    let s = start f in
-    rw c.refused.ensures (way8 _ _ _ _ _ _ _ _ s.pre.0 s.pre.1 f.before.count_of.ensures f.find.ensures b.if1.true)
+pub returns-then-place-k : goal.returns-then-place-k
+returns-then-place-k c =
+    rw c.refused.ensures (way8 _ _ _ _ _ _ _ _ c.requires.0 c.requires.1 c.count_of-k.ensures c.find-place.ensures c.if-place-k.true)
 
-returns-2 : tie.Need-returns-2
-returns-2 c =
-    let b = c.before in
-    let g = new b.before in
-    let f = g.before in
-    let s = start f in
-    rw c.refused2.ensures (way9 _ _ _ _ _ _ _ _ s.pre.0 s.pre.1 f.before.count_of.ensures f.find.ensures g.if1.left
-    _ b.before.reference-count.ensures b.if2.true)
+pub returns-then-missing-reference_count : goal.returns-then-missing-reference_count
+returns-then-missing-reference_count c =
+    rw c.refused-then-missing-reference_count.ensures (way9 _ _ _ _ _ _ _ _ c.requires.0 c.requires.1 c.count_of-k.ensures c.find-place.ensures c.if-place-k.false
+    _ c.reference_count.ensures c.if-missing-reference_count.true)
 
-returns-4 : tie.Need-returns-4
-returns-4 c = let b = c.before in let e = b.before in rw c.refused4.ensures ((behind e.before).way11 (not-false _ e.if3.false) b.if4.true)
+pub returns-then-k-ge-MAX_PLACES : goal.returns-then-k-ge-MAX_PLACES
+returns-then-k-ge-MAX_PLACES c = rw c.refused-then-k-ge-MAX_PLACES.ensures ((behind (goal.at.returns-then-k-ge-MAX_PLACES c).After-parent_rule).way11 (c.if-not-parent_rule.false) c.if-k-ge-MAX_PLACES.true)
 
-returns-5 : tie.Need-returns-5
-returns-5 c = let b = c.before in let e = b.before in rw c.success.ensures ((behind e.before).way0 (not-false _ e.if3.false) b.if4.false)
+pub returns : goal.returns
+returns c = rw c.success.ensures ((behind (goal.at.returns c).After-parent_rule).way0 (c.if-not-parent_rule.false) c.if-k-ge-MAX_PLACES.false)
 
-pub held_answer_spec : {M : Type 1} → statement M
-held_answer_spec =
-    tie.close
-    (tie.spec
-    (λ c κs. (formed_places _ (begin c).requires.0.indexed.formed).size)
-    (λ c κs. (begin c.before).requires.0.indexed)
-    (λ c κs. search rules)
-    returns
-    (λ c κs. (start c.before).requires.0.shaped)
-    (λ c κs. search rules)
-    returns-2
-    (λ c κs. (start (new c.before).before).requires.0.shaped)
-    (λ c κs. (start (new c.before.before).before).requires.0.shaped)
-    (λ c κs. let f = (new c.before.before.before).before in rw f.before.count_of.ensures (formed_places _ (start f).pre.0.indexed.formed))
-    (λ c κs. search rules)
-    (λ c. let b = c.before in rw c.refused3.ensures ((behind b.before).way10 (not-true _ b.if3.true)))
-    (λ c κs. search rules)
-    returns-4
-    (λ c κs. search rules)
-    returns-5)
+pub count_of-k-requires : goal.count_of-k-requires
+count_of-k-requires c = (formed_places _ c.requires.0.indexed.formed).size
+
+pub find-place-requires : goal.find-place-requires
+find-place-requires c = c.requires.0.indexed
+
+pub reference_count-requires : goal.reference_count-requires
+reference_count-requires c = c.requires.0.shaped
+
+pub site_of-requires : goal.site_of-requires
+site_of-requires c = c.requires.0.shaped
+
+pub sequence_of-requires : goal.sequence_of-requires
+sequence_of-requires c = c.requires.0.shaped
+
+pub parent_rule-requires : goal.parent_rule-requires
+parent_rule-requires c = rw c.count_of-k.ensures (formed_places _ c.requires.0.indexed.formed)
+
+pub returns-then-not-parent_rule : goal.returns-then-not-parent_rule
+returns-then-not-parent_rule c = rw c.refused-then-not-parent_rule.ensures ((behind (goal.at.returns-then-not-parent_rule c).After-parent_rule).way10 (c.if-not-parent_rule.true))

@@ -3,7 +3,6 @@ use mathlib.Core.Path.{◌≡◌, refl, sym, ap, ◌∙◌}
 use mathlib.Core.Logic.{◌≢◌}
 use Prim.Native.Nat.{ℕ}
 use lib.ListN.{length}
-use borrow.Author.Rules.{rules}
 use borrow.Author.Tests.{eq-eqb, ne_eqb, ltb-true}
 use Rattle.base.specs.Mask.{in_mask}
 use Rattle.base.specs.Bytes.{Bytes}
@@ -24,8 +23,8 @@ use Rattle.table.proofs.AddedRow.{put_same}
 use Rattle.admission.specs.Admission.{row_for, held_checks}
 use Rattle.admission.specs.Steps.{LookedUp, first_missing, places_listed, held_answer, entered}
 use Rattle.admission.proofs.HeldReferences.{listed}
-use Rattle.admission.proofs.enter.Statement.{statement}
-use Rattle.admission.proofs.enter.Tie as tie
+use Rattle.admission.proofs.enter.Goals as goal
+use Rattle.admission.proofs.enter.Goals.{After-index_of-index}
 
 -- where nothing is refused there is room
 room : (t b : Bytes) → Places t (count_of t) → (held_answer t b).refusal ≡ 0 → Place t (count_of t)
@@ -61,83 +60,40 @@ way_refused : (t b : Bytes) (a : Answer) → a ≡ held_answer t b → a.refusal
 unfolding entered
 way_refused t b a e n = (e, rw (← e, ne_eqb a.refusal 0 n))
 
--- the places on the way, each from the next one
-abbrev start : tie.After-digest → tie.Start
-start c = c.before.before.before
+indexed : (c : After-index_of-index) → Indexed c.args.table.now c.index_of-index.result
+indexed c = record { formed = c.requires.0; indexed = c.index_of-index.ensures }
 
-abbrev digest : tie.After-index-of → tie.After-digest
-digest c = c.before.before
+pub held_answer-answer-requires : goal.held_answer-answer-requires
+held_answer-answer-requires c =
+    (ready _ _ c.requires.1 _ c.reference_list.ensures _ c.look_up-found.ensures.places_value _ _ (indexed (goal.at.held_answer-answer-requires c).After-index_of-index) c.look_up-found.ensures.missing_value, c.digest-digest.ensures)
 
-abbrev index : tie.After-reference-list → tie.After-index-of
-index c = c.before.before.before
+pub returns-then-answer-ne0 : goal.returns-then-answer-ne0
+returns-then-answer-ne0 c = let w = way_refused _ _ _ c.held_answer-answer.ensures c.if-answer-ne0.true in record {
+  value = w.0;
+  table_after = w.1;
+}
 
-abbrev found : tie.After-digest2 → tie.After-look-up
-found c = c.before.before.before
+pub put_row-requires : goal.put_row-requires
+put_row-requires c = (
+  room _ _ (formed_places _ c.requires.0) (number_of (sym c.held_answer-answer.ensures) ∙ c.if-answer-ne0.false),
+  ap length c.digest-digest.ensures ∙ sha256_length c.args.block.now,
+)
 
-abbrev passed : tie.After-digest3 → tie.Else1
-passed c = c.before.before
+pub returns : goal.returns
+returns c = let w = way_entered _ _ c.requires.1 _ c.reference_list.ensures _ c.look_up-found.ensures.places_value _ _ _ _ c.digest-digest.ensures c.request_list.ensures
+    (ap (λ (x : Fields). x.site) c.requires.2) (ap (λ (x : Fields). x.sequence) c.requires.2) _ _ c.held_answer-answer.ensures c.if-answer-ne0.false c.put_row.ensures in record {
+      value = w.0;
+      table_after = w.1;
+    }
 
-abbrev decided : tie.Else1 → tie.After-held-answer
-decided c = c.before.before
+pub index_of-index-requires : goal.index_of-index-requires
+index_of-index-requires c = c.requires.0
 
-indexed : (c : tie.After-index-of) → Indexed (start (digest c)).args.table.now c.index_of.result
-indexed c = record { formed = (start (digest c)).requires.0; indexed = c.index_of.ensures }
+pub reference_list-requires : goal.reference_list-requires
+reference_list-requires c = c.requires.1
 
--- where the code starts, from behind the checks
-abbrev begun : tie.Else1 → tie.Start
-begun c = start (digest (index (found (decided c).before).before))
+pub look_up-found-requires : goal.look_up-found-requires
+look_up-found-requires c = indexed (goal.at.look_up-found-requires c).After-index_of-index
 
-held_answer_requires : tie.Need-held-answer-requires
-held_answer_requires c κs =
-    let p = found c in
-    let l = p.before in
-    let x = index l in
-    let d = digest x in
-    let s = start d in
-    (ready _ _ s.pre.1 _ l.reference-list.ensures _ p.look_up.ensures.0 _ _ (indexed x) p.look_up.ensures.1, d.digest.ensures)
-
-returns : tie.Need-returns
-returns c = way_refused _ _ _ c.before.before.held-answer.ensures c.if1.true
-
-put_row_requires : tie.Need-put-row-requires
-put_row_requires c κs =
-    let e = passed c.before in
-    let h = decided e in
-    let d = digest (index (found h.before).before) in
-    let s = start d in (
-      room _ _ (formed_places _ s.pre.0) (number_of (sym h.held-answer.ensures) ∙ e.if1.left),
-      ap length d.digest.ensures ∙ sha256_length s.args.block.now,
-    )
-
-returns-2 : tie.Need-returns-2
-returns-2 c =
-    let w = c.before.before in
-    let q = w.before in
-    let e = passed q.before in
-    let h = decided e in
-    let p = found h.before in
-    let l = p.before in
-    let d = digest (index l) in
-    let s = start d in
-    way_entered _ _ s.pre.1 _ l.reference-list.ensures _ p.look_up.ensures.0 _ _ _ _ d.digest.ensures q.request-list.ensures
-    (ap (λ (x : Fields). x.site) s.pre.2) (ap (λ (x : Fields). x.sequence) s.pre.2) _ _ h.held-answer.ensures e.if1.left w.put-row.ensures
-
-pub enter_spec : {M : Type 1} → statement M
-enter_spec =
-    tie.close
-    (tie.spec
-    (λ c κs. search rules)
-    (λ c κs. (start c.before).requires.0)
-    (λ c. search rules)
-    (λ c κs. (start (digest c.before.before)).requires.1)
-    (λ c κs. indexed (index c))
-    (λ c. search rules)
-    (λ c. search rules)
-    held_answer_requires
-    (λ c. search rules)
-    returns
-    (λ c. search rules)
-    (λ c κs. (begun (passed c)).requires.1)
-    put_row_requires
-    (λ c. search rules)
-    returns-2)
+pub request_list-requires : goal.request_list-requires
+request_list-requires c = c.requires.1
