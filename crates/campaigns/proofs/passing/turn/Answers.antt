@@ -24,8 +24,8 @@ use Rattle.admission.proofs.Effect.{refused_table}
 use Rattle.campaigns.specs.Passes.{outcome}
 use Rattle.campaigns.specs.Steps.{AtEntry, turned}
 use Rattle.campaigns.specs.declared.Pass.{Pass}
-use Rattle.campaigns.proofs.passing.turn.Statement.{statement}
-use Rattle.campaigns.proofs.passing.turn.Tie as tie
+use Rattle.campaigns.proofs.passing.turn.Goals as goal
+use Rattle.campaigns.proofs.passing.turn.Goals.{After-struct_known-2-1}
 
 module _ (t s : Bytes) (o : List ℕ) (c : ℕ) (p : Pass) (h : AtEntry s p) where
   abbrev ws : List Waiting
@@ -100,93 +100,57 @@ module _ (t s : Bytes) (o : List ℕ) (c : ℕ) (p : Pass) (h : AtEntry s p) whe
 
 -- ---- the places of the walk
 
-abbrev start_at : tie.After-campaign-at-arg → tie.Start
-start_at c = c.before.before.before.before
+add_ended : (c : After-struct_known-2-1) → c.args.p.ended ≤ 16
+add_ended c = omega (arith, c.requires.passable.few)
 
-abbrev start_of_own : tie.Else1 → tie.Start
-start_of_own c = start_at c.before.before
+pub returns-then-campaign_at-campaign : goal.returns-then-campaign_at-campaign
+returns-then-campaign_at-campaign c = let w = way_other c.args.table.now c.args.shelf.now c.args.outcomes.now c.args.campaign c.args.p c.requires _ c.campaign_at.ensures c.if-campaign_at-campaign.true in record {
+  value = w.0;
+  table_after = w.1.0;
+  shelf_after = w.1.1.0;
+  outcomes_after = w.1.1.1;
+}
 
--- after the try, and after it and its refusal by another number than 9
-abbrev own_of : tie.After-block-at → tie.Else1
-own_of c = c.before.before.before
+pub returns-then-answer-eq9 : goal.returns-then-answer-eq9
+returns-then-answer-eq9 c = let w = way_stays c.args.table.now c.args.shelf.now c.args.outcomes.now c.args.campaign c.args.p c.requires _ c.campaign_at.ensures c.if-campaign_at-campaign.false
+    _ c.block_at.ensures _ _ c.admit-answer.ensures.value c.admit-answer.ensures.table_after c.if-answer-eq9.true in record {
+      value = w.0;
+      table_after = w.1.0;
+      shelf_after = w.1.1.0;
+      outcomes_after = w.1.1.1;
+    }
 
-abbrev start_of : tie.After-admit → tie.Start
-start_of c = start_of_own (own_of c.before)
+pub returns-then-answer-eq0 : goal.returns-then-answer-eq0
+returns-then-answer-eq0 c = let w = way_let_in c.args.table.now c.args.shelf.now c.args.outcomes.now c.args.campaign c.args.p c.requires _ c.campaign_at.ensures c.if-campaign_at-campaign.false
+    _ c.block_at.ensures _ _ c.admit-answer.ensures.value c.admit-answer.ensures.table_after c.if-answer-eq9.false
+    _ c.take_out.ensures _ c.outcome_of.ensures _ c.put_answer.ensures c.if-answer-eq0.true in record {
+      value = w.0;
+      table_after = w.1.0;
+      shelf_after = w.1.1.0;
+      outcomes_after = w.1.1.1;
+    }
 
-abbrev tried_of : tie.After-struct-known → tie.After-admit
-tried_of c = c.before.before.before
+pub returns : goal.returns
+returns c = let w = way_dropped c.args.table.now c.args.shelf.now c.args.outcomes.now c.args.campaign c.args.p c.requires _ c.campaign_at.ensures c.if-campaign_at-campaign.false
+    _ c.block_at.ensures _ _ c.admit-answer.ensures.value c.admit-answer.ensures.table_after c.if-answer-eq9.false
+    _ c.take_out.ensures _ c.outcome_of.ensures _ c.put_answer.ensures c.if-answer-eq0.false in record {
+      value = w.0;
+      table_after = w.1.0;
+      shelf_after = w.1.1.0;
+      outcomes_after = w.1.1.1;
+    }
 
-abbrev not_nine : tie.After-take-out → tie.Else2
-not_nine c = c.before.before
+pub campaign_at-requires : goal.campaign_at-requires
+campaign_at-requires c = let q = c.requires in record { size = laid_size _ _ q.passable.laid; place = omega (arith, q.below, q.passable.laid.few) }
 
-abbrev taken_of : tie.After-outcome-of → tie.After-take-out
-taken_of c = c.before.before.before.before
+pub block_at-requires : goal.block_at-requires
+block_at-requires c = let q = c.requires in laid_entry_of _ _ q.passable.laid _ q.below
 
-abbrev put_of : tie.After-struct-known2 → tie.After-put-answer
-put_of c = c.before.before.before
+pub take_out-requires : goal.take_out-requires
+take_out-requires c = let q = c.requires in (q.passable.laid, q.below)
 
-add_ended : (c : tie.After-struct-known2) → let q = start_of (tried_of (not_nine (taken_of (put_of c).before)).before) in q.args.p.ended ≤ 16
-add_ended c = let q = start_of (tried_of (not_nine (taken_of (put_of c).before)).before) in omega (arith, q.pre.passable.few)
+pub overflow_add-result-then-answer-eq0 : goal.overflow_add-result-then-answer-eq0
+overflow_add-result-then-answer-eq0 c = let l = add_ended (goal.at.overflow_add-result-then-answer-eq0 c).After-struct_known-2-1 in search rules
 
-returns : tie.Need-returns
-returns c =
-    let q = start_at c.before.before in
-    way_other q.args.table.now q.args.shelf.now q.args.outcomes.now q.args.campaign q.args.p q.pre _ c.before.campaign-at.ensures c.if1.true
-
-returns-2 : tie.Need-returns-2
-returns-2 c =
-    let d = tried_of c.before in
-    let n = own_of d.before in
-    let q = start_of d in
-    way_stays q.args.table.now q.args.shelf.now q.args.outcomes.now q.args.campaign q.args.p q.pre _ n.before.campaign-at.ensures n.if1.left
-    _ d.before.block_at.ensures _ _ d.admit.ensures.0 d.admit.ensures.1 c.if2.true
-
-returns-3 : tie.Need-returns-3
-returns-3 c =
-    let u = put_of c.before in
-    let e = not_nine (taken_of u.before) in
-    let d = tried_of e.before in
-    let n = own_of d.before in
-    let q = start_of d in
-    way_let_in q.args.table.now q.args.shelf.now q.args.outcomes.now q.args.campaign q.args.p q.pre _ n.before.campaign-at.ensures n.if1.left
-    _ d.before.block_at.ensures _ _ d.admit.ensures.0 d.admit.ensures.1 e.if2.left
-    _ (taken_of u.before).take_out.ensures _ u.before.outcome-of.ensures _ u.put-answer.ensures c.if3.true
-
-returns-4 : tie.Need-returns-4
-returns-4 c =
-    let u = put_of c.before in
-    let e = not_nine (taken_of u.before) in
-    let d = tried_of e.before in
-    let n = own_of d.before in
-    let q = start_of d in
-    way_dropped q.args.table.now q.args.shelf.now q.args.outcomes.now q.args.campaign q.args.p q.pre _ n.before.campaign-at.ensures n.if1.left
-    _ d.before.block_at.ensures _ _ d.admit.ensures.0 d.admit.ensures.1 e.if2.left
-    _ (taken_of u.before).take_out.ensures _ u.before.outcome-of.ensures _ u.put-answer.ensures c.if3.false
-
-pub turn_spec : {M : Type 1} → statement M
-turn_spec =
-    tie.close
-    (tie.spec
-    (λ c κs. let q = (start_at c).requires in record { size = laid_size _ _ q.passable.laid; place = omega (arith, q.below, q.passable.laid.few) })
-    (λ c. search rules)
-    (λ c. search rules)
-    returns
-    (λ c κs. let q = (start_of_own c.before.before).requires in laid_entry_of _ _ q.passable.laid _ q.below)
-    (λ c κs. search rules)
-    (λ c. search rules)
-    (λ c. search rules)
-    (λ c. search rules)
-    returns-2
-    (λ c κs. let q = (start_of (tried_of c.before.before)).requires in (q.passable.laid, q.below))
-    (λ c κs. search rules)
-    (λ c κs. search rules)
-    (λ c. let l = add_ended c.before in search rules)
-    (λ c. search rules)
-    (λ c. search rules)
-    (λ c. search rules)
-    returns-3
-    (λ c. let l = add_ended c.before in search rules)
-    (λ c. search rules)
-    (λ c. search rules)
-    (λ c. search rules)
-    returns-4)
+pub overflow_add-result-2 : goal.overflow_add-result-2
+overflow_add-result-2 c = let l = add_ended (goal.at.overflow_add-result-2 c).After-struct_known-2-1 in search rules

@@ -7,8 +7,7 @@ use Prim.Native.Nat.{ℕ, ◌≤◌, ◌<◌}
 use native.Mathlib.Omega.{arith}
 use lib.Dec.{leb}
 use lib.ListN.{length}
-use borrow.Author.Rules.{rules}
-use borrow.Author.Tests.{eq-eqb, ne_eqb, le-leb, lt-leb, not-true, not-false}
+use borrow.Author.Tests.{eq-eqb, ne_eqb, le-leb, lt-leb}
 use Rattle.base.specs.Bytes.{Bytes}
 use Rattle.sha256.specs.Sha256.{sha256}
 use Rattle.answer.proofs.Checks.{number_of}
@@ -26,8 +25,8 @@ use Rattle.campaigns.specs.Arriving.{Arrived, Called, outcomes_size, listed, arr
 use Rattle.campaigns.specs.Steps.{shelved_at}
 use Rattle.campaigns.specs.declared.ArrivalAnswer.{ArrivalAnswer}
 use Rattle.campaigns.proofs.MissingReference.{with_table, shelved_any, shelved_tries, nine_short}
-use Rattle.campaigns.proofs.arrive.Statement.{statement}
-use Rattle.campaigns.proofs.arrive.Tie as tie
+use Rattle.campaigns.proofs.arrive.Goals as goal
+use Rattle.campaigns.proofs.arrive.Goals.{Else-not-in_form}
 
 -- an answer by which nothing has ended
 abbrev plain : Answer → ArrivalAnswer
@@ -128,125 +127,82 @@ module _ (t s : Bytes) (c : ℕ) (b : Bytes) (verdict : ℕ) (o : List ℕ) wher
 
 -- ---- the places of the walk
 
-abbrev start_of : tie.After-slice-known3 → tie.Start
-start_of c = c.before.before.before.before
-
-abbrev form_of : tie.After-admit → tie.Else3
-form_of c = c.before.before
-
-abbrev room_of : tie.Else3 → tie.Else2
-room_of c = c.before.before.before
-
-abbrev start : tie.After-admit → tie.Start
-start c = start_of (room_of (form_of c)).before.before
-
--- admission has answered, by 9 or by another number
-abbrev answered_of : tie.After-struct-known → tie.After-admit
-answered_of c = c.before.before.before
-
-abbrev shelved_of : tie.After-shelve-arg → tie.After-admit
-shelved_of c = answered_of c.before.before
-
-abbrev other_of : tie.Else4 → tie.After-admit
-other_of c = answered_of c.before
-
-abbrev taken_of : tie.Else5 → tie.Else4
-taken_of c = c.before.before
-
-abbrev settle_of : tie.After-settle-arg3 → tie.Else5
-settle_of c = c.before.before.before
-
-abbrev settled_of : tie.After-slice-known8 → tie.After-settle
-settled_of c = c.before.before.before.before.before.before
-
 -- the shelf is in form
-formed : (c : tie.Else3) → shelf_in_form (start_of (room_of c).before.before).args.shelf.now ≡ true
-formed c = sym c.before.in-form.ensures ∙ not-false _ c.if3.false
+formed : (c : Else-not-in_form) → shelf_in_form c.args.shelf.now ≡ true
+formed c = sym c.in_form.ensures ∙ c.if-not-in_form.false
 
-returns : tie.Need-returns
-returns c =
-    let d = c.before in
-    let q = (start_of d.before).args in
-    way21 q.table.now q.shelf.now q.campaign q.block.now q.verdict q.outcomes.now d.if1.true _ c.plain.ensures
-
-returns-2 : tie.Need-returns-2
-returns-2 c =
-    let d = c.before in
-    let e = d.before in
-    let q = (start_of e.before).args in
-    way17 q.table.now q.shelf.now q.campaign q.block.now q.verdict q.outcomes.now e.if1.false d.if2.true _ c.plain2.ensures
-
-returns-3 : tie.Need-returns-3
-returns-3 c =
-    let d = c.before in
-    let f = d.before.before.before in
-    let q = (start_of f.before.before).args in
-    way2 q.table.now q.shelf.now q.campaign q.block.now q.verdict q.outcomes.now f.before.if1.false f.if2.false
-    (sym d.before.in-form.ensures ∙ not-true _ d.if3.true) _ c.plain3.ensures
-
-shelve_requires : tie.Need-shelve-requires
-shelve_requires c κs =
-    let d = shelved_of c in
-    let q = (start d).args in
-    record {
-      laid = (shelf_form_lem _ (formed (form_of d))).laid;
-      short = nine_short sha256 q.table.now q.block.now q.verdict (number_of (sym d.admit.ensures.0) ∙ c.before.if4.true);
+pub returns-then-campaign : goal.returns-then-campaign
+returns-then-campaign c = let q = c.args in
+    let w = way21 q.table.now q.shelf.now q.campaign q.block.now q.verdict q.outcomes.now c.if-campaign.true _ c.plain.ensures in record {
+      answer_value = w.0;
+      ended_value = w.1.0;
+      table_after = w.1.1.0;
+      shelf_after = w.1.1.1.0;
+      outcomes_after = w.1.1.1.1;
     }
 
-returns-4 : tie.Need-returns-4
-returns-4 c =
-    let u = c.before.before.before in
-    let d = shelved_of u.before in
-    let f = form_of d in
-    let q = (start d).args in
-    way_shelved q.table.now q.shelf.now q.campaign q.block.now q.verdict q.outcomes.now (room_of f).before.if1.left (room_of f).if2.left
-    (formed f) _ _ d.admit.ensures.0 d.admit.ensures.1 u.before.before.if4.true _ _ _ c.plain4.ensures u.shelve.ensures.0 u.shelve.ensures.1
+pub returns-then-outcomes-lt-OUTCOMES_SIZE : goal.returns-then-outcomes-lt-OUTCOMES_SIZE
+returns-then-outcomes-lt-OUTCOMES_SIZE c = let q = c.args in
+    let w = way17 q.table.now q.shelf.now q.campaign q.block.now q.verdict q.outcomes.now c.if-campaign.false c.if-outcomes-lt-OUTCOMES_SIZE.true _ c.plain-then-outcomes-lt-OUTCOMES_SIZE.ensures in record {
+      answer_value = w.0;
+      ended_value = w.1.0;
+      table_after = w.1.1.0;
+      shelf_after = w.1.1.1.0;
+      outcomes_after = w.1.1.1.1;
+    }
 
-returns-5 : tie.Need-returns-5
-returns-5 c =
-    let e = c.before.before.before in
-    let d = other_of e in
-    let f = form_of d in
-    let q = (start d).args in
-    way_refused q.table.now q.shelf.now q.campaign q.block.now q.verdict q.outcomes.now (room_of f).before.if1.left (room_of f).if2.left
-    (formed f) _ _ d.admit.ensures.0 d.admit.ensures.1 e.if4.false c.before.if5.true _ c.plain5.ensures
+pub returns-then-not-in_form : goal.returns-then-not-in_form
+returns-then-not-in_form c = let q = c.args in
+    let w = way2 q.table.now q.shelf.now q.campaign q.block.now q.verdict q.outcomes.now c.if-campaign.false c.if-outcomes-lt-OUTCOMES_SIZE.false
+    (sym c.in_form.ensures ∙ c.if-not-in_form.true) _ c.plain-then-not-in_form.ensures in record {
+      answer_value = w.0;
+      ended_value = w.1.0;
+      table_after = w.1.1.0;
+      shelf_after = w.1.1.1.0;
+      outcomes_after = w.1.1.1.1;
+    }
 
-returns-6 : tie.Need-returns-6
-returns-6 c =
-    let u = settled_of c in
-    let e = settle_of u.before in
-    let d = other_of (taken_of e) in
-    let f = form_of d in
-    let q = (start d).args in
-    way_settled q.table.now q.shelf.now q.campaign q.block.now q.verdict q.outcomes.now (room_of f).before.if1.left (room_of f).if2.left
-    (formed f) _ _ d.admit.ensures.0 d.admit.ensures.1 e.if5.left _ _ _ _ u.settle.ensures.0 u.settle.ensures.1.0 u.settle.ensures.1.1.0
-    u.settle.ensures.1.1.1
+pub shelve-shelved-requires : goal.shelve-shelved-requires
+shelve-shelved-requires c =
+    let q = c.args in
+    record {
+      laid = (shelf_form_lem _ (formed (goal.at.shelve-shelved-requires c).Else-not-in_form)).laid;
+      short = nine_short sha256 q.table.now q.block.now q.verdict (number_of (sym c.admit-answer.ensures.value) ∙ c.if-answer-eq9.true);
+    }
 
-pub arrive_spec : {M : Type 1} → statement M
-arrive_spec =
-    tie.close
-    (tie.spec
-    (λ c. search rules)
-    (λ c κs. search rules)
-    returns
-    (λ c κs. search rules)
-    returns-2
-    (λ c κs. search rules)
-    (λ c κs. search rules)
-    (λ c. search rules)
-    returns-3
-    (λ c κs. search rules)
-    shelve_requires
-    (λ c κs. search rules)
-    (λ c. search rules)
-    (λ c. search rules)
-    returns-4
-    (λ c κs. search rules)
-    (λ c. search rules)
-    (λ c. search rules)
-    returns-5
-    (λ c κs. (shelf_form_lem _ (formed (form_of (other_of (taken_of (settle_of c)))))).laid)
-    (λ c. search rules)
-    (λ c. search rules)
-    (λ c. search rules)
-    returns-6)
+pub returns-then-answer-eq9 : goal.returns-then-answer-eq9
+returns-then-answer-eq9 c = let q = c.args in
+    let w = way_shelved q.table.now q.shelf.now q.campaign q.block.now q.verdict q.outcomes.now c.if-campaign.false c.if-outcomes-lt-OUTCOMES_SIZE.false
+    (formed (goal.at.returns-then-answer-eq9 c).Else-not-in_form) _ _ c.admit-answer.ensures.value c.admit-answer.ensures.table_after c.if-answer-eq9.true _ _ _ c.plain-then-answer-eq9.ensures c.shelve-shelved.ensures.value c.shelve-shelved.ensures.shelf_after in record {
+      answer_value = w.0;
+      ended_value = w.1.0;
+      table_after = w.1.1.0;
+      shelf_after = w.1.1.1.0;
+      outcomes_after = w.1.1.1.1;
+    }
+
+pub returns-then-answer-ne0 : goal.returns-then-answer-ne0
+returns-then-answer-ne0 c = let q = c.args in
+    let w = way_refused q.table.now q.shelf.now q.campaign q.block.now q.verdict q.outcomes.now c.if-campaign.false c.if-outcomes-lt-OUTCOMES_SIZE.false
+    (formed (goal.at.returns-then-answer-ne0 c).Else-not-in_form) _ _ c.admit-answer.ensures.value c.admit-answer.ensures.table_after c.if-answer-eq9.false c.if-answer-ne0.true _ c.plain-then-answer-ne0.ensures in record {
+      answer_value = w.0;
+      ended_value = w.1.0;
+      table_after = w.1.1.0;
+      shelf_after = w.1.1.1.0;
+      outcomes_after = w.1.1.1.1;
+    }
+
+pub returns : goal.returns
+returns c = let q = c.args in
+    let w = way_settled q.table.now q.shelf.now q.campaign q.block.now q.verdict q.outcomes.now c.if-campaign.false c.if-outcomes-lt-OUTCOMES_SIZE.false
+    (formed (goal.at.returns c).Else-not-in_form) _ _ c.admit-answer.ensures.value c.admit-answer.ensures.table_after c.if-answer-ne0.false _ _ _ _ c.settle-ended.ensures.value c.settle-ended.ensures.table_after c.settle-ended.ensures.shelf_after
+    c.settle-ended.ensures.outcomes_after in record {
+      answer_value = w.0;
+      ended_value = w.1.0;
+      table_after = w.1.1.0;
+      shelf_after = w.1.1.1.0;
+      outcomes_after = w.1.1.1.1;
+    }
+
+pub settle-ended-requires : goal.settle-ended-requires
+settle-ended-requires c = (shelf_form_lem _ (formed (goal.at.settle-ended-requires c).Else-not-in_form)).laid
