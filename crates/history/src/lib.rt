@@ -3,4 +3,3 @@
 // was requested by the slot's owner in an ancestor (proofs/Validity.antt). Nothing here knows of calls. Assumes nothing.
 
 #![tactic(auto)]
-
