@@ -110,9 +110,9 @@ pub extern "C" fn gt_replay(
     answers: &mut [u64],
 ) -> usize
     ensures value { result ≡ length (calls_in calls.now) }
-    ensures table_value { table.exit.now ≡ (site_after sha256 (record { table = table.entry.now; records = records.old }) (calls_in calls.now)).table }
-    ensures records_after { records.new ≡ (site_after sha256 (record { table = table.entry.now; records = records.old }) (calls_in calls.now)).records }
-    ensures answers_after { answers.new ≡ put_answers answers.old 0 (site_answers sha256 (record { table = table.entry.now; records = records.old }) (calls_in calls.now)) }
+    ensures table_after { table.new ≡ (site_after sha256 (record { table = table.old; records = records.old }) (calls_in calls.now)).table }
+    ensures records_after { records.new ≡ (site_after sha256 (record { table = table.old; records = records.old }) (calls_in calls.now)).records }
+    ensures answers_after { answers.new ≡ put_answers answers.old 0 (site_answers sha256 (record { table = table.old; records = records.old }) (calls_in calls.now)) }
 {
     run::replay(table, records, calls, answers)
 }

@@ -64,9 +64,9 @@ pub fn arrive(
     block: &[u8],
     verdict: u8,
 ) -> Lines
-    ensures value { result ≡ lines_of (arrival_lines sha256 (record { table = table.entry.now; records = records.old }) block.now verdict arrival) }
-    ensures table_value { table.exit.now ≡ (site_arrived sha256 (record { table = table.entry.now; records = records.old }) block.now verdict).table }
-    ensures records_after { records.new ≡ (site_arrived sha256 (record { table = table.entry.now; records = records.old }) block.now verdict).records }
+    ensures value { result ≡ lines_of (arrival_lines sha256 (record { table = table.old; records = records.old }) block.now verdict arrival) }
+    ensures table_after { table.new ≡ (site_arrived sha256 (record { table = table.old; records = records.old }) block.now verdict).table }
+    ensures records_after { records.new ≡ (site_arrived sha256 (record { table = table.old; records = records.old }) block.now verdict).records }
 {
     let admitted = admission::admit(table, block, verdict);
     if admitted.refusal != 0 {

@@ -84,9 +84,9 @@ pub fn block_step(
     records: &mut [u16],
     piece: &[u8],
 ) -> Stepped
-    ensures value { result ≡ handed (block_step sha256 size arrivals (record { table = table.entry.now; records = records.old }) piece.now) }
-    ensures table_value { table.exit.now ≡ (site_by sha256 (Block size) (record { table = table.entry.now; records = records.old }) piece.now).table }
-    ensures records_after { records.new ≡ (site_by sha256 (Block size) (record { table = table.entry.now; records = records.old }) piece.now).records }
+    ensures value { result ≡ handed (block_step sha256 size arrivals (record { table = table.old; records = records.old }) piece.now) }
+    ensures table_after { table.new ≡ (site_by sha256 (Block size) (record { table = table.old; records = records.old }) piece.now).table }
+    ensures records_after { records.new ≡ (site_by sha256 (Block size) (record { table = table.old; records = records.old }) piece.now).records }
 {
     if piece.len() <= size {
         return stepped(Expected::End, arrivals, text::refused(arrivals, 3));

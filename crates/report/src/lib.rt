@@ -130,9 +130,9 @@ pub fn wanted(state: ListingState) -> usize
 // Makes one step on a piece of the input, which has as many bytes as `wanted` says, or fewer where the input ends. Gives the next state and the lines
 // to write.
 pub fn step(state: ListingState, table: &mut [u8], records: &mut [u16], piece: &[u8]) -> Stepped
-    ensures value { result ≡ handed (stepped sha256 state (record { table = table.entry.now; records = records.old }) piece.now) }
-    ensures table_value { table.exit.now ≡ (site_stepped sha256 state (record { table = table.entry.now; records = records.old }) piece.now).table }
-    ensures records_after { records.new ≡ (site_stepped sha256 state (record { table = table.entry.now; records = records.old }) piece.now).records }
+    ensures value { result ≡ handed (stepped sha256 state (record { table = table.old; records = records.old }) piece.now) }
+    ensures table_after { table.new ≡ (site_stepped sha256 state (record { table = table.old; records = records.old }) piece.now).table }
+    ensures records_after { records.new ≡ (site_stepped sha256 state (record { table = table.old; records = records.old }) piece.now).records }
 {
     let expected = state.expected;
     let arrivals = state.arrivals;

@@ -66,9 +66,9 @@ pub fn first_size(calls: &[u8]) -> usize
 // Runs the call at the front of the list on the table and the records.
 pub fn run_first(table: &mut [u8], records: &mut [u16], calls: &[u8]) -> Answer
     requires { WholeCall calls.now }
-    ensures value { result ≡ site_answer sha256 (record { table = table.entry.now; records = records.old }) (first_call calls.now) }
-    ensures table_value { table.exit.now ≡ (site_step sha256 (record { table = table.entry.now; records = records.old }) (first_call calls.now)).table }
-    ensures records_after { records.new ≡ (site_step sha256 (record { table = table.entry.now; records = records.old }) (first_call calls.now)).records }
+    ensures value { result ≡ site_answer sha256 (record { table = table.old; records = records.old }) (first_call calls.now) }
+    ensures table_after { table.new ≡ (site_step sha256 (record { table = table.old; records = records.old }) (first_call calls.now)).table }
+    ensures records_after { records.new ≡ (site_step sha256 (record { table = table.old; records = records.old }) (first_call calls.now)).records }
 {
     if calls[0] == ADMISSION {
         let length = low_first_at(calls, 2);

@@ -16,9 +16,9 @@ ghost use Rattle.run.specs.Encoding.{calls_in};
 // `answers`, two numbers for each, as far as they fit.
 pub fn replay(table: &mut [u8], records: &mut [u16], calls: &[u8], answers: &mut [u64]) -> usize
     ensures value { result ≡ length (calls_in calls.now) }
-    ensures table_value { table.exit.now ≡ (site_after sha256 (record { table = table.entry.now; records = records.old }) (calls_in calls.now)).table }
-    ensures records_after { records.new ≡ (site_after sha256 (record { table = table.entry.now; records = records.old }) (calls_in calls.now)).records }
-    ensures answers_after { answers.new ≡ put_answers answers.old 0 (site_answers sha256 (record { table = table.entry.now; records = records.old }) (calls_in calls.now)) }
+    ensures table_after { table.new ≡ (site_after sha256 (record { table = table.old; records = records.old }) (calls_in calls.now)).table }
+    ensures records_after { records.new ≡ (site_after sha256 (record { table = table.old; records = records.old }) (calls_in calls.now)).records }
+    ensures answers_after { answers.new ≡ put_answers answers.old 0 (site_answers sha256 (record { table = table.old; records = records.old }) (calls_in calls.now)) }
 {
     let mut count = 0;
     let mut at = 0;
