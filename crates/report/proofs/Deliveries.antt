@@ -2,7 +2,7 @@
 use mathlib.Core.Path.{◌≡◌, refl, sym, ap, ◌∙◌, subst}
 use mathlib.Core.Bool.{Bool, cond}
 use mathlib.Core.Logic.{◌≢◌, inl}
-use mathlib.Core.List.{List, ◌∷◌}
+use mathlib.Core.List.{List, [], ◌∷◌}
 use Prim.Native.Nat.{ℕ, ◌<◌}
 use native.Mathlib.Omega.{arith}
 use borrow.Author.Tests.{eq-eqb}
@@ -120,6 +120,7 @@ module _ (s : Setup) (size : ℕ) where
   pub shows_delivered : (l : Ledger) (x : Site) → Paired l x → (arrivals : List Arrival) → NoCollision sha256 (after l (arrival_calls x arrivals)).blocks
       → (slot v : ℕ) → slot < slot_count → ListingShows x arrivals slot v → Delivered sha256 s (after l (arrival_calls x arrivals)) slot v
   unfolding arrival_calls
+  shows_delivered l x t [] safe slot v low m = elim m [ ]
   shows_delivered l x t (unread ∷ rest) safe slot v low (past m) = shows_delivered l x t rest safe slot v low m
   shows_delivered l x t (arrived b verdict ∷ rest) safe slot v low (here z e n) =
       let next : Ledger = after l (calls_at x b verdict) in
@@ -130,4 +131,4 @@ module _ (s : Setup) (size : ℕ) where
       (delivered_stays sha256 sha256_length s size slot v _ _ (pair_after l x t b verdict) (arrival_calls (site_arrived sha256 x b verdict) rest) none all
       (place_delivered _ _ (pair_after l x t b verdict) (λ c d i j. all c d (keeps c i) (keeps d j)) _ slot v (marks x b verdict z) low e n))
   shows_delivered l x t (arrived b verdict ∷ rest) safe slot v low (later m) =
-      then_rest l x t b verdict rest slot v (shows_delivered _ _ (pair_after l x t b verdict) rest (safe_rest l x t b verdict rest safe) slot v low m)
+      then_rest l x t b verdict rest slot v (shows_delivered (after l (calls_at x b verdict)) (site_arrived sha256 x b verdict) (pair_after l x t b verdict) rest (safe_rest l x t b verdict rest safe) slot v low m)

@@ -185,6 +185,7 @@ texts_kinds arrival x (arrived b verdict ∷ rest) line m = elim (mathlib.Core.L
 pub shown_line : (arrival : ℕ) (x : Site) (arrivals : List Arrival) (slot v : ℕ) → slot < slot_count → ListingShows x arrivals slot v
     → (d : Delivery) × ((d.slot ≡ slot) × ((d.number ≡ v) × Memᴰ (delivery_line d) (texts_from arrival x arrivals)))
 unfolding texts_from
+shown_line arrival x [] slot v low m = elim m [ ]
 shown_line arrival x (unread ∷ rest) slot v low (past m) =
     let w = shown_line (suc arrival) x rest slot v low m in (w.0, (w.1.0, (w.1.1.0, mathlib.Core.List.Memᴰ.tail w.1.1.1)))
 shown_line arrival x (arrived b verdict ∷ rest) slot v low (here z e n) =

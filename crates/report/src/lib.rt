@@ -82,7 +82,7 @@ pub struct Lines {
 }
 
 // What a step gives: the next state, and the lines to write.
-#[derive(Clone, Copy)]
+#[derive(Drop)]
 pub struct Stepped {
     pub state: ListingState,
     pub lines: Lines,

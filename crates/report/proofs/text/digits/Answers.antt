@@ -1,4 +1,3 @@
--- `digits` meets its contract: what is left before the digits that stand already is what the rest has. Assumes nothing.
 use mathlib.Core.Path.{◌≡◌, refl, sym, ap, ◌∙◌}
 use mathlib.Core.List.{[], ◌∷◌, ◌++◌, append_assoc}
 use Prim.Native.Nat.{ℕ, zero, suc, ◌+◌, ◌-◌, ◌/◌, ◌%◌, ◌^◌, ◌≤◌, ◌<◌}
@@ -11,8 +10,7 @@ use lib.ListN.{length, drop, set, length-append, length-set}
 use Rattle.base.specs.Bytes.{Bytes}
 use Rattle.report.specs.Text.{digit, decimal}
 use Rattle.report.proofs.Decimal.{leading, last_apart, leading_apart, decimal_short}
-use Rattle.report.proofs.text.digits.Statement.{statement}
-use Rattle.report.proofs.text.digits.Tie as tie
+use Rattle.report.proofs.text.digits.Goals as goal
 
 drop_set : (l : Bytes) (j v : ℕ) → j < length l → drop j (set l j v) ≡ v ∷ drop (suc j) l
 drop_set [] j v h = absurd (omega arith)
@@ -36,46 +34,28 @@ fits n h =
     let l : length (decimal n) ≡ length (leading (n / 10)) + 1 = ap length (last_apart n) ∙ length-append (leading (n / 10)) (digit (n % 10) ∷ []) in
     omega (arith, decimal_short 19 n (omega arith))
 
-abbrev invariant-loop : tie.invariant-loop
-invariant-loop n bytes₀ start₀ rest₀ bytes start rest =
-    (leading rest ++ drop start bytes ≡ decimal n) × (length (leading rest) ≤ start) × (start < 20) × (length bytes ≡ 20)
-
-abbrev decreases-loop : tie.decreases-loop
-decreases-loop n bytes₀ start₀ rest₀ bytes start rest = rest
-
-loop-again : tie.Need-loop-preserved invariant-loop decreases-loop
-loop-again c =
-    let l = c.before.loop in
+pub loop-rest-preserved : goal.loop-rest-preserved
+loop-rest-preserved c =
+    let l = c.loop-rest in
     let e : length (leading l.rest) ≡ length (leading (l.rest / 10)) + 1 = shorter l.rest (omega arith) in (
-      turn c.before.before.args.n l.rest l.start l.bytes (omega arith) (omega arith) (omega arith) l.invariant.0,
+      turn c.args.n l.rest l.start l.bytes (omega arith) (omega arith) (omega arith) l.invariant.0,
       omega arith,
       omega arith,
       length-set l.bytes (l.start - 1) (digit (l.rest % 10)) ∙ l.invariant.3,
     )
 
 -- nothing is left before the digits
-returns : tie.Need-returns invariant-loop decreases-loop
+pub returns : goal.returns
 unfolding leading
-returns c =
-    let l = c.before.loop in
+returns c = let l = c.loop-rest in
     let none : l.rest ≡ 0 = omega arith in
-    ((omega arith, l.invariant.3), sym (ap (λ (r : ℕ). cond (eqb r 0) [] (decimal r) ++ drop l.start l.bytes) none) ∙ l.invariant.0)
+    record {
+      start_le_max_digits = (omega arith, l.invariant.3);
+      bytes_value = sym (ap (λ (r : ℕ). cond (eqb r 0) [] (decimal r) ++ drop l.start l.bytes) none) ∙ l.invariant.0;
+    }
 
-pub digits_spec : {M : Type 1} → statement M
-digits_spec =
-    tie.close
-    (tie.spec
-    invariant-loop
-    decreases-loop
-    (λ c. omega arith)
-    (λ c. omega arith)
-    (λ c. omega arith)
-    (λ c. omega arith)
-    (λ c. (sym (last_apart c.args.n), fits c.args.n (omega arith), omega arith, search rules))
-    (λ c. omega (arith, shorter c.before.loop.rest (omega arith)))
-    (λ c. omega arith)
-    (λ c. omega arith)
-    (λ c. omega arith)
-    (λ c. omega arith)
-    loop-again
-    returns)
+pub loop-rest-init : goal.loop-rest-init
+loop-rest-init c = (sym (last_apart c.args.n), fits c.args.n (omega arith), omega arith, search rules)
+
+pub overflow_sub-start-in-loop-rest : goal.overflow_sub-start-in-loop-rest
+overflow_sub-start-in-loop-rest c = omega (arith, shorter c.loop-rest.rest (omega arith))

@@ -5,15 +5,11 @@ use Rattle.base.specs.Bytes.{Bytes}
 use Rattle.base.proofs.Splice.{splice_nothing}
 use Rattle.report.specs.Framing.{lines_size, lines_of}
 use Rattle.report.specs.declared.Lines.{Lines}
-use Rattle.report.proofs.text.none.Statement.{statement}
-use Rattle.report.proofs.text.none.Tie as tie
+use Rattle.report.proofs.text.none.Goals as goal
 
 abbrev with_bytes : Bytes → Lines
 with_bytes b = record { bytes = b; length = 0 }
 
-returns : tie.Need-returns
+pub returns : goal.returns
 unfolding lines_of
 returns c = ap with_bytes (sym (splice_nothing (replicate lines_size 0) 0))
-
-pub none_spec : {M : Type 1} → statement M
-none_spec = tie.close (tie.spec returns)
