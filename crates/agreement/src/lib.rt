@@ -4,4 +4,3 @@
 // table that calls reached is what the ledger says (specs/Watch.antt). Assumes nothing.
 
 #![tactic(auto)]
-

@@ -4,4 +4,3 @@
 // full (specs/Building.antt). Assumes nothing.
 
 #![tactic(auto)]
-
