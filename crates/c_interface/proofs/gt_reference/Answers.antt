@@ -5,7 +5,6 @@ use Prim.Native.Nat.{ℕ, ◌+◌, ◌*◌, ◌≤◌, ◌<◌}
 use native.Mathlib.Omega.{arith}
 use lib.ListN.{length, drop, length-drop}
 use lib.Seq.{length-take-le}
-use borrow.Author.Rules.{rules}
 use borrow.Author.Tests.{le-leb, lt-leb}
 use Rattle.base.specs.Bytes.{Bytes}
 use Rattle.answer.specs.declared.Answer.{Answer}
@@ -20,8 +19,7 @@ use Rattle.block.proofs.Shape.{reference_list_length}
 use Rattle.block.proofs.LetElse.{Refuses, when_refused, when_accepted}
 use Rattle.block.proofs.Acceptance.{AcceptedAs, reading_accepted}
 use Rattle.c_interface.specs.Calls.{no_such_entry, digest_answer, put_output, reference_answer, reference_output}
-use Rattle.c_interface.proofs.gt_reference.Statement.{statement}
-use Rattle.c_interface.proofs.gt_reference.Tie as tie
+use Rattle.c_interface.proofs.gt_reference.Goals as goal
 
 module _ (b o : Bytes) (i : ℕ) (r : Reading) (e : r ≡ reading b) where
   way_refused : (a : Answer) → Refuses r → a ≡ answer_of r → (a ≡ reference_answer b i o) × (o ≡ reference_output b i o)
@@ -54,62 +52,33 @@ module _ (b o : Bytes) (i : ℕ) (r : Reading) (e : r ≡ reading b) where
           let there : d ≡ reference_at (reference_list b) i = ed ∙ ap (λ (x : Bytes). reference_at x i) l in
           (rw (when_accepted _ _ b r e f q, lt-leb f.references i h) ea, rw (when_accepted _ _ b r e f q, lt-leb f.references i h, ← there) eo)
 
--- where the block was read, from where its fields are known
-abbrev accepted : tie.After-struct-known → tie.After-reading
-accepted c = c.before.before
+pub returns-in_default : goal.returns-in_default
+returns-in_default c = let w = way_refused _ _ _ _ c.read_block-reading.ensures _ c.in_default.not-Block c.answer_of.ensures in record {
+  value = w.0;
+  output_after = w.1;
+}
 
-abbrev read : tie.After-reading → tie.After-read-block
-read c = c.before.before
+pub returns-then-fields-index : goal.returns-then-fields-index
+returns-then-fields-index c = let w = way_none _ _ _ _ c.read_block-reading.ensures _ c.in-Block.is c.if-fields-index.true in record {
+  value = rw c.refused.ensures w.0;
+  output_after = w.1;
+}
 
-returns : tie.Need-returns
-returns c =
-    let m = c.before in
-    way_refused _ _ _ _ m.before.read-block.ensures _ m.match.keys2 c.answer-of.ensures
+pub reference_list-list-requires : goal.reference_list-list-requires
+reference_list-list-requires c =
+    shape _ [] 0 _ c.read_block-reading.ensures _ c.in-Block.is
 
-returns-2 : tie.Need-returns-2
-returns-2 c =
-    let m = accepted c.before.before in
-    rw c.refused.ensures (way_none _ _ _ _ (read m).read-block.ensures _ m.reading.given.1 c.before.if1.true)
+pub reference-requires : goal.reference-requires
+reference-requires c =
+    within _ [] _ _ c.read_block-reading.ensures _ c.in-Block.is c.if-fields-index.false _ c.reference_list-list.ensures
 
-reference_list_requires : tie.Need-reference-list-requires
-reference_list_requires c κs =
-    let m = accepted c.before in
-    shape _ [] 0 _ (read m).read-block.ensures _ m.reading.given.1
+pub put_digest-requires : goal.put_digest-requires
+put_digest-requires c =
+    size _ [] _ _ c.read_block-reading.ensures _ c.in-Block.is c.if-fields-index.false _ c.reference_list-list.ensures _ c.reference.ensures
 
-reference_requires : tie.Need-reference-requires
-reference_requires c κs =
-    let t = c.before in
-    let m = accepted t.before in
-    within _ [] _ _ (read m).read-block.ensures _ m.reading.given.1 t.if1.false _ c.reference-list.ensures
-
-put_digest_requires : tie.Need-put-digest-requires
-put_digest_requires c κs =
-    let p = c.before in
-    let t = p.before.before in
-    let m = accepted t.before in
-    size _ [] _ _ (read m).read-block.ensures _ m.reading.given.1 t.if1.false _ p.before.reference-list.ensures _ p.reference.ensures
-
-returns-3 : tie.Need-returns-3
-returns-3 c =
-    let d = c.before.before in
-    let p = d.before.before in
-    let t = p.before.before in
-    let m = accepted t.before in
-    way_there _ _ _ _ (read m).read-block.ensures _ m.reading.given.1 t.if1.false _ p.before.reference-list.ensures _ _ _ p.reference.ensures
-    d.put-digest.ensures.0 d.put-digest.ensures.1
-
-pub gt_reference_spec : {M : Type 1} → statement M
-gt_reference_spec =
-    tie.close
-    (tie.spec
-    (λ c κs. search rules)
-    (λ c. search rules)
-    (λ c κs. search rules)
-    returns
-    (λ c κs. search rules)
-    returns-2
-    reference_list_requires
-    reference_requires
-    put_digest_requires
-    (λ c. search rules)
-    returns-3)
+pub returns : goal.returns
+returns c = let w = way_there _ _ _ _ c.read_block-reading.ensures _ c.in-Block.is c.if-fields-index.false _ c.reference_list-list.ensures _ _ _ c.reference.ensures
+    c.put_digest.ensures.value c.put_digest.ensures.output_after in record {
+      value = w.0;
+      output_after = w.1;
+    }

@@ -3,7 +3,6 @@ use mathlib.Core.Path.{◌≡◌, ap, sym, ◌∙◌}
 use Prim.Native.Nat.{ℕ, ◌+◌, ◌*◌, ◌≤◌, ◌<◌}
 use native.Mathlib.Omega.{arith}
 use lib.ListN.{length}
-use borrow.Author.Rules.{rules}
 use borrow.Author.Tests.{le-leb, lt-leb}
 use Rattle.base.specs.Bytes.{Bytes}
 use Rattle.answer.specs.Checks.{success}
@@ -21,8 +20,7 @@ use Rattle.block.proofs.LetElse.{Refuses, when_refused, when_accepted}
 use Rattle.block.proofs.Acceptance.{AcceptedAs, reading_accepted}
 use Rattle.c_interface.specs.Calls.{no_such_entry, without_request, requested}
 use Rattle.c_interface.specs.declared.Requested.{Requested}
-use Rattle.c_interface.proofs.gt_request.Statement.{statement}
-use Rattle.c_interface.proofs.gt_request.Tie as tie
+use Rattle.c_interface.proofs.gt_request.Goals as goal
 
 module _ (b : Bytes) (i : ℕ) (r : Reading) (e : r ≡ reading b) where
   way_refused : (a : Answer) → Refuses r → a ≡ answer_of r → without_request a ≡ requested b i
@@ -50,53 +48,23 @@ module _ (b : Bytes) (i : ℕ) (r : Reading) (e : r ≡ reading b) where
           let there : x ≡ request_at (request_list b) i = ex ∙ ap (λ (y : Bytes). request_at y i) l in
           rw (there, when_accepted _ _ b r e f q, lt-leb f.requests i h)
 
--- where the block was read, from where its fields are known
-abbrev accepted : tie.After-struct-known → tie.After-reading
-accepted c = c.before.before
+pub returns-in_default : goal.returns-in_default
+returns-in_default c =
+    way_refused _ _ _ c.read_block-reading.ensures _ c.in_default.not-Block c.answer_of.ensures
 
-abbrev read : tie.After-reading → tie.After-read-block
-read c = c.before.before
+pub returns-then-fields-index : goal.returns-then-fields-index
+returns-then-fields-index c =
+    rw c.refused.ensures (way_none _ _ _ c.read_block-reading.ensures _ c.in-Block.is c.if-fields-index.true)
 
-returns : tie.Need-returns
+pub request_list-list-requires : goal.request_list-list-requires
+request_list-list-requires c =
+    shape _ 0 _ c.read_block-reading.ensures _ c.in-Block.is
+
+pub request-request-requires : goal.request-request-requires
+request-request-requires c =
+    within _ _ _ c.read_block-reading.ensures _ c.in-Block.is c.if-fields-index.false _ c.request_list-list.ensures
+
+pub returns : goal.returns
 returns c =
-    let m = c.before in
-    way_refused _ _ _ m.before.read-block.ensures _ m.match.keys2 c.answer-of.ensures
-
-returns-2 : tie.Need-returns-2
-returns-2 c =
-    let m = accepted c.before.before in
-    rw c.refused.ensures (way_none _ _ _ (read m).read-block.ensures _ m.reading.given.1 c.before.if1.true)
-
-request_list_requires : tie.Need-request-list-requires
-request_list_requires c κs =
-    let m = accepted c.before in
-    shape _ 0 _ (read m).read-block.ensures _ m.reading.given.1
-
-request_requires : tie.Need-request-requires
-request_requires c κs =
-    let t = c.before in
-    let m = accepted t.before in
-    within _ _ _ (read m).read-block.ensures _ m.reading.given.1 t.if1.false _ c.request-list.ensures
-
-returns-3 : tie.Need-returns-3
-returns-3 c =
-    let p = c.before in
-    let t = p.before.before in
-    let m = accepted t.before in
     rw c.success.ensures
-    (way_there _ _ _ (read m).read-block.ensures _ m.reading.given.1 t.if1.false _ p.before.request-list.ensures _ p.request.ensures)
-
-pub gt_request_spec : {M : Type 1} → statement M
-gt_request_spec =
-    tie.close
-    (tie.spec
-    (λ c κs. search rules)
-    (λ c. search rules)
-    (λ c κs. search rules)
-    returns
-    (λ c κs. search rules)
-    returns-2
-    request_list_requires
-    request_requires
-    (λ c κs. search rules)
-    returns-3)
+    (way_there _ _ _ c.read_block-reading.ensures _ c.in-Block.is c.if-fields-index.false _ c.request_list-list.ensures _ c.request-request.ensures)
