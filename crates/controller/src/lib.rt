@@ -3,4 +3,3 @@
 // blocks the shelf took, and no block that waited is lost; and an arrival can be taken back (specs/Promises.antt). Assumes nothing.
 
 #![tactic(auto)]
-
