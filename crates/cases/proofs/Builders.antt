@@ -86,11 +86,11 @@ module _ (p : ℕ) (requests output : Bytes) where
   unfolding all_kept site_step OwnIsBuilt BuildsByRule
   by_rule x [] w e = tt
   by_rule x (admit b verdict ∷ cs) w e =
-      (is_built x b verdict (and_left (kept x.table b verdict) _ e), by_rule _ cs w (and_right (kept x.table b verdict) _ e))
+      (is_built x b verdict (and_left (kept x.table b verdict) _ e), by_rule (site_step toy x (admit b verdict)) cs w (and_right (kept x.table b verdict) _ e))
   by_rule x (interpret place ∷ cs) w e =
-      (tt, by_rule _ cs ((interpreting.promises).sized x.table x.records place ∙ w) (rw (marked_same x w place) e))
-  by_rule x (retire ∷ cs) w e = (tt, by_rule _ cs ((retired.promises).sized x.table x.records ∙ w) (rw (retired_same x w) e))
-  by_rule x (take_back ∷ cs) w e = (tt, by_rule _ cs w e)
+      (tt, by_rule (site_step toy x (interpret place)) cs ((interpreting.promises).sized x.table x.records place ∙ w) (rw (marked_same x w place) e))
+  by_rule x (retire ∷ cs) w e = (tt, by_rule (site_step toy x retire) cs ((retired.promises).sized x.table x.records ∙ w) (rw (retired_same x w) e))
+  by_rule x (take_back ∷ cs) w e = (tt, by_rule (site_step toy x take_back) cs w e)
 
 own_by_rule : BuildsByRule toy 1 (started (sites 4) zero_records) (calls_of own_turns)
 unfolding opened_watch fresh_table built_too_early first_built next_built own_turns writes admitted_own kept all_kept

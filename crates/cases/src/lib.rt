@@ -9,4 +9,3 @@
 // of; the digest is a toy digest (specs/Toy.antt). Assumes nothing.
 
 #![tactic(auto)]
-

@@ -3,4 +3,3 @@
 // Assumes nothing.
 
 #![tactic(auto)]
-
