@@ -45,10 +45,10 @@ FUZZ_LISTINGS ?= 20000
 PREFIX ?= /usr/local
 DESTDIR ?=
 
-CRATES := $(shell sed -n 's/^\([a-z0-9_]*\):.*/\1/p' crates.txt)
+CRATES := $(shell sed -n 's/^\([a-z0-9_]*\)\( staticlib\)\{0,1\}:.*/\1/p' crates.txt)
 
 # All that the library and the listing are proved and built from. Folders are among it, so that a removed file counts as a change.
-LIBRARY_SOURCES := $(shell find crates.txt crates \( -name must-fail -prune \) -o -print)
+LIBRARY_SOURCES := $(shell find crates.txt crates -mindepth 1 \( -name must-fail -o -name out \) -prune -o -print)
 
 .PHONY: demo check test bench memory fuzz host install uninstall test-programs harness figures prerequisites clean
 .DELETE_ON_ERROR:
@@ -120,7 +120,7 @@ figures: prerequisites
 
 # Removes all that was built; the next proof starts from nothing.
 clean:
-	rm -rf target
+	rm -rf target crates/*/out
 
 # Names each command that is missing of those that the goals need, and a toolchain other than the pinned one. All that is
 # built waits for it. By itself it looks for every command.
@@ -129,16 +129,17 @@ prerequisites:
 	@tools/toolchain.sh
 
 $(LIBRARY): $(LIBRARY_SOURCES) rattle.version | prerequisites
-	rt staticlib c_interface
+	cd crates/c_interface && rt lib
+	@mkdir -p $(@D)
+	@cp crates/c_interface/out/libc_interface.a $@
 
-# rt leaves a program as it is where nothing that it is made from has changed, so its time is set here; and it does not see
-# that a program was removed.
+# rt builds a program where it runs it, here on the crate's stored input.
 $(LISTING): $(LIBRARY_SOURCES) rattle.version | prerequisites
-	@test -e $@ || rm -f target/stamp/listing
-	rt check listing
-	@touch -c $@
+	cd crates/listing && rt run >/dev/null
+	@mkdir -p $(@D)
+	@cp crates/listing/out/listing $@
 
-# One after the other, also under make -j: they write what they prove into the same folder.
+# One after the other, also under make -j: they work on the same crates.
 $(LISTING): | $(LIBRARY)
 
 $(HOST)/dome: host/dome.c host/giangotum.h $(LIBRARY) | $(HOST)

@@ -19,7 +19,15 @@ checked() { # LANGUAGE COMMAND [ARGUMENT...]
     fi
 }
 
-checked Rattle rt fmt --check
+# rt itself only lays out; the compiler beside it says what is not laid out.
+rattle=rt
+sources=
+if command -v rt >/dev/null 2>&1; then
+    rattle=$(dirname "$(readlink -f "$(command -v rt)")")/rattle
+    sources=$(find crates -name out -prune -o \( -name '*.rt' -o -name '*.antt' \) -print)
+fi
+# shellcheck disable=SC2086
+checked Rattle "$rattle" fmt --check $sources
 # Another version of clang-format would lay some lines out differently.
 checked C clang-format-14 --dry-run -Werror host/*.[ch] host/tests/*.[ch] bench/*.[ch] bench/baseline/*.[ch] examples/*.c
 checked Rust cargo-fmt --check --manifest-path host/harness/Cargo.toml

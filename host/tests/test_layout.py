@@ -33,7 +33,7 @@ def test_a_wrong_layout_is_found():
     here = {language for language, command in COMMANDS.items() if shutil.which(command)}
     with tempfile.TemporaryDirectory() as folder:
         copy = Path(folder) / "copy"
-        shutil.copytree(ROOT, copy, ignore=shutil.ignore_patterns("target", ".git"))
+        shutil.copytree(ROOT, copy, ignore=shutil.ignore_patterns("target", "out", ".git"))
         for language, (file, line) in SPOILED.items():
             text = (copy / file).read_text(encoding="utf-8")
             (copy / file).write_text(text + line, encoding="utf-8")

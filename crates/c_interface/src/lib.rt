@@ -1,10 +1,10 @@
-// What programs in C call: here the digest, and block reading with the entries of a block's two lists; in core.rt the table, the records, retiring,
-// taking back, the watch, building, arrivals and joining. Promises: each call here answers and leaves what specs/Calls.antt says, and each call of
-// core.rt what the function that it calls does, for all bytes and numbers. Assumes: the C program lends what the headers in host/ ask for.
+// What programs in C call: here the digest, and block reading with the entries of a block's two lists; in core_calls.rt the table, the records,
+// retiring, taking back, the watch, building, arrivals and joining. Promises: each call here answers and leaves what specs/Calls.antt says, and each
+// call of core_calls.rt what the function that it calls does, for all bytes and numbers. Assumes: the C program lends what the headers in host/ ask for.
 
 #![tactic(auto)]
 
-pub mod core;
+pub mod core_calls;
 
 ghost use Rattle.std.specs.Prelude.{◌≡◌, length};
 ghost use Rattle.block.specs.Limits.{reference_size};
