@@ -16,7 +16,7 @@ import sys
 
 NAME = r"[^\W\d][\w'\-]*(?:[₀-₉]+)?"
 TOKEN = re.compile(NAME)
-DECLARED = re.compile(rf"^\s*(?:(?:abbrev|unfoldable|pub|data|record|opaque)\s+)*({NAME})\s*(?:\{{[^}}]*\}}\s*)*:\s")
+DECLARED = re.compile(rf"^\s*(?:(?:abbrev|unfoldable|pub|data|record|opaque)\s+)*({NAME})\s*(?:\{{[^}}]*\}}\s*)*:(?=\s|$)")
 BOUND = re.compile(rf"(?:[({{λ]\s*|\blet\s+)({NAME}(?:\s+{NAME})*)\s*(?::|=|\.\s)")
 LAMBDA = re.compile(rf"λ\s*({NAME}(?:\s+{NAME})*)\s*\.")
 USE = re.compile(r"^\s*(?:pub\s+)?(?:ghost\s+)?use\s+([^;{\s]+?)(?:\.?\{([^}]*)\}|\s+as\s+(\S+?);?\s*$|;?\s*$)", re.M)
