@@ -5,6 +5,7 @@ use block::{
     Reading,
 };
 use setup::SLOTS;
+use std::io::Stdout;
 
 // Room for a block of one reference too many.
 pub const ROOM: usize = HEADER_SIZE + REFERENCE_SIZE * (MAX_REFERENCES + 1);
@@ -12,7 +13,7 @@ pub const ROOM: usize = HEADER_SIZE + REFERENCE_SIZE * (MAX_REFERENCES + 1);
 // Where the requests of a block of the most references begin.
 pub const REQUESTS: usize = HEADER_SIZE + REFERENCE_SIZE * MAX_REFERENCES;
 
-fn show(name: &[u8], bytes: &[u8]) {
+fn show(stdout: Stdout, name: &[u8], bytes: &[u8]) {
     let line = Line::new()
         .text(name)
         .text(b", ")
@@ -25,7 +26,7 @@ fn show(name: &[u8], bytes: &[u8]) {
             .number(base::wide(answer.refusal))
             .text(b" value ")
             .number(answer.value)
-            .show();
+            .show(stdout);
         return;
     };
     line.text(b"read, site ")
@@ -36,13 +37,13 @@ fn show(name: &[u8], bytes: &[u8]) {
         .number(fields.references)
         .text(b" requests ")
         .number(fields.requests)
-        .show();
+        .show(stdout);
 }
 
 // Shows what reading answers for the first n bytes of an array.
-fn show_front(name: &[u8], block: [u8; ROOM], n: usize) {
+fn show_front(stdout: Stdout, name: &[u8], block: [u8; ROOM], n: usize) {
     if n <= ROOM {
-        show(name, &block[..n]);
+        show(stdout, name, &block[..n]);
     }
 }
 
@@ -95,36 +96,38 @@ fn with_counts(block: [u8; ROOM], p: u8, r: u8) -> [u8; ROOM] {
     b
 }
 
-fn show_shortest() {
-    show(b"nothing", b"");
-    show(b"zeros", &[0u8; 4]);
-    show(b"zeros", &[0u8; 5]);
-    show(b"zeros", &[0u8; 6]);
-    show(b"site 255, seq 65535", &[255, 255, 255, 0, 0]);
+fn show_shortest(stdout: Stdout) {
+    show(stdout, b"nothing", b"");
+    show(stdout, b"zeros", &[0u8; 4]);
+    show(stdout, b"zeros", &[0u8; 5]);
+    show(stdout, b"zeros", &[0u8; 6]);
+    show(stdout, b"site 255, seq 65535", &[255, 255, 255, 0, 0]);
 }
 
-fn show_longest() {
+fn show_longest(stdout: Stdout) {
     let b = full();
-    show_front(b"p 16, r 5, a byte less", b, MAX_BLOCK_SIZE - 1);
-    show_front(b"p 16, r 5", b, MAX_BLOCK_SIZE);
-    show_front(b"p 16, r 5, a byte more", b, MAX_BLOCK_SIZE + 1);
+    show_front(stdout, b"p 16, r 5, a byte less", b, MAX_BLOCK_SIZE - 1);
+    show_front(stdout, b"p 16, r 5", b, MAX_BLOCK_SIZE);
+    show_front(stdout, b"p 16, r 5, a byte more", b, MAX_BLOCK_SIZE + 1);
 }
 
 // Shows a block of the most references and r requests.
-fn show_requesting(name: &[u8], r: u8) {
+fn show_requesting(stdout: Stdout, name: &[u8], r: u8) {
     show_front(
+        stdout,
         name,
         with_counts(full(), MAX_REFERENCES as u8, r),
         REQUESTS + REQUEST_SIZE * base::wide(r),
     );
 }
 
-fn show_counts() {
-    show_front(b"p 17, r 0", with_counts(full(), 17, 0), ROOM);
-    show_requesting(b"p 16, r 0", 0);
-    show_requesting(b"p 16, r 6", 6);
-    show_requesting(b"p 16, r 8", 8);
+fn show_counts(stdout: Stdout) {
+    show_front(stdout, b"p 17, r 0", with_counts(full(), 17, 0), ROOM);
+    show_requesting(stdout, b"p 16, r 0", 0);
+    show_requesting(stdout, b"p 16, r 6", 6);
+    show_requesting(stdout, b"p 16, r 8", 8);
     show(
+        stdout,
         b"p 0, r 6",
         &[
             0, 0, 0, 0, 6, 0, 0, 1, 1, 0, 1, 2, 0, 1, 3, 0, 1, 4, 0, 1, 5, 0, 1,
@@ -132,105 +135,137 @@ fn show_counts() {
     );
 }
 
-fn show_requests() {
+fn show_requests(stdout: Stdout) {
     let b = full();
-    show_front(b"slot 8 at 3", with_request(b, 3, 8, 1), MAX_BLOCK_SIZE);
-    show_front(b"number 0 at 4", with_request(b, 4, 4, 0), MAX_BLOCK_SIZE);
+    show_front(
+        stdout,
+        b"slot 8 at 3",
+        with_request(b, 3, 8, 1),
+        MAX_BLOCK_SIZE,
+    );
+    show_front(
+        stdout,
+        b"number 0 at 4",
+        with_request(b, 4, 4, 0),
+        MAX_BLOCK_SIZE,
+    );
     let c = with_request(b, 4, 255, 1);
     show_front(
+        stdout,
         b"slot 255 at 4, number 0 at 2",
         with_request(c, 2, 2, 0),
         MAX_BLOCK_SIZE,
     );
 }
 
-fn show_counted_of(list: &[u8], slot: u8) {
+fn show_counted_of(stdout: Stdout, list: &[u8], slot: u8) {
     Line::new()
         .text(b"slot ")
         .number(base::wide(slot))
         .text(b" counts ")
         .number(block::requests::counted_request(list, slot) as usize)
-        .show();
+        .show(stdout);
 }
 
 // Slot 5 is not requested.
-fn show_counted() {
+fn show_counted(stdout: Stdout) {
     let b = full();
-    show_counted_of(&b[REQUESTS..MAX_BLOCK_SIZE], 0);
-    show_counted_of(&b[REQUESTS..MAX_BLOCK_SIZE], 4);
-    show_counted_of(&b[REQUESTS..MAX_BLOCK_SIZE], 5);
+    show_counted_of(stdout, &b[REQUESTS..MAX_BLOCK_SIZE], 0);
+    show_counted_of(stdout, &b[REQUESTS..MAX_BLOCK_SIZE], 4);
+    show_counted_of(stdout, &b[REQUESTS..MAX_BLOCK_SIZE], 5);
 }
 
-fn show_slots() {
+fn show_slots(stdout: Stdout) {
     let b = full();
     show_front(
+        stdout,
         b"slot 0 at 0 and at 3",
         with_request(b, 3, 0, 9),
         MAX_BLOCK_SIZE,
     );
     show_front(
+        stdout,
         b"slot 1 at 0 and at 1",
         with_request(b, 0, 1, 2),
         MAX_BLOCK_SIZE,
     );
     let c = with_request(b, 3, 1, 9);
     show_front(
+        stdout,
         b"slot 1 at 1 and at 3, 0 at 0 and at 4",
         with_request(c, 4, 0, 9),
         MAX_BLOCK_SIZE,
     );
     let d = with_request(b, 0, 7, 1);
-    show_front(b"slot 7 at 0", d, MAX_BLOCK_SIZE);
+    show_front(stdout, b"slot 7 at 0", d, MAX_BLOCK_SIZE);
     show_front(
+        stdout,
         b"slot 7 at 0 and at 4",
         with_request(d, 4, 7, 1),
         MAX_BLOCK_SIZE,
     );
 }
 
-fn show_references() {
+fn show_references(stdout: Stdout) {
     let b = full();
-    show_front(b"reference 5 as 1", with_reference(b, 5, 1), MAX_BLOCK_SIZE);
+    show_front(
+        stdout,
+        b"reference 5 as 1",
+        with_reference(b, 5, 1),
+        MAX_BLOCK_SIZE,
+    );
     let c = with_reference(b, 9, 2);
     show_front(
+        stdout,
         b"reference 9 as 2, 4 as 3",
         with_reference(c, 4, 3),
         MAX_BLOCK_SIZE,
     );
     show_front(
+        stdout,
         b"reference 15 as 14",
         with_reference(b, 15, 14),
         MAX_BLOCK_SIZE,
     );
 }
 
-fn show_orders() {
+fn show_orders(stdout: Stdout) {
     let b = with_reference(full(), 1, 0);
     show_front(
+        stdout,
         b"slot 0 at 0 and at 4, reference 1 as 0",
         with_request(b, 4, 0, 1),
         MAX_BLOCK_SIZE,
     );
     let a = with_request(b, 1, 0, 1);
     show_front(
+        stdout,
         b"number 0 at 4, slot 0 at 0 and at 1",
         with_request(a, 4, 4, 0),
         MAX_BLOCK_SIZE,
     );
     show_front(
+        stdout,
         b"number 0 at 4, reference 1 as 0",
         with_request(b, 4, 4, 0),
         MAX_BLOCK_SIZE,
     );
     show_front(
+        stdout,
         b"slot 8 at 2, reference 1 as 0",
         with_request(b, 2, 8, 1),
         MAX_BLOCK_SIZE,
     );
-    show_front(b"reference 1 as 0", b, MAX_BLOCK_SIZE + 1);
+    show_front(stdout, b"reference 1 as 0", b, MAX_BLOCK_SIZE + 1);
     let c = with_request(b, 0, 8, 1);
-    show_front(b"slot 8 at 0, reference 1 as 0", c, MAX_BLOCK_SIZE - 1);
     show_front(
+        stdout,
+        b"slot 8 at 0, reference 1 as 0",
+        c,
+        MAX_BLOCK_SIZE - 1,
+    );
+    show_front(
+        stdout,
         b"p 17, slot 8 at 0, reference 1 as 0",
         with_counts(c, 17, MAX_REQUESTS as u8),
         MAX_BLOCK_SIZE,
@@ -238,7 +273,7 @@ fn show_orders() {
 }
 
 // A block written into a longer output is read back, and the output's other bytes stay.
-fn show_written() {
+fn show_written(stdout: Stdout) {
     let mut output = [7u8; ROOM];
     let references = full();
     let requests = full();
@@ -250,21 +285,21 @@ fn show_written() {
         &mut output,
     );
     let after = output[75];
-    show_front(b"written, p 2, r 2", output, 75);
+    show_front(stdout, b"written, p 2, r 2", output, 75);
     Line::new()
         .text(b"after it: ")
         .number(base::wide(after))
-        .show();
+        .show(stdout);
 }
 
-pub fn show_all() {
-    show_shortest();
-    show_longest();
-    show_counts();
-    show_requests();
-    show_counted();
-    show_slots();
-    show_references();
-    show_orders();
-    show_written();
+pub fn show_all(stdout: Stdout) {
+    show_shortest(stdout);
+    show_longest(stdout);
+    show_counts(stdout);
+    show_requests(stdout);
+    show_counted(stdout);
+    show_slots(stdout);
+    show_references(stdout);
+    show_orders(stdout);
+    show_written(stdout);
 }

@@ -6,6 +6,7 @@ use crate::watching;
 use block::{HEADER_SIZE, MAX_BLOCK_SIZE, MAX_REFERENCES, REFERENCE_SIZE, REQUEST_SIZE};
 use records::BUFFER_SIZE;
 use setup::SLOTS;
+use std::io::Stdout;
 use table::MAX_PLACES;
 
 // Room for the digests of the blocks that a campaign names.
@@ -149,7 +150,7 @@ pub fn wide(x: u16) -> usize {
 }
 
 // What the block at a place made in slot 0.
-fn show_made(place: usize, records: &[u16]) {
+fn show_made(stdout: Stdout, place: usize, records: &[u16]) {
     if records.len() != BUFFER_SIZE {
         return;
     }
@@ -168,34 +169,35 @@ fn show_made(place: usize, records: &[u16]) {
         .number(wide(made.ready))
         .text(b" delivery ")
         .number(wide(made.delivered))
-        .show();
+        .show(stdout);
 }
 
-fn show_interpreted(table: &mut [u8], records: &mut [u16], place: usize) {
+fn show_interpreted(stdout: Stdout, table: &mut [u8], records: &mut [u16], place: usize) {
     let answer = interpret::interpret(table, place, records);
     if answer.refusal != 0 {
-        show_answer(b"interpret", answer);
+        show_answer(stdout, b"interpret", answer);
         return;
     }
-    show_made(place, records);
+    show_made(stdout, place, records);
 }
 
 // Admits the block, and interprets it at its place if that is asked for.
-fn settle(table: &mut [u8], records: &mut [u16], step: u8, block: &[u8]) {
+fn settle(stdout: Stdout, table: &mut [u8], records: &mut [u16], step: u8, block: &[u8]) {
     let answer = admission::admit(table, block, 1);
     if step == ADMITTED {
-        show_answer(b"admit", answer);
+        show_answer(stdout, b"admit", answer);
         return;
     }
     if answer.refusal != 0 {
-        show_answer(b"admit", answer);
+        show_answer(stdout, b"admit", answer);
         return;
     }
-    show_interpreted(table, records, answer.value);
+    show_interpreted(stdout, table, records, answer.value);
 }
 
 // Brings the block of the entry at the front.
 fn bring(
+    stdout: Stdout,
     table: &mut [u8],
     records: &mut [u16],
     digests: &mut [u8],
@@ -205,10 +207,11 @@ fn bring(
 ) {
     let mut room = [0u8; MAX_BLOCK_SIZE];
     let length = write_block(&mut room, digests, entry);
-    bring_front(table, records, digests, named, step, &room, length);
+    bring_front(stdout, table, records, digests, named, step, &room, length);
 }
 
 fn bring_front(
+    stdout: Stdout,
     table: &mut [u8],
     records: &mut [u16],
     digests: &mut [u8],
@@ -222,7 +225,7 @@ fn bring_front(
     }
     let block = &room[0..length];
     keep_digest(digests, named, block);
-    settle(table, records, step, block);
+    settle(stdout, table, records, step, block);
 }
 
 // How many bytes the entry at the front takes.
@@ -240,40 +243,47 @@ fn entry_size(entry: &[u8]) -> usize
 }
 
 // The site of the entry at the front builds its next block.
-fn build(table: &mut [u8], records: &mut [u16], entry: &[u8]) {
+fn build(stdout: Stdout, table: &mut [u8], records: &mut [u16], entry: &[u8]) {
     if entry.len() < ENTRY_SIZE {
         return;
     }
     let mut requests = [0u8; MAX_BLOCK_SIZE];
     let first = put_request(&mut requests, 0, 0, number(entry[3]));
     let end = put_request(&mut requests, first, 1, number(entry[4]));
-    build_front(table, records, digit(entry[1]), &requests, end);
+    build_front(stdout, table, records, digit(entry[1]), &requests, end);
 }
 
-fn build_front(table: &mut [u8], records: &mut [u16], site: u8, requests: &[u8], end: usize) {
+fn build_front(
+    stdout: Stdout,
+    table: &mut [u8],
+    records: &mut [u16],
+    site: u8,
+    requests: &[u8],
+    end: usize,
+) {
     if requests.len() < end {
         return;
     }
     let mut room = [0u8; MAX_BLOCK_SIZE];
     let answer = build::build(table, site, &requests[0..end], &mut room);
-    show_answer(b"build", answer);
+    show_answer(stdout, b"build", answer);
     if answer.refusal != 0 {
         return;
     }
-    settle_front(table, records, &room, answer.value);
+    settle_front(stdout, table, records, &room, answer.value);
 }
 
 // Shows the built block at the front of `room`, and brings it to the table that it was built from.
-fn settle_front(table: &mut [u8], records: &mut [u16], room: &[u8], length: usize) {
+fn settle_front(stdout: Stdout, table: &mut [u8], records: &mut [u16], room: &[u8], length: usize) {
     if room.len() < length {
         return;
     }
     let block = &room[0..length];
-    show_block(block);
-    settle(table, records, ARRIVES, block);
+    show_block(stdout, block);
+    settle(stdout, table, records, ARRIVES, block);
 }
 
-fn show_block(block: &[u8]) {
+fn show_block(stdout: Stdout, block: &[u8]) {
     if block.len() < HEADER_SIZE {
         return;
     }
@@ -290,19 +300,20 @@ fn show_block(block: &[u8]) {
         .number(references)
         .text(b" requests ")
         .number(requests)
-        .show();
-    show_digest(block);
+        .show(stdout);
+    show_digest(stdout, block);
 }
 
-fn show_digest(block: &[u8]) {
+fn show_digest(stdout: Stdout, block: &[u8]) {
     Line::new()
         .text(b"digest ")
         .hexadecimal(&sha256::digest(block))
-        .show();
+        .show(stdout);
 }
 
 // Does what the entry at the front says, and gives how many blocks the campaign has named by then.
 fn take_step(
+    stdout: Stdout,
     table: &mut [u8],
     records: &mut [u16],
     digests: &mut [u8],
@@ -316,36 +327,36 @@ fn take_step(
         return named;
     }
     if entry[0] == ASKED {
-        watching::show_ancestors(table, base::wide(digit(entry[1])));
+        watching::show_ancestors(stdout, table, base::wide(digit(entry[1])));
         return named;
     }
     if entry[0] == WATCHED {
-        watching::show_forks(table);
+        watching::show_forks(stdout, table);
         return named;
     }
     if entry[0] == BUILT {
-        build(table, records, entry);
+        build(stdout, table, records, entry);
         return named;
     }
-    bring(table, records, digests, named, entry[0], entry);
+    bring(stdout, table, records, digests, named, entry[0], entry);
     named + 1
 }
 
-fn run(table: &mut [u8], records: &mut [u16], digests: &mut [u8], campaign: &[u8]) {
+fn run(stdout: Stdout, table: &mut [u8], records: &mut [u16], digests: &mut [u8], campaign: &[u8]) {
     let mut at = 0;
     let mut named = 0;
     while at < campaign.len() {
-        named = take_step(table, records, digests, named, &campaign[at..]);
+        named = take_step(stdout, table, records, digests, named, &campaign[at..]);
         at += entry_size(&campaign[at..]);
     }
 }
 
 // Runs a campaign of n sites in which site 0 owns every slot.
-pub fn show(name: &[u8], sites: u8, campaign: &[u8]) {
-    Line::new().text(name).show();
+pub fn show(stdout: Stdout, name: &[u8], sites: u8, campaign: &[u8]) {
+    Line::new().text(name).show(stdout);
     let fresh = table::fresh(sites, [0; SLOTS]);
     let mut table = fresh.table;
     let mut records = [0u16; BUFFER_SIZE];
     let mut digests = [0u8; DIGESTS_SIZE];
-    run(&mut table, &mut records, &mut digests, campaign);
+    run(stdout, &mut table, &mut records, &mut digests, campaign);
 }

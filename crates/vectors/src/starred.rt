@@ -4,10 +4,12 @@ use crate::campaigns::show;
 use crate::line::show_answer;
 use records::BUFFER_SIZE;
 use setup::SLOTS;
+use std::io::Stdout;
 
 // Each block refers to the one before; the first requests 7.
-fn show_chain() {
+fn show_chain(stdout: Stdout) {
     show(
+        stdout,
         b"n 1, a chain of four",
         1,
         b"a00\x07.0 a01..10 a02..11 a03..12",
@@ -15,8 +17,9 @@ fn show_chain() {
 }
 
 // Block 0 requests 42; four blocks refer to it, four to all of those, four to all of these.
-fn show_thirteen() {
+fn show_thirteen(stdout: Stdout) {
     show(
+        stdout,
         b"n 4, 13 blocks",
         4,
         b"a00*.0 a01..10 a10..10 a20..10 a30..10 a02..41234 a11..41234 a21..41234 a31..41234 a03..45678 a12..45678 a22..45678 a32..45678",
@@ -24,8 +27,9 @@ fn show_thirteen() {
 }
 
 // Blocks 1 to 3 of sites 0 to 2 send ECHO; site 3 hears of two of them, then of the third.
-fn show_echoes_of_4() {
+fn show_echoes_of_4(stdout: Stdout) {
     show(
+        stdout,
         b"n 4, ECHO from two sites, then from a third",
         4,
         b"a00*.0 a01..10 a10..10 a20..10 a30..212 a31..243",
@@ -33,8 +37,9 @@ fn show_echoes_of_4() {
 }
 
 // Blocks 4 and 5 of sites 0 and 1 send READY; site 3 hears of one, then of the other, and then its own.
-fn show_readies_of_4() {
+fn show_readies_of_4(stdout: Stdout) {
     show(
+        stdout,
         b"n 4, READY from one site, from two, and its own",
         4,
         b"a00*.0 a01..10 a10..10 a20..10 a02..3123 a11..3123 a30..14 a31..265 a32..17",
@@ -42,8 +47,9 @@ fn show_readies_of_4() {
 }
 
 // Blocks 4 to 6 of sites 0 to 2 send READY; site 3 hears of two of them, then of the third.
-fn show_third_ready() {
+fn show_third_ready(stdout: Stdout) {
     show(
+        stdout,
         b"n 4, READY from two sites, then from a third",
         4,
         b"a00*.0 a01..10 a10..10 a20..10 a02..3123 a11..3123 a21..3123 a30..245 a31..276",
@@ -51,8 +57,9 @@ fn show_third_ready() {
 }
 
 // Site 1 refers to both, site 2 to the second alone.
-fn show_fork() {
+fn show_fork(stdout: Stdout) {
     show(
+        stdout,
         b"n 4, a fork with 42 and 43",
         4,
         b"a00*.0 a00+.0 a10..201 a20..11",
@@ -60,8 +67,9 @@ fn show_fork() {
 }
 
 // Site 1 requests 42; site 0 requests 42, and 43 a block later.
-fn show_requests() {
+fn show_requests(stdout: Stdout) {
     show(
+        stdout,
         b"n 4, requests of another site, and of the owner once more",
         4,
         b"a10*.0 a00*.0 a01+.11",
@@ -69,32 +77,34 @@ fn show_requests() {
 }
 
 // Interpretation of a place that is not there, with a buffer of one number too few, then with a whole one.
-fn show_lengths() {
+fn show_lengths(stdout: Stdout) {
     let fresh = table::fresh(4, [0; SLOTS]);
     let mut table = fresh.table;
     let mut short = [0u16; BUFFER_SIZE - 1];
     let mut whole = [0u16; BUFFER_SIZE];
     show_answer(
+        stdout,
         b"interpret, 20479 numbers",
         interpret::interpret(&mut table, 0, &mut short),
     );
     show_answer(
+        stdout,
         b"interpret, 20480 numbers",
         interpret::interpret(&mut table, 0, &mut whole),
     );
 }
 
-fn show_campaigns() {
-    show_chain();
-    show_thirteen();
-    show_echoes_of_4();
-    show_readies_of_4();
-    show_third_ready();
-    show_fork();
-    show_requests();
+fn show_campaigns(stdout: Stdout) {
+    show_chain(stdout);
+    show_thirteen(stdout);
+    show_echoes_of_4(stdout);
+    show_readies_of_4(stdout);
+    show_third_ready(stdout);
+    show_fork(stdout);
+    show_requests(stdout);
 }
 
-pub fn show_all() {
-    show_campaigns();
-    show_lengths();
+pub fn show_all(stdout: Stdout) {
+    show_campaigns(stdout);
+    show_lengths(stdout);
 }

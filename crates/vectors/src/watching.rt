@@ -1,5 +1,6 @@
 // What the watch says of a table: the sites that forked, and the ancestors of a place.
 use crate::line::Line;
+use std::io::Stdout;
 
 fn places(sites: u16) -> u64 {
     sites as u64
@@ -13,7 +14,7 @@ fn yes(test: bool) -> usize {
     if test { 1 } else { 0 }
 }
 
-pub fn show_forks(table: &[u8]) {
+pub fn show_forks(stdout: Stdout, table: &[u8]) {
     let forks = watch::forks(table);
     Line::new()
         .text(b"forks: refusal ")
@@ -24,10 +25,10 @@ pub fn show_forks(table: &[u8]) {
         .number(count(forks.count))
         .text(b" at most f ")
         .number(yes(forks.at_most_f))
-        .show();
+        .show(stdout);
 }
 
-pub fn show_ancestors(table: &[u8], place: usize) {
+pub fn show_ancestors(stdout: Stdout, table: &[u8], place: usize) {
     let ancestors = watch::ancestors(table, place);
     Line::new()
         .text(b"ancestors: refusal ")
@@ -36,5 +37,5 @@ pub fn show_ancestors(table: &[u8], place: usize) {
         .members(ancestors.places)
         .text(b" count ")
         .number(count(ancestors.count))
-        .show();
+        .show(stdout);
 }

@@ -9,17 +9,13 @@ use lib.Seq.{take_all, take-suc, set_split, get_or-drop, length-take-le}
 use Rattle.base.specs.Bytes.{Bytes, splice}
 use Rattle.base.proofs.Parts.{part_of_front}
 use Rattle.base.proofs.Splice.{splice_nothing, splice_append, splice_high}
-use Rattle.listing.proofs.to_front.Statement.{statement}
-use Rattle.listing.proofs.to_front.Tie as tie
+use Rattle.listing.proofs.to_front.Invariants.{moved}
+use Rattle.listing.proofs.to_front.Goals as goal
 
 -- a store puts one byte
 store_splice : (b : Bytes) (k v : ℕ) → k < length b → set b k v ≡ splice b k (v ∷ [])
 unfolding splice
 store_splice b k v h = set_split b k v h ∙ ap (λ (n : ℕ). take k b ++ (v ∷ drop n b)) (sym (add-one k))
-
--- the bytes from `used` to `i`, at the front
-abbrev moved : Bytes → ℕ → ℕ → Bytes
-moved b used i = splice b 0 (take (i - used) (drop used b))
 
 -- one turn
 module _ (b : Bytes) (used i : ℕ) (low : used ≤ i) (high : i < length b) where
@@ -55,22 +51,16 @@ all_moved b used count h =
     sym (part_of_front used (count - used) count b (omega arith))
     ∙ take_all (count - used) (drop used (take count b)) (omega (arith, length-drop used (take count b), length-take count b))
 
-abbrev invariant-loop : tie.invariant-loop
-invariant-loop input₀ used count i₀ input i = (input ≡ moved input₀ used i) × (used ≤ i) × (i ≤ count) × (count ≤ length input₀) × (length input ≡ length input₀)
-
-abbrev decreases-loop : tie.decreases-loop
-decreases-loop input₀ used count i₀ input i = count - i
-
-loop-holds : tie.Need-loop-init invariant-loop decreases-loop
-loop-holds c =
+pub loop-i-init : goal.loop-i-init
+loop-i-init c =
     let a = c.args in
     let none : a.used - a.used ≡ 0 = omega arith in
     (sym (ap (λ (n : ℕ). splice a.input.now 0 (take n (drop a.used a.input.now))) none ∙ splice_nothing a.input.now 0), omega arith, c.requires.0, c.requires.1, refl)
 
-loop-again : tie.Need-loop-preserved invariant-loop decreases-loop
-loop-again c =
-    let a = c.before.before.before.args in
-    let l = c.before.before.loop in (
+pub loop-i-preserved : goal.loop-i-preserved
+loop-i-preserved c =
+    let a = c.args in
+    let l = c.loop-i in (
       turn a.input.now a.used l.i l.invariant.1 (omega arith) l.input l.invariant.0 l.invariant.4,
       omega arith,
       omega arith,
@@ -78,25 +68,9 @@ loop-again c =
       length-set l.input (l.i - a.used) (get_or l.input l.i 0) ∙ l.invariant.4,
     )
 
-returns : tie.Need-returns invariant-loop decreases-loop
+pub returns : goal.returns
 returns c =
-    let a = c.before.before.args in
-    let l = c.before.loop in
+    let a = c.args in
+    let l = c.loop-i in
     let whole : l.i ≡ a.count = omega arith in
     l.invariant.0 ∙ ap (λ (n : ℕ). moved a.input.now a.used n) whole ∙ ap (splice a.input.now 0) (all_moved a.input.now a.used a.count (omega arith))
-
-pub to_front_spec : {M : Type 1} → statement M
-to_front_spec =
-    tie.close
-    (tie.spec
-    invariant-loop
-    decreases-loop
-    loop-holds
-    (λ c. omega arith)
-    (λ c. omega arith)
-    (λ c. omega arith)
-    (λ c. omega arith)
-    (λ c. omega arith)
-    loop-again
-    (λ c. c.before.loop.invariant.4)
-    returns)
