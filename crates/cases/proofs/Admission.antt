@@ -24,17 +24,17 @@ pub order : OrderCases
 unfolding opened_ledger
 order =
     record {
-      formBeforeShape = form-before-shape;
-      shapeBeforeSite = site_answers_lem (sites 4) refl _ _ refl;
-      siteBeforeVerdict = site_answers_lem (sites 4) refl _ _ refl;
-      verdictBeforeRequest = site_answers_lem (sites 4) refl _ _ refl;
-      verdictBeforeSlot = site_answers_lem (sites 4) refl _ _ refl;
-      requestBeforeSlot = site_answers_lem (sites 4) refl _ _ refl;
-      slotBeforeRepeated = site_answers_lem (sites 4) refl _ _ refl;
-      repeatedBeforeHeld = site_answers_lem (sites 4) refl _ _ refl;
-      heldBeforeMissing = site_answers_lem (sites 4) refl _ _ refl;
-      missingBeforeParent = site_answers_lem (sites 4) refl _ _ refl;
-      parentBeforeFull = parent_before_full;
+      form_before_shape = form-before-shape;
+      shape_before_site = site_answers_lem (sites 4) refl _ _ refl;
+      site_before_verdict = site_answers_lem (sites 4) refl _ _ refl;
+      verdict_before_request = site_answers_lem (sites 4) refl _ _ refl;
+      verdict_before_slot = site_answers_lem (sites 4) refl _ _ refl;
+      request_before_slot = site_answers_lem (sites 4) refl _ _ refl;
+      slot_before_repeated = site_answers_lem (sites 4) refl _ _ refl;
+      repeated_before_held = site_answers_lem (sites 4) refl _ _ refl;
+      held_before_missing = site_answers_lem (sites 4) refl _ _ refl;
+      missing_before_parent = site_answers_lem (sites 4) refl _ _ refl;
+      parent_before_full = parent_before_full;
       filling = filling;
     }
 
@@ -60,17 +60,17 @@ unfolding opened_ledger
 values =
     record {
       own_site = site_answers_lem (sites 4) refl _ _ refl;
-      besideParent = site_answers_lem (sites 4) refl _ _ refl;
-      ownLater = site_answers_lem (sites 4) refl _ _ refl;
-      oneFork = site_answers_lem (sites 4) refl _ _ refl;
+      beside_parent = site_answers_lem (sites 4) refl _ _ refl;
+      own_later = site_answers_lem (sites 4) refl _ _ refl;
+      one_fork = site_answers_lem (sites 4) refl _ _ refl;
       other_site = site_answers_lem (sites 4) refl _ _ refl;
-      highByte = site_answers_lem (sites 4) refl _ _ refl;
+      high_byte = site_answers_lem (sites 4) refl _ _ refl;
       verdict_two = site_answers_lem (sites 4) refl _ _ refl;
       slot_eight = site_answers_lem (sites 4) refl _ _ refl;
       number_none = site_answers_lem (sites 4) refl _ _ refl;
       requested_twice = site_answers_lem (sites 4) refl _ _ refl;
-      repeatedSlots = site_answers_lem (sites 4) refl _ _ refl;
-      repeatedLater = site_answers_lem (sites 4) refl _ _ refl;
+      repeated_slots = site_answers_lem (sites 4) refl _ _ refl;
+      repeated_later = site_answers_lem (sites 4) refl _ _ refl;
       held_place = site_answers_lem (sites 4) refl _ _ refl;
-      missingIndex = site_answers_lem (sites 4) refl _ _ refl;
+      missing_index = site_answers_lem (sites 4) refl _ _ refl;
     }

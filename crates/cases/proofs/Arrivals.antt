@@ -65,9 +65,9 @@ unfolding opened_arrivals
 order =
     record {
       twenty_one_first = refl;
-      campaignBeforeRoom = (refl, refl);
-      roomBeforeShelf = (refl, refl);
-      shelfBeforeBlock = (refl, refl);
+      campaign_before_room = (refl, refl);
+      room_before_shelf = (refl, refl);
+      shelf_before_block = (refl, refl);
       table_before_block = refl;
       enough_room = refl;
       more_room = refl;
@@ -77,21 +77,21 @@ pub missing : MissingCases
 unfolding opened_arrivals
 missing =
     record {
-      waitsBehind = refl;
-      waitsInBytes = refl;
-      slotTwice = refl;
-      waitsAlready = refl;
+      waits_behind = refl;
+      waits_in_bytes = refl;
+      slot_twice = refl;
+      waits_already = refl;
       waits_already_in_bytes = refl;
-      waitsForAnother = refl;
-      noEleventh = refl;
-      noneFree = refl;
-      lackedByAnother = refl;
-      belowTwo = refl;
-      ruleInBytes = (refl, refl);
-      sameBeforeNoPlace = refl;
-      verdictBefore = refl;
-      verdictBeforeSame = refl;
-      heldBefore = refl;
+      waits_for_another = refl;
+      no_eleventh = refl;
+      none_free = refl;
+      lacked_by_another = refl;
+      below_two = refl;
+      rule_in_bytes = (refl, refl);
+      same_before_no_place = refl;
+      verdict_before = refl;
+      verdict_before_same = refl;
+      held_before = refl;
       full_table = full_table;
     }
 
@@ -99,30 +99,30 @@ pub passing : PassCases
 unfolding opened_arrivals
 passing =
     record {
-      oneLetIn = refl;
-      chainInOrder = refl;
-      chainReversed = refl;
-      oldestFirst = refl;
-      oneMorePass = refl;
-      onlyDrops = refl;
-      nothingEnds = refl;
-      mixedPasses = refl;
-      droppedBy8 = refl;
-      droppedBy10 = refl;
-      droppedBy11 = dropped-by-11;
-      droppedBy4 = refl;
+      one_let_in = refl;
+      chain_in_order = refl;
+      chain_reversed = refl;
+      oldest_first = refl;
+      one_more_pass = refl;
+      only_drops = refl;
+      nothing_ends = refl;
+      mixed_passes = refl;
+      dropped_by8 = refl;
+      dropped_by10 = refl;
+      dropped_by11 = dropped-by-11;
+      dropped_by4 = refl;
       other_campaigns = refl;
-      afterRefusal = refl;
-      afterMissing = refl;
-      afterAnother = refl;
-      passesInBytes = refl;
-      refusedInBytes = refl;
+      after_refusal = refl;
+      after_missing = refl;
+      after_another = refl;
+      passes_in_bytes = refl;
+      refused_in_bytes = refl;
     }
 
 pub outcomes : OutcomeCases
 unfolding opened_arrivals
-outcomes = record { outcomes_listed = refl; number_alone = refl; tenOutcomes = refl; outcomes_in_buffer = refl }
+outcomes = record { outcomes_listed = refl; number_alone = refl; ten_outcomes = refl; outcomes_in_buffer = refl }
 
 pub left : ArrivalLeftCases
 unfolding opened_arrivals
-left = record { still_lacking = refl; freeByLettingIn = (refl, refl); freeByDropping = (refl, refl) }
+left = record { still_lacking = refl; free_by_letting_in = (refl, refl); free_by_dropping = (refl, refl) }

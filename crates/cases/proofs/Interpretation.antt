@@ -9,13 +9,13 @@ pub order : InterpretationOrderCases
 unfolding opened_ledger opened_table
 order =
     record {
-      formBeforeSize = (refl, refl);
+      form_before_size = (refl, refl);
       form_before_place = (refl, refl);
-      formBeforeMark = (refl, refl);
-      formBeforeReference = (refl, refl);
-      sizeBeforePlace = (refl, refl);
-      sizeBeforeMark = (refl, refl);
-      sizeBeforeReference = (refl, refl);
+      form_before_mark = (refl, refl);
+      form_before_reference = (refl, refl);
+      size_before_place = (refl, refl);
+      size_before_mark = (refl, refl);
+      size_before_reference = (refl, refl);
       place_or_mark = session (sites 4) _ refl refl;
       mark_or_reference = session (sites 4) _ refl refl;
     }

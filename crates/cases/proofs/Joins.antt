@@ -117,18 +117,18 @@ unfolding opened_joins
 order =
     record {
       two_first = refl;
-      leftBeforeSize = (refl, refl);
-      rightBeforeSize = (refl, refl);
-      bothBeforeSize = (refl, refl);
-      leftSizeBeforeSetup = (refl, refl);
-      rightSizeBeforeSetup = (refl, refl);
-      thirdSizeBeforeSetup = (refl, refl);
-      sizeBeforeRetired = (refl, refl);
-      sizeBeforeRightRetired = (refl, refl);
-      retiredBeforeSetup = (refl, refl);
-      rightRetiredBeforeSetup = (refl, refl);
-      setupBeforeClash = (refl, refl);
-      clashBeforeFull = clash_before_full;
+      left_before_size = (refl, refl);
+      right_before_size = (refl, refl);
+      both_before_size = (refl, refl);
+      left_size_before_setup = (refl, refl);
+      right_size_before_setup = (refl, refl);
+      third_size_before_setup = (refl, refl);
+      size_before_retired = (refl, refl);
+      size_before_right_retired = (refl, refl);
+      retired_before_setup = (refl, refl);
+      right_retired_before_setup = (refl, refl);
+      setup_before_clash = (refl, refl);
+      clash_before_full = clash_before_full;
     }
 
 pub setups : JoinSetupCases

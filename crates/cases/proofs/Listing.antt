@@ -21,13 +21,13 @@ unfolding opened_listing
 listing_cases =
     record {
       first_line = refl;
-      valuesInOrder = refl;
-      inputRead = refl;
+      values_in_order = refl;
+      input_read = refl;
       overlong_skipped = refl;
       longer_skipped = refl;
-      lowerSlotFirst = refl;
-      refusedCounted = refl;
-      slotTwice = refl;
+      lower_slot_first = refl;
+      refused_counted = refl;
+      slot_twice = refl;
       setup_short = refl;
       setup_unlawful = refl;
     }

@@ -14,7 +14,7 @@ messages =
       seventeen_sites = λ r kind. refl;
       echo_one_short = refl;
       ready_one_short = refl;
-      deliveryOneShort = refl;
-      readyThoughDelivered = refl;
-      notedThoughDelivered = refl;
+      delivery_one_short = refl;
+      ready_though_delivered = refl;
+      noted_though_delivered = refl;
     }

@@ -26,6 +26,6 @@ reading_cases =
       first_and_last = refl;
       two_repeated = refl;
       one_number = refl;
-      requestFirst = (refl, refl);
-      slotFirst = (refl, refl);
+      request_first = (refl, refl);
+      slot_first = (refl, refl);
     }

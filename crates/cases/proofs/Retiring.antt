@@ -49,11 +49,11 @@ pub order : RetiringOrderCases
 unfolding opened_retiring
 order =
     record {
-      formBeforeSize = (refl, refl);
+      form_before_size = (refl, refl);
       form_before_place = (refl, refl);
-      formBeforeRetirable = (refl, refl);
-      sizeBeforePlace = (refl, refl);
-      sizeBeforeRetirable = (refl, refl);
+      form_before_retirable = (refl, refl);
+      size_before_place = (refl, refl);
+      size_before_retirable = (refl, refl);
       place_before_retirable = (refl, refl);
     }
 

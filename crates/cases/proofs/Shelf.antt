@@ -40,12 +40,12 @@ places =
       eleventh = refl;
       tenth_beside_twos = refl;
       eleventh_beside_twos = refl;
-      othersHoldNone = (refl, refl);
-      othersHoldOne = (refl, refl);
-      othersHoldTwo = (refl, refl);
-      othersMixed = (refl, refl);
-      ownLack = (refl, refl);
-      ownLackOfTheLast = (refl, refl);
+      others_hold_none = (refl, refl);
+      others_hold_one = (refl, refl);
+      others_hold_two = (refl, refl);
+      others_mixed = (refl, refl);
+      own_lack = (refl, refl);
+      own_lack_of_the_last = (refl, refl);
       full_shelf = refl;
     }
 
@@ -55,7 +55,7 @@ same_bytes = record { they_wait = refl; for_another = refl; other_bytes = refl; 
 
 pub shelf_bytes_cases : ShelfBytesCases
 unfolding opened_shelf
-shelf_bytes_cases = record { entry_written = refl; high_length = refl; entriesInOrder = refl; nothing_waits = refl; shown = refl }
+shelf_bytes_cases = record { entry_written = refl; high_length = refl; entries_in_order = refl; nothing_waits = refl; shown = refl }
 
 pub shelf_form : ShelfFormCases
 unfolding opened_shelf

@@ -18,5 +18,5 @@ starred =
       fork_heard = campaign (sites 4) 0 _ refl (omega arith) refl refl refl;
       other_requests = campaign (sites 4) 0 _ refl (omega arith) refl refl refl;
       second_request = campaign (sites 4) 0 _ refl (omega arith) refl refl refl;
-      withoutOneParent = (site_answers_lem (sites 4) refl _ _ refl, site_answers_lem (sites 4) refl _ _ refl);
+      without_one_parent = (site_answers_lem (sites 4) refl _ _ refl, site_answers_lem (sites 4) refl _ _ refl);
     }

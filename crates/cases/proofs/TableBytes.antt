@@ -15,4 +15,4 @@ table_written =
     (7 ∷ 6 ∷ 5 ∷ 4 ∷ 3 ∷ 2 ∷ 1 ∷ 0 ∷ 6 ∷ 1 ∷ 2 ∷ (row_written 5 0 ++ (row_written 6 1 ++ replicate 3720 0))) refl
 
 pub table_bytes : TableBytesCases
-table_bytes = record { table_length = refl; tableWritten = table_written }
+table_bytes = record { table_length = refl; table_written = table_written }

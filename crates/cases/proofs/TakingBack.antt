@@ -46,7 +46,7 @@ opened_turns = true
 
 pub order : TakingBackOrderCases
 unfolding opened_before
-order = record { form_before_held = (refl, refl); formBeforeInterpreted = (refl, refl); heldBeforeInterpreted = (refl, refl); retired_empty = refl }
+order = record { form_before_held = (refl, refl); form_before_interpreted = (refl, refl); held_before_interpreted = (refl, refl); retired_empty = refl }
 
 -- ---- what is left
 
@@ -111,7 +111,7 @@ unfolding opened_before chain_block
 none_left = same_equal (taken_back (chain_block 1)) fresh refl
 
 pub let_in_cases : LetInCases
-let_in_cases = record { let_in = ap (λ (r : Arrived). r.table) passing.mixedPasses; one_by_one = (two_left, (one_left, none_left)) }
+let_in_cases = record { let_in = ap (λ (r : Arrived). r.table) passing.mixed_passes; one_by_one = (two_left, (one_left, none_left)) }
 
 -- ---- ledgers
 

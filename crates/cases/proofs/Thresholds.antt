@@ -10,7 +10,7 @@ pub thresholds : ThresholdCases
 unfolding opened_ledger
 thresholds =
     record {
-      siteCounts = refl;
+      site_counts = refl;
       faults_of = refl;
       echo_quorums = refl;
       ready_amplifications = refl;

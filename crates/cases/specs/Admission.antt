@@ -15,50 +15,50 @@ use Rattle.cases.specs.Blocks.{fresh, unlawful, first, fork, second, both, stran
 -- both causes and gets the earlier number; in the second only the earlier cause is mended, and it gets the later number.
 pub record OrderCases : Type 0 where
   -- 2, 3: four bytes, brought to a table of three sites, then to a table of four
-  pub formBeforeShape :
+  pub form_before_shape :
       (answers toy unlawful (good (0 ∷ 0 ∷ 0 ∷ 0 ∷ []) ∷ []) ≡ refused 2 0 ∷ [])
       × (answers toy fresh (good (0 ∷ 0 ∷ 0 ∷ 0 ∷ []) ∷ []) ≡ refused 3 0 ∷ [])
   -- 3, 4: four bytes that begin with site 4, then five
-  pub shapeBeforeSite :
+  pub shape_before_site :
       answers toy fresh (good (4 ∷ 0 ∷ 0 ∷ 0 ∷ []) ∷ good (4 ∷ 0 ∷ 0 ∷ 0 ∷ 0 ∷ []) ∷ []) ≡ refused 3 0 ∷ refused 4 0 ∷ []
   -- 4, 5: verdict 0 on a block of site 4, then on a block of site 3
-  pub siteBeforeVerdict :
+  pub site_before_verdict :
       answers toy fresh (judged 0 (block 4 0 [] []) ∷ judged 0 (block 3 0 [] []) ∷ []) ≡ refused 4 0 ∷ refused 5 0 ∷ []
   -- 5, 6: a request for slot 8 with verdict 0, then with verdict 1
-  pub verdictBeforeRequest :
+  pub verdict_before_request :
       answers toy fresh
       (judged 0 (block 0 0 [] (request 7 1 ∷ request 8 1 ∷ []))
       ∷ good (block 0 0 [] (request 7 1 ∷ request 8 1 ∷ []))
       ∷ [])
       ≡ refused 5 0 ∷ refused 6 1 ∷ []
   -- 5, 18: slot 3 requested twice, with verdict 0, then with verdict 1
-  pub verdictBeforeSlot :
+  pub verdict_before_slot :
       answers toy fresh
       (judged 0 (block 0 0 [] (request 3 1 ∷ request 3 1 ∷ []))
       ∷ good (block 0 0 [] (request 3 1 ∷ request 3 1 ∷ []))
       ∷ [])
       ≡ refused 5 0 ∷ refused 18 1 ∷ []
   -- 6, 18: slot 3 requested twice, and a third request of number 0, then of number 1
-  pub requestBeforeSlot :
+  pub request_before_slot :
       answers toy fresh
       (good (block 0 0 [] (request 3 1 ∷ request 3 1 ∷ request 4 0 ∷ []))
       ∷ good (block 0 0 [] (request 3 1 ∷ request 3 1 ∷ request 4 1 ∷ []))
       ∷ [])
       ≡ refused 6 2 ∷ refused 18 1 ∷ []
   -- 18, 7: a repeated reference, and slot 3 requested twice, then slots 3 and 4
-  pub slotBeforeRepeated :
+  pub slot_before_repeated :
       answers toy fresh
       (good (block 1 0 (toy first ∷ toy first ∷ []) (request 3 1 ∷ request 3 1 ∷ []))
       ∷ good (block 1 0 (toy first ∷ toy first ∷ []) (request 3 1 ∷ request 4 1 ∷ []))
       ∷ [])
       ≡ refused 18 1 ∷ refused 7 1 ∷ []
   -- 7, 8: a block that shares a held block's digest and repeats a reference, then the held block once more
-  pub repeatedBeforeHeld :
+  pub repeated_before_held :
       answers toy fresh (good first ∷ good fork ∷ good both ∷ good (block 1 0 (toy first ∷ toy first ∷ []) []) ∷ good both ∷ [])
       ≡ placed 0 ∷ placed 1 ∷ placed 2 ∷ refused 7 1 ∷ refused 8 2 ∷ []
   -- 8, 9: a block that shares a held block's digest and refers to a block that is not held, then the same block of another site, whose digest is not
   -- held
-  pub heldBeforeMissing :
+  pub held_before_missing :
       answers toy fresh
       (good first
       ∷ good fork
@@ -68,12 +68,12 @@ pub record OrderCases : Type 0 where
       ∷ [])
       ≡ placed 0 ∷ placed 1 ∷ placed 2 ∷ refused 8 2 ∷ refused 9 1 ∷ []
   -- 9, 10: a block of sequence 2 that refers to a block of sequence 0 and to a block that is not held, then to the block of sequence 0 alone
-  pub missingBeforeParent :
+  pub missing_before_parent :
       answers toy fresh (good first ∷ good (block 0 2 (toy first ∷ toy stranger ∷ []) []) ∷ good (block 0 2 (toy first ∷ []) []) ∷ [])
       ≡ placed 0 ∷ refused 9 1 ∷ refused 10 0 ∷ []
   -- 10, 11: in a full table, a block of sequence 1 without references, then a block of sequence 0. Before these come the 64th block, and a held block
   -- again
-  pub parentBeforeFull :
+  pub parent_before_full :
       answers toy (holding 63) (good (numbered 63) ∷ good (numbered 5) ∷ good (block 0 1 [] []) ∷ good (block 0 0 [] []) ∷ [])
       ≡ placed 63 ∷ refused 8 5 ∷ refused 10 0 ∷ refused 11 0 ∷ []
   -- the table `holding k`, which is written down at once, is what admissions leave
@@ -105,10 +105,10 @@ pub record ValueCases : Type 0 where
   -- "A block may refer to other blocks of its own site too": a block of sequence 0 does
   pub own_site : answers toy fresh (good first ∷ good (block 0 0 (toy first ∷ []) []) ∷ []) ≡ placed 0 ∷ placed 1 ∷ []
   -- a block of sequence 2 refers to its parent and to another block of its own site
-  pub besideParent :
+  pub beside_parent :
       answers toy fresh (good first ∷ good second ∷ good (block 0 2 (toy first ∷ toy second ∷ []) []) ∷ []) ≡ placed 0 ∷ placed 1 ∷ placed 2 ∷ []
   -- a block refers to a block of its own site of a higher sequence number; and one to its parent and to a block of its own sequence number
-  pub ownLater :
+  pub own_later :
       answers toy fresh
       (good first
       ∷ good second
@@ -117,12 +117,12 @@ pub record ValueCases : Type 0 where
       ∷ [])
       ≡ placed 0 ∷ placed 1 ∷ placed 2 ∷ placed 3 ∷ []
   -- one of two forks is the parent: the other, which is held but not among the references, does not count
-  pub oneFork :
+  pub one_fork :
       answers toy fresh (good first ∷ good fork ∷ good (block 0 1 (toy fork ∷ []) []) ∷ []) ≡ placed 0 ∷ placed 1 ∷ placed 2 ∷ []
   -- 10: a block of another site is no parent
   pub other_site : answers toy fresh (good first ∷ good (block 1 1 (toy first ∷ []) []) ∷ []) ≡ placed 0 ∷ refused 10 0 ∷ []
   -- 10: sequence number 256 is taken for neither 0 nor 1
-  pub highByte :
+  pub high_byte :
       answers toy fresh (good first ∷ good (block 0 256 [] []) ∷ good (block 0 256 (toy first ∷ []) []) ∷ [])
       ≡ placed 0 ∷ refused 10 0 ∷ refused 10 0 ∷ []
   -- 5: "link verdict not 1"
@@ -132,13 +132,13 @@ pub record ValueCases : Type 0 where
   pub number_none : answers toy fresh (good (block 0 0 [] (request 7 1 ∷ request 6 256 ∷ request 0 0 ∷ [])) ∷ []) ≡ refused 6 2 ∷ []
   -- 18: "a slot equal to an earlier one in the same block", with the index of the first such request, which is the later of the two
   pub requested_twice : answers toy fresh (good (block 0 0 [] (request 0 43 ∷ request 0 42 ∷ [])) ∷ []) ≡ refused 18 1 ∷ []
-  pub repeatedSlots :
+  pub repeated_slots :
       answers toy fresh (good (block 0 0 [] (request 7 1 ∷ request 0 2 ∷ request 1 3 ∷ request 0 4 ∷ request 7 5 ∷ [])) ∷ []) ≡ refused 18 3 ∷ []
   -- 7: "a reference equal to an earlier one", with the index of the first such
-  pub repeatedLater :
+  pub repeated_later :
       answers toy fresh (good (block 1 0 (toy first ∷ toy fork ∷ toy fork ∷ toy first ∷ []) []) ∷ []) ≡ refused 7 2 ∷ []
   -- 8: "digest held", with its place
   pub held_place : answers toy fresh (good first ∷ good fork ∷ good fork ∷ []) ≡ placed 0 ∷ placed 1 ∷ refused 8 1 ∷ []
   -- 9: "reference not held", with the index of the first such
-  pub missingIndex :
+  pub missing_index :
       answers toy fresh (good first ∷ good (block 1 0 (toy first ∷ toy fork ∷ toy stranger ∷ []) []) ∷ []) ≡ placed 0 ∷ refused 9 1 ∷ []

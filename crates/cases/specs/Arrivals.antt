@@ -90,15 +90,15 @@ pub record ArrivalOrderCases : Type 0 where
   -- "21, campaign above 3, checked first": every later check fails too
   pub twenty_one_first : arrival toy [] [] 4 [] 0 0 ≡ calling (refused 21 0) [] [] []
   -- 21, 17: room for 19 numbers, for campaign 4, then for campaign 3
-  pub campaignBeforeRoom :
+  pub campaign_before_room :
       (arrival toy fresh empty_shelf 4 (chained 0) 1 19 ≡ calling (refused 21 0) fresh empty_shelf [])
       × (arrival toy fresh empty_shelf 3 (chained 0) 1 19 ≡ calling (refused 17 20) fresh empty_shelf [])
   -- 17, 2: a shelf that is not in form, with room for 19 numbers, then for 20
-  pub roomBeforeShelf :
+  pub room_before_shelf :
       (arrival toy fresh damaged 0 (chained 0) 1 19 ≡ calling (refused 17 20) fresh damaged [])
       × (arrival toy fresh damaged 0 (chained 0) 1 20 ≡ calling (refused 2 0) fresh damaged [])
   -- 2, 3: four bytes, with a shelf that is not in form, then with a shelf that is
-  pub shelfBeforeBlock :
+  pub shelf_before_block :
       (arrival toy fresh damaged 0 no_block 1 20 ≡ calling (refused 2 0) fresh damaged [])
       × (arrival toy fresh empty_shelf 0 no_block 1 20 ≡ calling (refused 3 0) fresh empty_shelf [])
   -- 2, 3: four bytes, with a table that is not in form; with a table that is, the row above has 3
@@ -110,57 +110,57 @@ pub record ArrivalOrderCases : Type 0 where
 -- "where an arrival would get 9". `partly` lacks its second reference in a table that holds its first: 9 with index 1.
 pub record MissingCases : Type 0 where
   -- "still answered 9 and waits, with its bytes": behind all others, and with the index
-  pub waitsBehind :
+  pub waits_behind :
       arrives (chain_block 1) (sharing 1 1 0 0) 0 partly 1
       ≡ leaving (lacks 1) (chain_block 1) (lacking_reference 0 for 0 ∷ lacking_reference 0 for 1 ∷ partly for 0 ∷ []) []
   -- over the shelf's bytes: an arrival that is answered 9 waits behind all others
-  pub waitsInBytes :
+  pub waits_in_bytes :
       arrival toy (chain_block 1) of_three 1 partly 1 20
       ≡ calling (lacks 1) (chain_block 1) (shelf_bytes (lacking_reference 0 for 0 ∷ lacking_reference 0 for 3 ∷ longest for 0 ∷ partly for 1 ∷ [])) []
   -- a block that states a slot twice and lacks a reference would not get 9: it gets 18, and does not wait
-  pub slotTwice :
+  pub slot_twice :
       arrives fresh [] 0 (block 2 0 (toy stranger ∷ []) (request 0 1 ∷ request 0 2 ∷ [])) 1 ≡ leaving (refused 18 1) fresh [] []
   -- "instead of it 20, its bytes already wait for that campaign", with 0 beside it
-  pub waitsAlready :
+  pub waits_already :
       arrives (chain_block 1) (lacking_reference 0 for 0 ∷ partly for 0 ∷ []) 0 partly 1
       ≡ leaving (refused 20 0) (chain_block 1) (lacking_reference 0 for 0 ∷ partly for 0 ∷ []) []
   pub waits_already_in_bytes : arrival toy fresh of_three 3 (lacking_reference 0) 1 20 ≡ calling (refused 20 0) fresh of_three []
   -- the block's bytes wait for another campaign alone: it is answered 9 and waits
-  pub waitsForAnother :
+  pub waits_for_another :
       arrives (chain_block 1) (lacking_reference 0 for 0 ∷ partly for 1 ∷ []) 0 partly 1
       ≡ leaving (lacks 1) (chain_block 1) (lacking_reference 0 for 0 ∷ partly for 1 ∷ partly for 0 ∷ []) []
   -- "else 19, no place by the shelf rule", with 0 beside it: the campaign holds 10 places; no place is free; the free places are what another
   -- campaign lacks of its 2
-  pub noEleventh :
+  pub no_eleventh :
       arrives (chain_block 1) (sharing 10 0 0 0) 0 partly 1
       ≡ leaving (refused 19 0) (chain_block 1) (sharing 10 0 0 0) []
-  pub noneFree :
+  pub none_free :
       arrives (chain_block 1) (sharing 5 2 2 7) 0 partly 1
       ≡ leaving (refused 19 0) (chain_block 1) (sharing 5 2 2 7) []
-  pub lackedByAnother :
+  pub lacked_by_another :
       arrives (chain_block 1) (sharing 6 0 2 6) 0 partly 1
       ≡ leaving (refused 19 0) (chain_block 1) (sharing 6 0 2 6) []
   -- on that shelf a block of the campaign that holds fewer than 2 places gets 9
-  pub belowTwo :
+  pub below_two :
       arrives (chain_block 1) (sharing 6 0 2 6) 1 partly 1
       ≡ leaving (lacks 1) (chain_block 1) (sharing 6 0 2 6 ++ (partly for 1 ∷ [])) []
   -- over the shelf's bytes: 19, and 9 for the campaign that holds fewer than 2 places
-  pub ruleInBytes :
+  pub rule_in_bytes :
       (arrival toy (chain_block 1) (shelf_bytes (sharing 6 0 2 6)) 3 partly 1 20 ≡ calling (refused 19 0) (chain_block 1) (shelf_bytes (sharing 6 0 2 6)) [])
       × (arrival toy (chain_block 1) (shelf_bytes (sharing 6 0 2 6)) 1 partly 1 20
       ≡ calling (lacks 1) (chain_block 1) (shelf_bytes (sharing 6 0 2 6 ++ (partly for 1 ∷ []))) [])
   -- 20, 19: the block's bytes wait for the campaign, and no place is free
-  pub sameBeforeNoPlace :
+  pub same_before_no_place :
       arrives (chain_block 1) (sharing 5 2 2 6 ++ (partly for 0 ∷ [])) 0 partly 1
       ≡ leaving (refused 20 0) (chain_block 1) (sharing 5 2 2 6 ++ (partly for 0 ∷ [])) []
   -- 5, 9: a block with verdict 0 does not wait
-  pub verdictBefore :
+  pub verdict_before :
       arrives (chain_block 1) [] 0 partly 0 ≡ leaving (refused 5 0) (chain_block 1) [] []
   -- 5, 20, 19: with verdict 0 a block gets 5, though its bytes wait and no place is free
-  pub verdictBeforeSame :
+  pub verdict_before_same :
       arrives fresh (sharing 10 2 2 2) 0 (lacking_reference 0) 0 ≡ leaving (refused 5 0) fresh (sharing 10 2 2 2) []
   -- 8, 9: a held block has the digest of the block that arrives
-  pub heldBefore :
+  pub held_before :
       arrives (table_of (chained 0 ∷ fork ∷ block 1 0 (toy (chained 0) ∷ toy fork ∷ []) [] ∷ [])) [] 0 partly 1
       ≡ leaving (refused 8 2) (table_of (chained 0 ∷ fork ∷ block 1 0 (toy (chained 0) ∷ toy fork ∷ []) [] ∷ [])) [] []
   -- 9, 11: a block waits though the table is full
@@ -170,11 +170,11 @@ pub record MissingCases : Type 0 where
 -- by another number than 9 is dropped".
 pub record PassCases : Type 0 where
   -- one block is let in
-  pub oneLetIn :
+  pub one_let_in :
       arrives fresh (chained 1 for 0 ∷ []) 0 (chained 0) 1
       ≡ leaving (placed 0) (chain_block 2) [] (chained 1 getting placed 1 ∷ [])
   -- a chain waits in its order, behind a block that waits on: each block of the chain is let in after the one before it, in the same pass
-  pub chainInOrder :
+  pub chain_in_order :
       arrives fresh (lacking_reference 0 for 0 ∷ chained 1 for 0 ∷ chained 2 for 0 ∷ chained 3 for 0 ∷ []) 0 (chained 0) 1
       ≡ leaving (placed 0) (chain_block 4) (lacking_reference 0 for 0 ∷ [])
       (lacking_reference 0 getting lacks 0
@@ -184,7 +184,7 @@ pub record PassCases : Type 0 where
       ∷ lacking_reference 0 getting lacks 0
       ∷ [])
   -- a chain waits in reverse order: three passes let in one block each
-  pub chainReversed :
+  pub chain_reversed :
       arrives fresh (chained 3 for 0 ∷ chained 2 for 0 ∷ chained 1 for 0 ∷ []) 0 (chained 0) 1
       ≡ leaving (placed 0) (chain_block 4) []
       (chained 3 getting lacks 0
@@ -195,27 +195,27 @@ pub record PassCases : Type 0 where
       ∷ chained 3 getting placed 3
       ∷ [])
   -- "in the order they came", whatever their sites are: the block that came first gets the lowest place
-  pub oldestFirst :
+  pub oldest_first :
       arrives fresh (beside 2 for 0 ∷ beside 3 for 0 ∷ beside 1 for 0 ∷ []) 0 (chained 0) 1
       ≡ leaving (placed 0) (table_of (chained 0 ∷ beside 2 ∷ beside 3 ∷ beside 1 ∷ [])) []
       (beside 2 getting placed 1 ∷ beside 3 getting placed 2 ∷ beside 1 getting placed 3 ∷ [])
   -- a pass that lets a block in is followed by another pass, also if that one lets none in
-  pub oneMorePass :
+  pub one_more_pass :
       arrives fresh (lacking_reference 0 for 0 ∷ chained 1 for 0 ∷ []) 0 (chained 0) 1
       ≡ leaving (placed 0) (chain_block 2) (lacking_reference 0 for 0 ∷ [])
       (lacking_reference 0 getting lacks 0 ∷ chained 1 getting placed 1 ∷ lacking_reference 0 getting lacks 0 ∷ [])
   -- a pass that only drops blocks is the last
-  pub onlyDrops :
+  pub only_drops :
       arrives fresh (lacking_reference 0 for 0 ∷ orphan 0 for 0 ∷ []) 0 (chained 0) 1
       ≡ leaving (placed 0) (chain_block 1) (lacking_reference 0 for 0 ∷ [])
       (lacking_reference 0 getting lacks 0 ∷ orphan 0 getting refused 10 0 ∷ [])
   -- a pass that neither lets a block in nor drops one is the last
-  pub nothingEnds :
+  pub nothing_ends :
       arrives fresh (lacking_reference 0 for 0 ∷ partly for 0 ∷ []) 0 (chained 0) 1
       ≡ leaving (placed 0) (chain_block 1) (lacking_reference 0 for 0 ∷ partly for 0 ∷ [])
       (lacking_reference 0 getting lacks 0 ∷ partly getting lacks 1 ∷ [])
   -- a block that was dropped is not tried again, and what waits on keeps its order
-  pub mixedPasses :
+  pub mixed_passes :
       arrives fresh mixture 0 (chained 0) 1
       ≡ leaving (placed 0) (chain_block 3) (partly for 0 ∷ lacking_reference 0 for 0 ∷ [])
       (partly getting lacks 1
@@ -230,35 +230,35 @@ pub record PassCases : Type 0 where
       ∷ lacking_reference 0 getting lacks 0
       ∷ [])
   -- dropped by 8: the block waits though it could be admitted, arrives once more, and is admitted
-  pub droppedBy8 :
+  pub dropped_by8 :
       arrives (chain_block 1) (chained 1 for 0 ∷ []) 0 (chained 1) 1
       ≡ leaving (placed 1) (chain_block 2) [] (chained 1 getting refused 8 1 ∷ [])
   -- dropped by 10: the block has no parent
-  pub droppedBy10 :
+  pub dropped_by10 :
       arrives fresh (orphan 0 for 0 ∷ []) 0 (chained 0) 1 ≡ leaving (placed 0) (chain_block 1) [] (orphan 0 getting refused 10 0 ∷ [])
   -- dropped by 11: the block refers to the 64th block, with which the table is full
-  pub droppedBy11 :
+  pub dropped_by11 :
       arrives (holding 63) (after_last for 0 ∷ []) 0 (numbered 63) 1 ≡ leaving (placed 63) (holding 64) [] (after_last getting refused 11 0 ∷ [])
   -- dropped by 4: no arrival leaves a block of site 4 on the shelf, but the form of a shelf does not ask for the site
-  pub droppedBy4 :
+  pub dropped_by4 :
       arrives fresh (beside 4 for 0 ∷ []) 0 (chained 0) 1 ≡ leaving (placed 0) (chain_block 1) [] (beside 4 getting refused 4 0 ∷ [])
   -- blocks that wait for other campaigns are not tried, and stay in their order, though they have the same bytes
   pub other_campaigns :
       arrives fresh (chained 1 for 1 ∷ chained 1 for 0 ∷ chained 1 for 3 ∷ []) 0 (chained 0) 1
       ≡ leaving (placed 0) (chain_block 2) (chained 1 for 1 ∷ chained 1 for 3 ∷ []) (chained 1 getting placed 1 ∷ [])
   -- after a refusal no waiting block is tried, though one could be admitted: the refusal is 8, and 9
-  pub afterRefusal :
+  pub after_refusal :
       arrives (chain_block 1) (chained 1 for 0 ∷ []) 0 (chained 0) 1
       ≡ leaving (refused 8 0) (chain_block 1) (chained 1 for 0 ∷ []) []
-  pub afterMissing :
+  pub after_missing :
       arrives (chain_block 1) (chained 1 for 0 ∷ []) 0 partly 1
       ≡ leaving (lacks 1) (chain_block 1) (chained 1 for 0 ∷ partly for 0 ∷ []) []
   -- after an admission a waiting block is tried, also if it does not refer to the block that was admitted
-  pub afterAnother :
+  pub after_another :
       arrives (chain_block 1) (chained 1 for 0 ∷ []) 0 fork 1
       ≡ leaving (placed 1) (table_of (chained 0 ∷ fork ∷ chained 1 ∷ [])) [] (chained 1 getting placed 2 ∷ [])
   -- over the shelf's bytes, an arrival for campaign 2: two blocks are let in, one waits on, and what waits for another campaign stays
-  pub passesInBytes :
+  pub passes_in_bytes :
       arrival toy fresh (shelf_bytes (lacking_reference 0 for 0 ∷ chained 2 for 2 ∷ chained 1 for 2 ∷ partly for 2 ∷ [])) 2 (chained 0) 1 20
       ≡ calling (placed 0) (chain_block 3) (shelf_bytes (lacking_reference 0 for 0 ∷ partly for 2 ∷ []))
       (chained 2 getting lacks 0
@@ -269,7 +269,7 @@ pub record PassCases : Type 0 where
       ∷ partly getting lacks 1
       ∷ [])
   -- over the shelf's bytes: a refusal by admission leaves them
-  pub refusedInBytes :
+  pub refused_in_bytes :
       arrival toy (chain_block 1) of_three 0 (chained 0) 1 20 ≡ calling (refused 8 0) (chain_block 1) of_three []
 
 -- "The answer lists, in the order tried, the place of each block let in and the number of each dropped".
@@ -279,7 +279,7 @@ pub record OutcomeCases : Type 0 where
   -- beside the number of a block that was dropped stands 0, also beside 8, which has a place as its value otherwise
   pub number_alone : outcomes_of (chained 1 getting refused 8 1 ∷ []) ≡ refused 8 0 ∷ []
   -- all 10 blocks that a campaign may have waiting are dropped
-  pub tenOutcomes :
+  pub ten_outcomes :
       outcomes_of (arrives fresh (list_below (λ i. orphan i for 0) 10 ++ (orphan 0 for 1 ∷ [])) 0 (chained 0) 1).tries ≡ replicate 10 (refused 10 0)
   -- the buffer gets two numbers for each outcome, and its other numbers stay
   pub outcomes_in_buffer : put_answers (replicate 20 7) 0 (outcomes_of (arrives fresh mixture 0 (chained 0) 1).tries) ≡ 10 ∷ 0 ∷ 0 ∷ 1 ∷ 0 ∷ 2 ∷ replicate 14 7
@@ -291,9 +291,9 @@ pub record ArrivalLeftCases : Type 0 where
       map (λ w. admission toy (arrives fresh mixture 0 (chained 0) 1).table w.block 1) (arrives fresh mixture 0 (chained 0) 1).waiting
       ≡ lacks 1 ∷ lacks 0 ∷ []
   -- "A place is free again once its block is let in or dropped": no campaign gets a further place, and afterwards all do
-  pub freeByLettingIn :
+  pub free_by_letting_in :
       (takers (full_with (chained 1)) ≡ none_of_them)
       × (takers (arrives fresh (full_with (chained 1)) 0 (chained 0) 1).waiting ≡ all_of_them)
-  pub freeByDropping :
+  pub free_by_dropping :
       (takers (full_with (orphan 0)) ≡ none_of_them)
       × (takers (arrives fresh (full_with (orphan 0)) 0 (chained 0) 1).waiting ≡ all_of_them)

@@ -51,11 +51,11 @@ pub record BuildingOrderCases : Type 0 where
   -- 3, 6: a request of slot 8 and a byte more, then without that byte
   pub list_before_request : (building fresh 3 (request_written 8 1 ++ (0 ∷ [])) [] ≡ refused 3 0) × (building fresh 3 (request_written 8 1) [] ≡ refused 6 0)
   -- 6, 18: slot 0 twice, and a third request of number 0, then of number 1
-  pub requestBeforeSlot :
+  pub request_before_slot :
       (building four 0 (request_written 0 1 ++ request_written 0 1 ++ request_written 1 0) [] ≡ refused 6 2)
       × (building four 0 (request_written 0 1 ++ request_written 0 1 ++ request_written 1 1) [] ≡ refused 18 1)
   -- 18, 16: a site that forked, with slot 0 twice, then with slots 0 and 1
-  pub slotBeforeFork :
+  pub slot_before_fork :
       (building four 0 (request_written 0 1 ++ request_written 0 2) [] ≡ refused 18 1) × (building four 0 (request_written 0 1 ++ request_written 1 2) [] ≡ refused 16 0)
   -- 16, 17: an output of no bytes, for a site that forked, then for a site that did not
   pub fork_before_output : (building four 0 [] [] ≡ refused 16 0) × (building four 3 [] [] ≡ refused 17 (block_size 1 0))
@@ -75,7 +75,7 @@ pub record BuildingCases : Type 0 where
   pub six_listed : building fresh 3 (five_written ++ request_written 5 1) (room 29) ≡ refused 3 0
   pub eight_listed : building fresh 3 (replicate 24 1) (room 29) ≡ refused 3 0
   -- 18, "with the index of the first such request": slots 1 and 0 again; the output stays
-  pub slotsRepeated :
+  pub slots_repeated :
       building fresh 3 (request_written 0 1 ++ request_written 1 1 ++ request_written 2 1 ++ request_written 1 2 ++ request_written 0 2) (room 20) ≡ refused 18 3
   pub repeated_stays : built fresh 3 (request_written 0 1 ++ request_written 0 2) (room 20) ≡ room 20
   -- "A block is then at most 532 bytes": 16 references and five requests, with an output of that length and of one byte less
@@ -101,6 +101,6 @@ pub record BuildingCases : Type 0 where
   -- "up to 16 in all"
   pub sixteen : references_of (next_block everywhere (view_of (holding 18)) 1 []) ≡ list_below (λ i. toy (numbered i)) max_references
   -- of 16 blocks of other sites the first 15 have room beside the site's own greatest block
-  pub fifteenOthers :
+  pub fifteen_others :
       references_of (next_block everywhere (view_of (changed (holding 17) (row_start 16 + site_offset) 1)) 1 [])
       ≡ toy (numbered 16) ∷ list_below (λ i. toy (numbered i)) 15

@@ -22,30 +22,30 @@ lent t size = record { table = t; records = replicate size 0 }
 -- places 2 and 0, in this order, at place 3.
 pub record InterpretationOrderCases : Type 0 where
   -- 2, 12: a buffer that is one number short, with a table of three sites, then with a table of four
-  pub formBeforeSize :
+  pub form_before_size :
       (site_answers toy (lent unlawful (buffer_size - 1)) (interpret 0 ∷ []) ≡ refused 2 0 ∷ [])
       × (site_answers toy (lent fresh (buffer_size - 1)) (interpret 0 ∷ []) ≡ refused 12 0 ∷ [])
   -- 2, 13: place 0 of a table that holds nothing
   pub form_before_place :
       (answers toy unlawful (interpret 0 ∷ []) ≡ refused 2 0 ∷ []) × (answers toy fresh (interpret 0 ∷ []) ≡ refused 13 0 ∷ [])
   -- 2, 14: a marked place, in a table where the place that it refers to is not marked, then in one where it is
-  pub formBeforeMark :
+  pub form_before_mark :
       (answers toy (with_mark_at (with_mark_at four 0 1) 2 1) (interpret 2 ∷ []) ≡ refused 2 0 ∷ [])
       × (answers toy (with_mark_at (with_mark_at four 1 1) 2 1) (interpret 2 ∷ []) ≡ refused 14 0 ∷ [])
   -- 2, 15: a place that refers to a place that is not marked, in a table with a block of site 4, then in a table without
-  pub formBeforeReference :
+  pub form_before_reference :
       (answers toy (changed four (row_start 1 + site_offset) 4) (interpret 2 ∷ []) ≡ refused 2 0 ∷ [])
       × (answers toy four (interpret 2 ∷ []) ≡ refused 15 1 ∷ [])
   -- 12, 13: place 0 of a table that holds nothing, with a buffer that is one number short, then with a whole buffer
-  pub sizeBeforePlace :
+  pub size_before_place :
       (site_answers toy (lent fresh (buffer_size - 1)) (interpret 0 ∷ []) ≡ refused 12 0 ∷ [])
       × (site_answers toy (lent fresh buffer_size) (interpret 0 ∷ []) ≡ refused 13 0 ∷ [])
   -- 12, 14: a marked place, with a buffer that is one number short, then with a whole buffer
-  pub sizeBeforeMark :
+  pub size_before_mark :
       (site_answers toy (lent (with_mark_at four 1 1) (buffer_size - 1)) (interpret 1 ∷ []) ≡ refused 12 0 ∷ [])
       × (site_answers toy (lent (with_mark_at four 1 1) buffer_size) (interpret 1 ∷ []) ≡ refused 14 0 ∷ [])
   -- 12, 15: a place whose reference is not marked, with a buffer that is one number short, then with a whole buffer
-  pub sizeBeforeReference :
+  pub size_before_reference :
       (site_answers toy (lent four (buffer_size - 1)) (interpret 2 ∷ []) ≡ refused 12 0 ∷ [])
       × (site_answers toy (lent four buffer_size) (interpret 2 ∷ []) ≡ refused 15 1 ∷ [])
   -- 13, 14: no call has both causes, since a place from the count on has no mark. The place after an interpreted place gets 13, and the interpreted

@@ -142,45 +142,45 @@ pub record JoinOrderCases : Type 0 where
   -- every check fails
   pub two_first : join_answer [] [] [] [] [] ≡ refused 2 0
   -- 2, 12: the left table is not in form; the right; both. Each time another buffer is one number short
-  pub leftBeforeSize :
+  pub left_before_size :
       (lending unformed fresh (buffer_size - 1) buffer_size buffer_size ≡ refused 2 0)
       × (lending fresh fresh (buffer_size - 1) buffer_size buffer_size ≡ refused 12 0)
-  pub rightBeforeSize :
+  pub right_before_size :
       (lending fresh unformed buffer_size (buffer_size - 1) buffer_size ≡ refused 2 0)
       × (lending fresh fresh buffer_size (buffer_size - 1) buffer_size ≡ refused 12 0)
-  pub bothBeforeSize :
+  pub both_before_size :
       (lending unformed unformed buffer_size buffer_size (buffer_size - 1) ≡ refused 2 0)
       × (lending fresh fresh buffer_size buffer_size (buffer_size - 1) ≡ refused 12 0)
   -- 12, 23: "12 tests all three": a buffer that is one number short, one that has a number too many, and one that has no number
-  pub leftSizeBeforeSetup :
+  pub left_size_before_setup :
       (lending fresh other_owner (buffer_size - 1) buffer_size buffer_size ≡ refused 12 0)
       × (lending fresh other_owner buffer_size buffer_size buffer_size ≡ refused 23 0)
-  pub rightSizeBeforeSetup :
+  pub right_size_before_setup :
       (lending fresh other_owner buffer_size (buffer_size + 1) buffer_size ≡ refused 12 0)
       × (lending fresh other_owner buffer_size buffer_size buffer_size ≡ refused 23 0)
-  pub thirdSizeBeforeSetup :
+  pub third_size_before_setup :
       (lending fresh other_owner buffer_size buffer_size 0 ≡ refused 12 0)
       × (lending fresh other_owner buffer_size buffer_size buffer_size ≡ refused 23 0)
   -- 12, 31: the left table has retired something; the right
-  pub sizeBeforeRetired :
+  pub size_before_retired :
       (lending (retired_some fresh) fresh buffer_size buffer_size (buffer_size - 1) ≡ refused 12 0)
       × (lending (retired_some fresh) fresh buffer_size buffer_size buffer_size ≡ refused 31 0)
-  pub sizeBeforeRightRetired :
+  pub size_before_right_retired :
       (lending fresh (retired_some fresh) (buffer_size - 1) buffer_size buffer_size ≡ refused 12 0)
       × (lending fresh (retired_some fresh) buffer_size buffer_size buffer_size ≡ refused 31 0)
   -- 31, 23: tables of different owners, of which one has retired something, then neither
-  pub retiredBeforeSetup :
+  pub retired_before_setup :
       (joining (retired_some fresh) other_owner ≡ refused 31 0)
       × (joining fresh other_owner ≡ refused 23 0)
-  pub rightRetiredBeforeSetup :
+  pub right_retired_before_setup :
       (joining fresh (retired_some other_owner) ≡ refused 31 0)
       × (joining fresh other_owner ≡ refused 23 0)
   -- 23, 24: one digest with two sites, in tables of different owners, then of the same
-  pub setupBeforeClash :
+  pub setup_before_clash :
       (joining four (changed other_site owners_offset 1) ≡ refused 23 0)
       × (joining four other_site ≡ refused 24 1)
   -- 24, 25: a full table, and a table of two blocks of which the left holds one; that one has another site, then the same
-  pub clashBeforeFull :
+  pub clash_before_full :
       (joining (holding 64) (changed (table_of (numbered 5 ∷ stranger ∷ [])) (row_start 0 + site_offset) 1) ≡ refused 24 5)
       × (joining (holding 64) (table_of (numbered 5 ∷ stranger ∷ [])) ≡ refused 25 0)
 

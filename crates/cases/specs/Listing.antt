@@ -55,25 +55,25 @@ pub record ListingCases : Type 0 where
   -- "First a line of names"
   pub first_line : names ≡ names_text
   -- "then lines of values in that order": "10 9 3 258 7 65535 0"
-  pub valuesInOrder :
+  pub values_in_order :
       delivery_line (record { arrival = 10; place = 9; site = 3; sequence = 258; slot = 7; number = 65535 })
       ≡ 49 ∷ 48 ∷ 32 ∷ 57 ∷ 32 ∷ 51 ∷ 32 ∷ 50 ∷ 53 ∷ 56 ∷ 32 ∷ 55 ∷ 32 ∷ 54 ∷ 53 ∷ 53 ∷ 51 ∷ 53 ∷ 32 ∷ 48 ∷ 10 ∷ []
   -- "length (two bytes, high first), verdict, block": a block of two bytes, a block of 532, and an arrival of which one byte is there
-  pub inputRead :
+  pub input_read :
       arrivals_in (0 ∷ 2 ∷ 5 ∷ 7 ∷ 8 ∷ 2 ∷ 20 ∷ 1 ∷ (replicate 532 6 ++ (0 ∷ [])))
       ≡ arrived (7 ∷ 8 ∷ []) 5 ∷ arrived (replicate 532 6) 1 ∷ unread ∷ []
   -- a length over the limit "is refused with 3, its verdict and bytes skipped; a cut arrival gets 3": lengths of 533 and 541
   pub overlong_skipped : arrivals_in (2 ∷ 21 ∷ 1 ∷ (replicate 533 6 ++ (0 ∷ 1 ∷ 4 ∷ 7 ∷ 0 ∷ 2 ∷ 1 ∷ 7 ∷ []))) ≡ unread ∷ arrived (7 ∷ []) 4 ∷ unread ∷ []
   pub longer_skipped : arrivals_in (2 ∷ 29 ∷ 1 ∷ (replicate 541 6 ++ (0 ∷ 1 ∷ 4 ∷ 7 ∷ []))) ≡ unread ∷ arrived (7 ∷ []) 4 ∷ []
   -- "A line stands for each delivery (lower slot first)": "5 1 3 7 2 9 0" and "5 1 3 7 5 65535 0"
-  pub lowerSlotFirst :
+  pub lower_slot_first :
       arrival_lines toy before (block 3 7 (toy (numbered 0) ∷ []) []) 1 5
       ≡ 53 ∷ 32 ∷ 49 ∷ 32 ∷ 51 ∷ 32 ∷ 55 ∷ 32 ∷ 50 ∷ 32 ∷ 57 ∷ 32 ∷ 48 ∷ 10
       ∷ 53 ∷ 32 ∷ 49 ∷ 32 ∷ 51 ∷ 32 ∷ 55 ∷ 32 ∷ 53 ∷ 32 ∷ 54 ∷ 53 ∷ 53 ∷ 51 ∷ 53 ∷ 32 ∷ 48 ∷ 10
       ∷ []
   -- "and each refused arrival; arrivals count from 0": verdict 0, a length of 533, a block of four bytes, and a cut arrival. "0 - - - - - 5", and 3
   -- for the others
-  pub refusedCounted :
+  pub refused_counted :
       listing toy []
       (four_sites_input
       ++ (0 ∷ 5 ∷ 0 ∷ 0 ∷ 0 ∷ 0 ∷ 0 ∷ 0
@@ -82,7 +82,7 @@ pub record ListingCases : Type 0 where
       ∷ 0 ∷ 5 ∷ 1 ∷ 0 ∷ []))))
       ≡ names_text ++ (short_line 48 53 ++ (short_line 49 51 ++ (short_line 50 51 ++ short_line 51 51)))
   -- 18: a block that requests 1 and 2 in slot 3. "0 - - - - - 18"
-  pub slotTwice :
+  pub slot_twice :
       listing toy [] (four_sites_input ++ (0 ∷ 11 ∷ 1 ∷ 0 ∷ 0 ∷ 0 ∷ 0 ∷ 2 ∷ 3 ∷ 0 ∷ 1 ∷ 3 ∷ 0 ∷ 2 ∷ []))
       ≡ names_text ++ (48 ∷ 32 ∷ 45 ∷ 32 ∷ 45 ∷ 32 ∷ 45 ∷ 32 ∷ 45 ∷ 32 ∷ 45 ∷ 32 ∷ 49 ∷ 56 ∷ 10 ∷ [])
   -- "A setup that is short or unlawful gives, after the names, `- - - - - - 1` and the end": eight bytes; n 3

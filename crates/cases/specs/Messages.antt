@@ -29,13 +29,13 @@ pub record MessageCases : Type 0 where
   -- "the sites below n whose heard entry is v": site 9 is no supporter, so in each row one supporter is missing
   pub echo_one_short : received (having none (heard 42 0) (heard 0 0)) 4 0 Echo 1 42 ≡ having none (heard 42 42) (heard 0 0)
   pub ready_one_short : received (having none (heard 0 0) (heard 0 0)) 4 0 Ready 0 42 ≡ having none (heard 0 0) (heard 42 0)
-  pub deliveryOneShort :
+  pub delivery_one_short :
       received (having (with_ready 42 none) (heard 0 0) (heard 42 0)) 4 0 Ready 1 42 ≡ having (with_ready 42 none) (heard 0 0) (heard 42 42)
   -- beside supporters a READY asks only that "READY isn't sent": here another number is delivered. A delivery asks only that "nothing is delivered":
   -- here another number is
-  pub readyThoughDelivered :
+  pub ready_though_delivered :
       received (having (with_delivered 9 none) (heard 42 42) (heard 0 0)) 4 0 Echo 2 42
       ≡ in_both (with_ready 42) (note_echo 2 42 (having (with_delivered 9 none) (heard 42 42) (heard 0 0)))
-  pub notedThoughDelivered :
+  pub noted_though_delivered :
       received (having (with_delivered 9 (with_ready 8 none)) (heard 42 42) (heard 42 42)) 4 0 Ready 2 42
       ≡ note_ready 2 42 (having (with_delivered 9 (with_ready 8 none)) (heard 42 42) (heard 42 42))

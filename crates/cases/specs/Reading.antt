@@ -48,10 +48,10 @@ pub record ReadingCases : Type 0 where
   -- one number in different slots is no cause
   pub one_number : read (block 0 0 [] (in_slots (7 ∷ 0 ∷ 6 ∷ 3 ∷ 1 ∷ []))) ≡ success 0
   -- 6, 18: a slot again at index 1, and number 0 at index 4, then number 1
-  pub requestFirst :
+  pub request_first :
       (read (block 0 0 [] (in_slots (0 ∷ 0 ∷ 1 ∷ 2 ∷ []) ++ (request 3 0 ∷ []))) ≡ refused 6 4)
       × (read (block 0 0 [] (in_slots (0 ∷ 0 ∷ 1 ∷ 2 ∷ 3 ∷ []))) ≡ refused 18 1)
   -- 18, 7: a reference again at index 1, and a slot again at index 4, then another slot
-  pub slotFirst :
+  pub slot_first :
       (read (block 0 0 (toy first ∷ toy first ∷ []) (in_slots (0 ∷ 1 ∷ 2 ∷ 3 ∷ 0 ∷ []))) ≡ refused 18 4)
       × (read (block 0 0 (toy first ∷ toy first ∷ []) (in_slots (0 ∷ 1 ∷ 2 ∷ 3 ∷ 4 ∷ []))) ≡ refused 7 1)

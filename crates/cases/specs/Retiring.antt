@@ -35,20 +35,20 @@ use Rattle.cases.specs.Joins.{rising}
 -- earlier cause is mended, and it gets the later number. No place of `four` is interpreted.
 pub record RetiringOrderCases : Type 0 where
   -- 2, 12: a buffer that is one number short, with a table that is not in form, then with a table that is
-  pub formBeforeSize :
+  pub form_before_size :
       (site_answers toy (lent unlawful (buffer_size - 1)) (retire ∷ []) ≡ refused 2 0 ∷ [])
       × (site_answers toy (lent fresh (buffer_size - 1)) (retire ∷ []) ≡ refused 12 0 ∷ [])
   -- 2, 13: a table that holds nothing and is not in form, then one that is in form
   pub form_before_place : (answers toy unlawful (retire ∷ []) ≡ refused 2 0 ∷ []) × (answers toy fresh (retire ∷ []) ≡ refused 13 0 ∷ [])
   -- 2, 29: a table that holds four blocks and is not in form, then one that is in form
-  pub formBeforeRetirable :
+  pub form_before_retirable :
       (answers toy (with_mark_at four 0 2) (retire ∷ []) ≡ refused 2 0 ∷ []) × (answers toy four (retire ∷ []) ≡ refused 29 0 ∷ [])
   -- 12, 13: a table that holds nothing, with a buffer that is one number short, then with a whole buffer
-  pub sizeBeforePlace :
+  pub size_before_place :
       (site_answers toy (lent fresh (buffer_size - 1)) (retire ∷ []) ≡ refused 12 0 ∷ [])
       × (site_answers toy (lent fresh buffer_size) (retire ∷ []) ≡ refused 13 0 ∷ [])
   -- 12, 29: a table that holds four blocks, with a buffer of one number too many, then with a whole buffer
-  pub sizeBeforeRetirable :
+  pub size_before_retirable :
       (site_answers toy (lent four (suc buffer_size)) (retire ∷ []) ≡ refused 12 0 ∷ [])
       × (site_answers toy (lent four buffer_size) (retire ∷ []) ≡ refused 29 0 ∷ [])
   -- 13, 29: nothing is held, then four blocks are

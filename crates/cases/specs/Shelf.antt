@@ -83,28 +83,28 @@ pub record PlaceCases : Type 0 where
   pub tenth_beside_twos : takers (sharing 9 2 2 2) ≡ all_of_them
   pub eleventh_beside_twos : takers (sharing 10 2 2 1) ≡ false ∷ false ∷ false ∷ true ∷ []
   -- two other campaigns hold no place and lack 4 together
-  pub othersHoldNone :
+  pub others_hold_none :
       (takers (sharing 5 0 0 6) ≡ all_of_them)
       × (takers (sharing 5 0 0 7) ≡ false ∷ true ∷ true ∷ false ∷ [])
   -- two other campaigns hold 1 place each and lack 2 together
-  pub othersHoldOne :
+  pub others_hold_one :
       (takers (sharing 5 1 1 6) ≡ all_of_them)
       × (takers (sharing 5 1 1 7) ≡ false ∷ true ∷ true ∷ false ∷ [])
   -- all other campaigns hold 2 or more places and lack nothing
-  pub othersHoldTwo :
+  pub others_hold_two :
       (takers (sharing 5 2 2 6) ≡ all_of_them)
       × (takers (sharing 5 2 2 7) ≡ none_of_them)
   -- one other campaign holds no place, one 1, and one more than its 2, which does not make up for what the others lack
-  pub othersMixed :
+  pub others_mixed :
       (takers (sharing 6 0 1 5) ≡ all_of_them)
       × (takers (sharing 6 0 1 6) ≡ false ∷ true ∷ true ∷ false ∷ [])
   -- a campaign's own lack does not count: 2 places are free and campaign 0 lacks 2; then 1 place is free and it lacks 1. It gets a place, as a
   -- campaign that holds fewer than 2 always does on a shelf in form (`covered_two` and `covered_one` say that these are), and the others get none
-  pub ownLack :
+  pub own_lack :
       (takers (sharing 0 2 6 6) ≡ true ∷ false ∷ false ∷ false ∷ [])
       × (takers (sharing 1 2 6 6) ≡ true ∷ false ∷ false ∷ false ∷ [])
   -- campaign 3's own lack does not count for it either
-  pub ownLackOfTheLast :
+  pub own_lack_of_the_last :
       (takers (sharing 6 6 2 0) ≡ false ∷ false ∷ false ∷ true ∷ [])
       × (takers (sharing 6 6 2 1) ≡ false ∷ false ∷ false ∷ true ∷ [])
   -- no place is free
@@ -126,7 +126,7 @@ pub record ShelfBytesCases : Type 0 where
   -- both bytes of a length are written: 532 is 2 * 256 + 20
   pub high_length : entry_bytes (longest for 2) ≡ 2 ∷ 2 ∷ 20 ∷ longest
   -- the count, the entries in the order of arrival, and zeros
-  pub entriesInOrder :
+  pub entries_in_order :
       of_three ≡ 3 ∷ (entry_bytes (lacking_reference 0 for 0) ++ (entry_bytes (lacking_reference 0 for 3) ++ (entry_bytes (longest for 0) ++ replicate (13 * 535) 0)))
   pub nothing_waits : shelf_bytes [] ≡ empty_shelf
   -- what the bytes show

@@ -90,6 +90,6 @@ pub record StarredCases : Type 0 where
       ∷ block 0 1 (toy first ∷ []) (request 0 43 ∷ []) making echoes 42
       ∷ [])
   -- "Sequence 1 without references, or with both forks of sequence 0: 10"
-  pub withoutOneParent :
+  pub without_one_parent :
       (answers toy fresh (good (block 0 1 [] []) ∷ []) ≡ refused 10 0 ∷ [])
       × (answers toy fresh (good first ∷ good fork ∷ good (block 0 1 (toy first ∷ toy fork ∷ []) []) ∷ []) ≡ placed 0 ∷ placed 1 ∷ refused 10 0 ∷ [])

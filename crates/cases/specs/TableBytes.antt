@@ -38,6 +38,6 @@ row_written site mark =
 pub record TableBytesCases : Type 0 where
   pub table_length : table_size ≡ 3851
   -- n, the owners, whether something has been retired, the count, the rows, and zeros
-  pub tableWritten :
+  pub table_written :
       layout seven_owners (record { retired = 1; held = 2; row = written_row })
       ≡ 7 ∷ 6 ∷ 5 ∷ 4 ∷ 3 ∷ 2 ∷ 1 ∷ 0 ∷ 6 ∷ 1 ∷ 2 ∷ (row_written 5 0 ++ (row_written 6 1 ++ replicate 3720 0))

@@ -37,10 +37,10 @@ pub record TakingBackOrderCases : Type 0 where
   -- 2, 32: a table that holds nothing and is not in form, then one that is in form
   pub form_before_held : (answers toy unlawful (take_back ∷ []) ≡ refused 2 0 ∷ []) × (answers toy fresh (take_back ∷ []) ≡ refused 32 0 ∷ [])
   -- 2, 33: the last place is interpreted; what it refers to is not, and then it is
-  pub formBeforeInterpreted :
+  pub form_before_interpreted :
       (answers toy (with_mark_at four 3 1) (take_back ∷ []) ≡ refused 2 0 ∷ []) × (answers toy four_marked (take_back ∷ []) ≡ refused 33 0 ∷ [])
   -- 32, 33: no table in form has both causes, so this row is about the checks on a view
-  pub heldBeforeInterpreted :
+  pub held_before_interpreted :
       (answer_to (taking_back_checks true (marked_view 0)) 0 ≡ refused 32 0) × (answer_to (taking_back_checks true (marked_view 1)) 0 ≡ refused 33 0)
   -- 32: a table that has retired something and holds nothing
   pub retired_empty : answers toy (retired_some fresh) (take_back ∷ []) ≡ refused 32 0 ∷ []

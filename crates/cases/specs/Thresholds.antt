@@ -48,7 +48,7 @@ five_readies = block 6 0 (map (λ p. toy (readying one_to_five p)) one_to_five) 
 
 pub record ThresholdCases : Type 0 where
   -- "n is 1, 4, 7, 10, 13 or 16": whether each n from 0 to 17 is lawful
-  pub siteCounts :
+  pub site_counts :
       list_below lawful_sites 18
       ≡ false ∷ true ∷ false ∷ false ∷ true ∷ false ∷ false ∷ true ∷ false ∷ false ∷ true ∷ false ∷ false ∷ true ∷ false ∷ false ∷ true ∷ false ∷ []
   -- f, 2f + 1 ECHOs, f + 1 READYs and 2f + 1 READYs for each n
