@@ -1,7 +1,7 @@
 -- `lawful` meets its contract: one test after the other. Assumes nothing.
 use mathlib.Core.Path.{◌≡◌, sym, ◌∙◌}
 use mathlib.Core.Bool.{true}
-use borrow.Author.Tests.{eq-eqb, ne_eqb, not-true, not-false}
+use borrow.Author.Tests.{eq-eqb, ne_eqb}
 use Rattle.setup.specs.Setup.{lawful_sites, lawful}
 use Rattle.setup.proofs.lawful.Goals as goal
 use Rattle.setup.proofs.lawful.Goals.{Else-not-lawful_sites}

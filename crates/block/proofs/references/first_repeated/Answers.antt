@@ -1,7 +1,7 @@
 use native.Mathlib.Omega.{arith}
 use mathlib.Core.Path.{◌≡◌, sym}
 use mathlib.Core.Bool.{true, false}
-use Prim.Native.Nat.{ℕ, ◌≤◌, ◌<◌, ◌-◌, ◌/◌}
+use Prim.Native.Nat.{ℕ, ◌≤◌, ◌<◌, ◌/◌}
 use lib.ListN.{length}
 use borrow.Author.Rules.{rules}
 use Rattle.base.specs.Bytes.{Bytes}

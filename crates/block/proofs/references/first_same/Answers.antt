@@ -1,6 +1,5 @@
 use native.Mathlib.Omega.{arith}
 use mathlib.Core.Path.{sym, ap, ◌∙◌}
-use Prim.Native.Nat.{◌-◌}
 use borrow.Author.Rules.{rules}
 use Rattle.base.specs.Bytes.{Bytes, same_bytes}
 use Rattle.base.proofs.Search.{first_none, first_past, first_hit, first_end}

@@ -1,9 +1,7 @@
 use mathlib.Core.Path.{sym, ◌∙◌}
-use Prim.Native.Nat.{◌-◌}
 use native.Mathlib.Omega.{arith}
 use Rattle.base.proofs.Search.{first_none, first_past, first_hit, first_end}
 use Rattle.table.proofs.InForm.{table_form}
-use Rattle.join.specs.Join.{clash_at}
 use Rattle.join.proofs.clash.first_clash.Goals as goal
 
 pub loop-i-init : goal.loop-i-init

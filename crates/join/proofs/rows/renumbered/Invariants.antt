@@ -1,5 +1,4 @@
 -- `renumbered` meets its contract. The loop's invariant: the mask has where the references passed stand. Assumes nothing.
-use Prim.Native.Nat.{◌-◌}
 use Rattle.join.specs.Steps.{EachPlaced}
 use Rattle.join.proofs.Turns.{Marking}
 use Rattle.join.proofs.rows.renumbered.Given as goal

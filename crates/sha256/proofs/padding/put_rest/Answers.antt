@@ -5,7 +5,7 @@ use Prim.Native.Nat.{ℕ, suc, ◌+◌, ◌-◌, ◌<◌, ◌≤◌}
 use mathlib.Core.Path.{◌≡◌, refl, ap, sym, ◌∙◌}
 use mathlib.Core.List.{List, ◌∷◌, ◌++◌}
 use lib.ListN.{length, take, drop, set, length-take, length-drop, length-replicate, replicate-append-replicate}
-use lib.Seq.{take-length, take_all, drop_at, set_at}
+use lib.Seq.{take_all, drop_at, set_at}
 use Rattle.base.specs.Bytes.{splice}
 use Rattle.sha256.proofs.PaddedMessage.{zs}
 use Rattle.sha256.proofs.padding.put_rest.Goals as goal

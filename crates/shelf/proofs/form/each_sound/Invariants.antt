@@ -1,7 +1,7 @@
 -- `each_sound` meets its contract. The loop's invariant: the entries passed are sound, and their blocks lie in them. Assumes nothing.
 use mathlib.Core.Path.{◌≡◌}
 use mathlib.Core.Bool.{true}
-use Prim.Native.Nat.{◌≤◌, ◌-◌}
+use Prim.Native.Nat.{◌≤◌}
 use lib.ListN.{drop}
 use Rattle.shelf.specs.Layout.{waiting_count, waiting_in}
 use Rattle.shelf.specs.Rules.{each_sound}

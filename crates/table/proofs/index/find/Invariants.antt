@@ -1,7 +1,7 @@
 -- `find` meets its contract. The loop's invariant: no place from j on holds the digest. Assumes nothing.
 use mathlib.Core.Path.{◌≡◌}
 use mathlib.Core.Bool.{false}
-use Prim.Native.Nat.{ℕ, ◌-◌, ◌≤◌, ◌<◌}
+use Prim.Native.Nat.{ℕ, ◌≤◌, ◌<◌}
 use Rattle.base.specs.Bytes.{Bytes}
 use Rattle.table.specs.Layout.{count_of, view_of}
 use Rattle.table.specs.Rules.{has_digest}

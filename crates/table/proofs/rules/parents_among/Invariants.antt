@@ -1,7 +1,7 @@
 -- `parents_among` meets its contract. The loop's invariant: `count` and what is still to be counted, among the references left, make what is
 -- to be counted. Assumes nothing.
 use mathlib.Core.Path.{◌≡◌}
-use Prim.Native.Nat.{◌-◌, ◌+◌}
+use Prim.Native.Nat.{◌+◌}
 use Rattle.table.specs.Layout.{view_of}
 use Rattle.table.specs.Rules.{parents}
 use Rattle.table.specs.Steps.{Places, row_of}

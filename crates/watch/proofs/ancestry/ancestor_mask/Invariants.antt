@@ -1,7 +1,7 @@
 -- `ancestor_mask` meets its contract. It counts down; the loop's invariant: what is left to gather from `mask` on is what is gathered from the
 -- place's own references on. Assumes nothing.
 use mathlib.Core.Path.{◌≡◌}
-use Prim.Native.Nat.{◌≤◌, ◌-◌}
+use Prim.Native.Nat.{◌≤◌}
 use Rattle.table.specs.Layout.{references_at}
 use Rattle.table.specs.Steps.{Place}
 use Rattle.watch.specs.Steps.{gathered}
