@@ -6,7 +6,7 @@
 
 ghost use Rattle.std.specs.Prelude.{◌≡◌};
 ghost use Rattle.answer.specs.Buffer.{put_answer};
-ghost use Rattle.answer.specs.Checks.{success as Checks·success, refused as Checks·refused};
+ghost use Rattle.answer.specs.Checks.{success, refused};
 
 // A refusal's number, 0 for none, and the value that goes with it.
 #[repr(C)]
@@ -18,14 +18,14 @@ pub struct Answer {
 
 // The answer of a call that is not refused.
 pub fn success(value: usize) -> Answer
-    ensures { result ≡ Checks·success value }
+    ensures { result ≡ success value }
 {
     Answer { refusal: 0, value }
 }
 
 // The answer of a call that is refused with this number.
 pub fn refused(number: u8, value: usize) -> Answer
-    ensures { result ≡ Checks·refused number value }
+    ensures { result ≡ refused number value }
 {
     Answer {
         refusal: number,

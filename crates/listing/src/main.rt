@@ -7,12 +7,12 @@
 
 #![tactic(auto)]
 
-ghost use Rattle.std.specs.Prelude.{◌≡◌, true, false, [], ◌+◌, ◌≤◌, ◌<◌, length, length as ListN·length, take, drop};
+ghost use Rattle.std.specs.Prelude.{◌≡◌, true, false, [], ◌+◌, ◌≤◌, ◌<◌, length, length as list_length, take, drop};
 ghost use Rattle.std.specs.Io.KnownBytes.{Appends, Consumes, IsAtEnd};
 ghost use Rattle.base.specs.Bytes.{Bytes, splice};
 ghost use Rattle.sha256.specs.Sha256.{sha256};
-ghost use Rattle.report.specs.Framing.{piece_size, wanted as Framing·wanted, lines_size};
-ghost use Rattle.report.specs.Gathering.{progress, turn as Gathering·turn};
+ghost use Rattle.report.specs.Framing.{piece_size, wanted as bytes_wanted, lines_size};
+ghost use Rattle.report.specs.Gathering.{progress, turn as gathering_turn};
 
 use records::BUFFER_SIZE;
 use report::ListingState;
@@ -149,8 +149,8 @@ fn write_and_read<R: Read, W: Write, E: Write>(
     output: &[u8],
     length: usize,
 ) -> ProgramState
-    requires { (count ≤ ListN·length input.old) × (piece_size ≤ ListN·length input.old) × (length ≤ ListN·length output.now) }
-    ensures state_value { (result.state ≡ state) × (count ≤ result.count) × (result.count ≤ ListN·length input.new) × (result.is_ended ≡ true → result.count ≡ count) × (is_ended ≡ true → result.is_ended ≡ true) × (Framing·wanted state ≤ count → result.count ≡ count) }
+    requires { (count ≤ list_length input.old) × (piece_size ≤ list_length input.old) × (length ≤ list_length output.now) }
+    ensures state_value { (result.state ≡ state) × (count ≤ result.count) × (result.count ≤ list_length input.new) × (result.is_ended ≡ true → result.count ≡ count) × (is_ended ≡ true → result.is_ended ≡ true) × (bytes_wanted state ≤ count → result.count ≡ count) }
     ensures input_unchanged { take count input.new ≡ take count input.old }
     ensures bytes_read { Consumes (R.remaining streams.old.stdin) (R.remaining streams.new.stdin) (drop count (take result.count input.new)) }
     ensures bytes_written { result.is_done ≡ false → Appends (W.contents streams.old.stdout) (W.contents streams.new.stdout) (take length output.now) }
@@ -193,7 +193,7 @@ fn turn<R: Read, W: Write, E: Write>(
     output: &mut [u8],
 ) -> ProgramState
     requires { (before.count ≤ length input.old) × (piece_size ≤ length input.old) × (lines_size ≤ length output.old) }
-    ensures lines_after { (came : Bytes) × (lines : Bytes) × (progress result.state table.new records.new (take result.count input.new) lines ≡ Gathering·turn sha256 (length output.old) before.is_ended (progress before.state table.old records.old (take before.count input.old) []) came) × (output.new ≡ splice output.old 0 lines) × (result.is_ended ≡ true → came ≡ []) × (Framing·wanted result.state + length came ≤ result.count → came ≡ []) × Consumes (R.remaining streams.old.stdin) (R.remaining streams.new.stdin) came × (result.is_done ≡ false → Appends (W.contents streams.old.stdout) (W.contents streams.new.stdout) lines) }
+    ensures lines_after { (came : Bytes) × (lines : Bytes) × (progress result.state table.new records.new (take result.count input.new) lines ≡ gathering_turn sha256 (length output.old) before.is_ended (progress before.state table.old records.old (take before.count input.old) []) came) × (output.new ≡ splice output.old 0 lines) × (result.is_ended ≡ true → came ≡ []) × (bytes_wanted result.state + length came ≤ result.count → came ≡ []) × Consumes (R.remaining streams.old.stdin) (R.remaining streams.new.stdin) came × (result.is_done ≡ false → Appends (W.contents streams.old.stdout) (W.contents streams.new.stdout) lines) }
     ensures count_in_bounds { (result.count ≤ length input.new) × (before.is_ended ≡ true → result.is_ended ≡ true) }
 {
     let state = before.state;

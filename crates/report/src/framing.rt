@@ -3,7 +3,7 @@ ghost use Rattle.std.specs.Prelude.{◌≡◌, [], ◌<◌};
 ghost use Rattle.sha256.specs.Sha256.{sha256};
 ghost use Rattle.table.specs.Fresh.{fresh_in};
 ghost use Rattle.report.specs.Arrivals.{setup_in};
-ghost use Rattle.report.specs.Framing.{following as Framing·following, lines_of, setup_step, length_step, skip_step, block_step, site_by, handed};
+ghost use Rattle.report.specs.Framing.{following, lines_of, setup_step, length_step, skip_step, block_step, site_by, handed};
 ghost use Rattle.report.specs.declared.Expected.TheVariants.{Block};
 
 use crate::{
@@ -14,7 +14,7 @@ use block::MAX_BLOCK_SIZE;
 
 // The number of the arrival after this one; after the greatest number of 64 bits it is 0.
 fn following(arrivals: u64) -> u64
-    ensures { result ≡ Framing·following arrivals }
+    ensures { result ≡ following arrivals }
 {
     if arrivals == u64::MAX {
         return 0;

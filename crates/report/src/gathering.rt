@@ -3,7 +3,7 @@ ghost use Rattle.std.specs.Prelude.{◌≡◌, ◌+◌, ◌-◌, ◌≤◌, min,
 ghost use Rattle.base.specs.Bytes.{splice};
 ghost use Rattle.sha256.specs.Sha256.{sha256};
 ghost use Rattle.report.specs.Framing.{lines_size};
-ghost use Rattle.report.specs.Gathering.{lent_site, is_due, outcome_at, site_stepped_at, gathering as Gathering·gathering, gathered_of};
+ghost use Rattle.report.specs.Gathering.{lent_site, is_due, outcome_at, site_stepped_at, gathering, gathered_of};
 ghost use Rattle.report.specs.Steps.{advanced};
 
 use crate::{Gathered, LINES_SIZE, ListingState};
@@ -79,10 +79,10 @@ pub fn gather(
     is_ended: bool,
     output: &mut [u8],
 ) -> Gathered
-    ensures value { result ≡ gathered_of (Gathering·gathering sha256 unread.now is_ended (length output.old) state (lent_site table.old records.old)) }
-    ensures table_after { table.new ≡ (Gathering·gathering sha256 unread.now is_ended (length output.old) state (lent_site table.old records.old)).site.table }
-    ensures records_after { records.new ≡ (Gathering·gathering sha256 unread.now is_ended (length output.old) state (lent_site table.old records.old)).site.records }
-    ensures output_after { output.new ≡ splice output.old 0 (Gathering·gathering sha256 unread.now is_ended (length output.old) state (lent_site table.old records.old)).lines }
+    ensures value { result ≡ gathered_of (gathering sha256 unread.now is_ended (length output.old) state (lent_site table.old records.old)) }
+    ensures table_after { table.new ≡ (gathering sha256 unread.now is_ended (length output.old) state (lent_site table.old records.old)).site.table }
+    ensures records_after { records.new ≡ (gathering sha256 unread.now is_ended (length output.old) state (lent_site table.old records.old)).site.records }
+    ensures output_after { output.new ≡ splice output.old 0 (gathering sha256 unread.now is_ended (length output.old) state (lent_site table.old records.old)).lines }
 {
     let mut done = Gathered {
         state,

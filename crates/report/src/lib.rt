@@ -14,7 +14,7 @@ mod text;
 
 ghost use Rattle.std.specs.Prelude.{◌≡◌, ◌≤◌};
 ghost use Rattle.sha256.specs.Sha256.{sha256};
-ghost use Rattle.report.specs.Framing.{piece_size, wanted as Framing·wanted, start as Framing·start, stepped, site_stepped, handed};
+ghost use Rattle.report.specs.Framing.{piece_size, wanted, start, stepped, site_stepped, handed};
 
 use block::MAX_BLOCK_SIZE;
 pub use gathering::gather;
@@ -99,7 +99,7 @@ pub struct Gathered {
 
 // The state before the first byte.
 pub fn start() -> ListingState
-    ensures { result ≡ Framing·start }
+    ensures { result ≡ start }
 {
     ListingState {
         expected: Expected::Setup,
@@ -109,7 +109,7 @@ pub fn start() -> ListingState
 
 // How many bytes of the input the next step gets; fewer mean that the input is at its end.
 pub fn wanted(state: ListingState) -> usize
-    ensures { (result ≡ Framing·wanted state) × (result ≤ piece_size) }
+    ensures { (result ≡ wanted state) × (result ≤ piece_size) }
 {
     let expected = state.expected;
     match expected {

@@ -2,7 +2,7 @@
 // ends.
 ghost use Rattle.std.specs.Prelude.{◌≡◌, [], ◌∷◌, ◌++◌, ◌+◌, ◌≤◌, length, drop};
 ghost use Rattle.base.specs.Bytes.{splice};
-ghost use Rattle.report.specs.Text.{decimal, field_text, ending as Text·ending, line, refusal_line, refused_line, setup_line, names as Text·names};
+ghost use Rattle.report.specs.Text.{decimal, field_text, ending, line, refusal_line, refused_line, setup_line, names};
 ghost use Rattle.report.specs.Framing.{max_digits, field_size, line_size, lines_of};
 
 use crate::{FIELDS, Field, LINES_SIZE, Lines, MAX_DIGITS};
@@ -72,7 +72,7 @@ fn put_field(out: &mut [u8], at: usize, field: Field, ending: u8) -> usize
 
 // The byte that ends field i: a space, or a line feed after the last field.
 fn ending(i: usize) -> u8
-    ensures { result ≡ Text·ending i }
+    ensures { result ≡ ending i }
 {
     if i == FIELDS - 1 {
         return 10;
@@ -117,8 +117,8 @@ fn put_refusal(out: &mut [u8], at: usize, what: Field, refusal: u8) -> usize
 // Puts the line of names at the front.
 fn put_names(out: &mut [u8]) -> usize
     requires { line_size ≤ length out.old }
-    ensures value { (result ≡ length Text·names) × (result ≤ line_size) }
-    ensures out_after { out.new ≡ splice out.old 0 Text·names }
+    ensures value { (result ≡ length names) × (result ≤ line_size) }
+    ensures out_after { out.new ≡ splice out.old 0 names }
 {
     let text = b"arrival place site seq slot number refusal\n";
     base::put(out, 0, text);
@@ -146,7 +146,7 @@ pub fn refused(arrival: u64, refusal: u8) -> Lines
 
 // The line of names.
 pub fn names() -> Lines
-    ensures { result ≡ lines_of Text·names }
+    ensures { result ≡ lines_of names }
 {
     let mut bytes = [0u8; LINES_SIZE];
     let length = put_names(&mut bytes);
@@ -155,7 +155,7 @@ pub fn names() -> Lines
 
 // The line of names, and the line of a refused setup.
 pub fn names_and_refusal(refusal: u8) -> Lines
-    ensures { result ≡ lines_of (Text·names ++ setup_line refusal) }
+    ensures { result ≡ lines_of (names ++ setup_line refusal) }
 {
     let mut bytes = [0u8; LINES_SIZE];
     let end = put_names(&mut bytes);
