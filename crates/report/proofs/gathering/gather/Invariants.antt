@@ -1,6 +1,5 @@
 -- `gather` meets its contract: each turn makes the step that is due. Assumes nothing.
 use mathlib.Core.Path.{◌≡◌}
-use Prim.Native.Nat.{◌-◌}
 use lib.ListN.{length}
 use Rattle.report.specs.Gathering.{lent_site}
 use Rattle.report.proofs.Termination.{work}

@@ -1,9 +1,7 @@
 -- `is_due` meets its contract, one way out after the other. Assumes nothing.
 use mathlib.Core.Path.{sym}
-use mathlib.Core.Logic.{⊎_elim}
 use Prim.Native.Nat.{◌-◌, ◌<◌}
 use native.Mathlib.Omega.{arith}
-use borrow.Author.Tests.{not-false}
 use Rattle.report.specs.Framing.{wanted}
 use Rattle.report.proofs.DueStep.{nothing_wanted, bytes_there, bytes_missing, none_to_come}
 use Rattle.report.proofs.gathering.is_due.Goals as goal

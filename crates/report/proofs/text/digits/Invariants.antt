@@ -1,7 +1,7 @@
 -- `digits` meets its contract: what is left before the digits that stand already is what the rest has. Assumes nothing.
 use mathlib.Core.Path.{◌≡◌}
 use mathlib.Core.List.{◌++◌}
-use Prim.Native.Nat.{◌+◌, ◌-◌, ◌≤◌, ◌<◌}
+use Prim.Native.Nat.{◌≤◌, ◌<◌}
 use lib.ListN.{length, drop}
 use Rattle.report.specs.Text.{decimal}
 use Rattle.report.proofs.Decimal.{leading}

@@ -1,10 +1,10 @@
 use mathlib.Core.Path.{◌≡◌, refl, subst}
-use Prim.Native.Nat.{ℕ, ◌+◌, ◌-◌}
+use Prim.Native.Nat.{ℕ, ◌+◌}
 use native.Mathlib.Omega.{arith}
 use Rattle.base.specs.Bytes.{concat}
 use Rattle.base.specs.List.{list_below}
 use Rattle.base.proofs.Parts.{concat_list_more}
-use Rattle.report.specs.Text.{field_count, ending, line}
+use Rattle.report.specs.Text.{field_count, line}
 use Rattle.report.proofs.Appending.{Put, put_nothing, put_behind, put_keeps}
 use Rattle.report.proofs.text.put_line.Invariants.{field_in, first_fields}
 use Rattle.report.proofs.text.put_line.Goals as goal
