@@ -3,7 +3,7 @@
 #
 #   layout          tools/layout.sh: of Rattle, and of C, Rust and shell where their commands are on the machine
 #   proofs          rt ci: every proof, every must-fail edit, every program with stored output
-#   must-fail logs  each edit was refused by a fact that no longer holds
+#   must-fail edits each was refused, by a fact that no longer holds
 #   host            the libraries for C, the test programs and the harness are built, and host/tests/run.py passes
 #   memory          what the core's calls take fits the device
 #
@@ -67,7 +67,7 @@ build() { env -u MAKEFLAGS -u MFLAGS make --no-print-directory "$@"; }
 
 check 'layout' tools/layout.sh
 check_counted 'proofs' rt ci
-check 'must-fail logs' tools/must_fail_logs.sh
+check 'must-fail edits' tools/must_fail.sh "$output"
 printf '\n== host programs\n'
 if build test-programs; then
     check_counted 'host tests' python3 host/tests/run.py
