@@ -6,6 +6,7 @@
 """
 
 import hashlib
+import re
 import sys
 import textwrap
 from html import escape
@@ -175,7 +176,6 @@ def arrow(points):
 
 # ---- Layers
 
-KIT = {"bytes", "io", "libc"}
 # What each crate is, and the column in which it stands: chosen so that few arrows cross.
 CRATES = {
     "base": (1.375, "numbers, bytes, masks, searches"),
@@ -221,9 +221,10 @@ TURN = "matrix(0 1 1 0 0 0)"  # exchanges x and y
 
 
 def read_crates(listed):
-    """What each crate uses, the kit's libraries left out."""
-    lines = [line.split(":") for line in listed.splitlines() if line and not line.startswith("#")]
-    uses = {name: [used for used in others.split() if used not in KIT] for name, others in lines}
+    """What each crate uses, the kit's libraries left out: these have no line of their own."""
+    lines = re.findall(r"^(\w+)(?: staticlib)?:(.*)$", listed, re.MULTILINE)
+    names = [name for name, _ in lines]
+    uses = {name: [used for used in others.split() if used in names] for name, others in lines}
     if set(uses) != set(CRATES):
         raise ValueError(f"crates.txt and the table in docs/pictures.py differ in {sorted(set(uses) ^ set(CRATES))}")
     return uses

@@ -17,7 +17,7 @@ ROOT = Path(__file__).resolve().parents[1]
 
 SENTENCES = [
     ("README.md",
-     "rt: ok, {crates} crates proved, {edits} must-fail edits refused\n"
+     "rt: ok; handles allowed: none; must-fail edits: {edits} refused; every proof and must-fail edit was done in this run\n"
      "{of_proofs} passed, 0 failed\n{of_tests} passed, 0 failed\n{of_all} passed, 0 failed\n"),
     ("README.md",
      "| slots, each with an owner | {slots} |\n"

@@ -30,7 +30,7 @@ def counts(crate):
 
 def table():
     """A row for each crate, in the order of crates.txt, and their sum."""
-    names = re.findall(r"^(\w+):", (ROOT / "crates.txt").read_text(encoding="utf-8"), re.MULTILINE)
+    names = re.findall(r"^(\w+)(?: staticlib)?:", (ROOT / "crates.txt").read_text(encoding="utf-8"), re.MULTILINE)
     rows = [(name, counts(CRATES / name)) for name in names]
     return [*rows, ("sum", [sum(column) for column in zip(*(row for _, row in rows))])]
 

@@ -26,7 +26,8 @@ def in_sight_of_others(crate):
 
 
 def functions_of(path):
-    """The functions of a file in their order. A contract's clauses stand on lines of their own, below the function's name."""
+    """The functions of a file in their order. A contract's clauses stand on lines of their own, below the function's name, and may have names
+    themselves."""
     files, handed_on = in_sight_of_others(path.parents[1])
     found = []
     for line in path.read_text(encoding="utf-8").splitlines():
@@ -35,7 +36,7 @@ def functions_of(path):
             words, name = begun.groups()
             is_public = "pub " in words and (path.name in files or name in handed_on)
             found.append(Function(path.parents[1].name, path.name, name, is_public, "extern" in words, False))
-        elif re.match(r"\s+requires \{", line):
+        elif re.match(r"\s+requires (\* )?(\w+ )?\{", line):
             found[-1] = found[-1]._replace(asks=True)
     return found
 

@@ -336,7 +336,7 @@ static void check_traps(void)
     check("a second SEND brings no second ECHO", goes(of_sites(4, OF(echo_once))));
 }
 
-/* ---- ArrivalCases, but the thirteen blocks of `allFull`, which crates/vectors runs */
+/* ---- ArrivalCases, but the thirteen blocks of `all_full`, which crates/vectors runs */
 
 /* clang-format off */
 

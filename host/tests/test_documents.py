@@ -59,8 +59,8 @@ def test_every_name_of_the_trace_exists():
 
 def test_a_wrong_name_in_the_trace_is_found():
     page = trace_page.TRACE.read_text(encoding="utf-8")
-    for right, wrong in [("`five_sites`", "`six_sites`"), ("`fiveSites`", "`sixSites`"), ("`core_calls.c`", "`care_calls.c`"),
-                         ("`setup/specs/Setup.antt`", "`setup/specs/Setups.antt`"), ("`ownersBelow`", "`ownersAbove`"),
+    for right, wrong in [("`any_owners`", "`all_owners`"), ("`owner_four`", "`owner_five`"), ("`core_calls.c`", "`care_calls.c`"),
+                         ("`setup/specs/Setup.antt`", "`setup/specs/Setups.antt`"), ("`owners_below`", "`owners_above`"),
                          ("`setup::lawful`", "`setup::lawless`"), ("`StarredCases`", "`Starred`"), ("`rest`", "`remainder`")]:
         expect(right in page, right)
         unknown = trace_page.unknown(page.replace(right, wrong))

@@ -52,7 +52,7 @@ pub record FreshCauses (s : Setup) : Type 0 where
   pub zeros : (fresh_table s).refusal ≡ 1 → (fresh_table s).table ≡ replicate table_size 0
   pub shown : (fresh_table s).refusal ≡ 0 → Empty s (fresh_table s).table
 
--- what `fresh_in_lem` answers for a setup and a lent buffer, and what it leaves
+-- what `fresh_in` answers for a setup and a lent buffer, and what it leaves
 pub record FreshInCauses (s : Setup) (t : Bytes) : Type 0 where
   pub one : ((fresh_answer s t).refusal ≡ 1) ↔ (lawful s ≡ false)
   pub two : ((fresh_answer s t).refusal ≡ 2) ↔ ((lawful s ≡ true) × (length t ≢ table_size))

@@ -1,4 +1,4 @@
--- `fresh_in_lem` meets its contract: one law for each way out. Assumes nothing.
+-- `fresh_in` meets its contract: one law for each way out. Assumes nothing.
 use mathlib.Core.Path.{◌≡◌, sym, ap, ◌∙◌}
 use mathlib.Core.Bool.{true, false}
 use mathlib.Core.Logic.{◌≢◌}

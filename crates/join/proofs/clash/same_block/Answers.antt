@@ -1,4 +1,4 @@
--- `same_block_lem` meets its contract: one law for each way out. Assumes nothing.
+-- `same_block` meets its contract: one law for each way out. Assumes nothing.
 use mathlib.Core.Path.{◌≡◌, sym, ap₂, ◌∙◌}
 use mathlib.Core.Bool.{true}
 use Prim.Native.Nat.{ℕ, ◌^◌, ◌<◌}
