@@ -11,10 +11,10 @@ use Rattle.cases.proofs.Computing.{opened_ledger, opened_table}
 use Rattle.cases.proofs.Full.{parent_before_full}
 
 -- a table of three sites, which no ledger has
-form-before-shape :
+form_before_shape :
     (answers toy unlawful (good (0 ∷ 0 ∷ 0 ∷ 0 ∷ []) ∷ []) ≡ refused 2 0 ∷ []) × (answers toy fresh (good (0 ∷ 0 ∷ 0 ∷ 0 ∷ []) ∷ []) ≡ refused 3 0 ∷ [])
 unfolding opened_table
-form-before-shape = (refl, refl)
+form_before_shape = (refl, refl)
 
 filling : table_after toy fresh (good (numbered 0) ∷ good (numbered 1) ∷ []) ≡ holding 2
 unfolding opened_table
@@ -24,7 +24,7 @@ pub order : OrderCases
 unfolding opened_ledger
 order =
     record {
-      form_before_shape = form-before-shape;
+      form_before_shape = form_before_shape;
       shape_before_site = site_answers_lem (sites 4) refl _ _ refl;
       site_before_verdict = site_answers_lem (sites 4) refl _ _ refl;
       verdict_before_request = site_answers_lem (sites 4) refl _ _ refl;

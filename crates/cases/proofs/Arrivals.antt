@@ -52,10 +52,10 @@ after_leaves = rw after_at
 full_table : arrives (holding 64) [] 0 (lacking_reference 0) 1 ≡ leaving (lacks 0) (holding 64) (lacking_reference 0 for 0 ∷ []) []
 full_table = waits_alone (holding 64) (lacking_reference 0) (answer_is (holding 64) (lacking_reference 0) full_formed ∙ lacking_at)
 
-dropped-by-11 :
+dropped_by_11 :
     arrives (holding 63) (after_last for 0 ∷ []) 0 (numbered 63) 1
     ≡ leaving (placed 63) (holding 64) [] (after_last getting refused 11 0 ∷ [])
-dropped-by-11 = is_dropped (holding 63) (holding 64) (numbered 63) after_last last_placed last_leaves
+dropped_by_11 = is_dropped (holding 63) (holding 64) (numbered 63) after_last last_placed last_leaves
     (answer_is (holding 64) after_last full_formed ∙ after_at) (table_is (holding 64) after_last full_formed ∙ after_leaves)
 
 -- ---- the cases
@@ -109,7 +109,7 @@ passing =
       mixed_passes = refl;
       dropped_by8 = refl;
       dropped_by10 = refl;
-      dropped_by11 = dropped-by-11;
+      dropped_by11 = dropped_by_11;
       dropped_by4 = refl;
       other_campaigns = refl;
       after_refusal = refl;

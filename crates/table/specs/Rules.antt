@@ -15,10 +15,10 @@ has_digest v d i = same_bytes (v.row i).digest d
 abbrev pub place_of : View → ℕ → Bytes → ℕ
 place_of v k d = first_below (has_digest v d) k
 
--- a block of `thatSite` and `thatSequence` is a parent for a block of `site` and `sequence`: it is "of its own site with the sequence number one
+-- a block of `that_site` and `that_sequence` is a parent for a block of `site` and `sequence`: it is "of its own site with the sequence number one
 -- less"
 abbrev pub is_parent : ℕ → ℕ → ℕ → ℕ → Bool
-is_parent site sequence thatSite thatSequence = eqb thatSite site && eqb (thatSequence + 1) sequence
+is_parent site sequence that_site that_sequence = eqb that_site site && eqb (that_sequence + 1) sequence
 
 -- the block of row q is a parent for the block of row r
 abbrev pub parent_row : Row → Row → Bool
