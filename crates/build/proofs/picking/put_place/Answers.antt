@@ -12,11 +12,11 @@ pub put-requires : goal.put-requires
 put-requires c =
     let size : length c.digest_at.result.now ≡ reference_size =
     ap length c.digest_at.ensures ∙ digest_size c.args.table.now c.requires.0.size c.args.i c.requires.0.place in
-    omega (arith, c.requires.1.size, c.if-count-ge-MAX_REFERENCES.false)
+    omega (arith, c.requires.1.size)
 
 pub returns : goal.returns
 returns c = let a = c.args in
-    let one = put_one a.table.now a.i a.count a.list.now c.if-count-ge-MAX_REFERENCES.false in
+    let one = put_one a.table.now a.i a.count a.list.now (omega arith) in
     record {
       value = one.0;
       list_after = c.put.ensures ∙ ap (splice a.list.now (reference_size * a.count)) c.digest_at.ensures ∙ one.1;
