@@ -118,7 +118,7 @@ harness: prerequisites $(LIBRARY)
 figures: prerequisites
 	python3 -B tools/figures.py
 
-# Removes all that was built; the next proof starts from nothing.
+# Removes all that was built here. What rt ci has proved is kept beside the kit, by the checksums of what it read.
 clean:
 	rm -rf target crates/*/out
 
