@@ -47,8 +47,8 @@ DESTDIR ?=
 
 CRATES := $(shell sed -n 's/^\([a-z0-9_]*\)\( staticlib\)\{0,1\}:.*/\1/p' crates.txt)
 
-# All that the library and the listing are proved and built from. Folders are among it, so that a removed file counts as a change.
-LIBRARY_SOURCES := $(shell find crates.txt crates -mindepth 1 \( -name must-fail -o -name out \) -prune -o -print)
+# All that the library and the listing are proved and built from. Folders of sources are among it, so that a removed file counts as a change.
+LIBRARY_SOURCES := crates.txt $(shell find crates -mindepth 2 \( -name must-fail -o -name out \) -prune -o -print)
 
 .PHONY: demo check test bench memory fuzz host install uninstall test-programs harness figures prerequisites clean
 .DELETE_ON_ERROR:
