@@ -1,15 +1,14 @@
 #!/usr/bin/env python3
 """Brings the repository's own names in antt to one spelling: definitions, lemmas, fields and bound names in snake case; types, facts and modules keep
 their capital. It goes by text: of a name that the files of crates/ declare, every use in specs/, proofs/, contracts and must-fail edits is turned, but
-for names that a file imports from a library, names of Rattle's code, and text in quotes.
+for names that a file imports from a library, names of Rattle's code, and text in quotes. It is for the text as the kit's port.py leaves it (docs/PORT.md),
+whose proofs are walks; it refuses today's, in which names of Rattle's goals stand.
 
 usage: python3 tools/respell.py            at the top: turns all files below crates/ in place
        python3 tools/respell.py --names    prints each old name and its new one, a tab between, and writes nothing
-       python3 tools/respell.py FILE..     turns names in backticks in these pages
 """
 
 import collections
-import glob
 import os
 import re
 import sys
@@ -160,20 +159,14 @@ def turn(text, spelled, lemmas, kept, fields, in_code):
 
 
 def main():
+    if any(os.path.basename(path) == "Answers.antt" for path in files(".antt")):
+        sys.exit("respell.py: the proofs below crates/ are answers to goals, so the names were turned before")
     own, spelled, lemmas, fields, together = mapping()
     if sys.argv[1:] == ["--names"]:
         for n, new in sorted({**spelled, **lemmas}.items()):
             print(n + "\t" + new)
         for new, olds in sorted(together.items()):
             print("together\t" + new + "\t" + " ".join(sorted(olds)), file=sys.stderr)
-        return
-    if sys.argv[1:]:
-        for path in sys.argv[1:]:
-            text = read(path)
-            new = re.sub(r"`[^`\n]*`", lambda m: TOKEN.sub(lambda t: spelled.get(t.group(0), t.group(0)), m.group(0)), text)
-            if new != text:
-                with open(path, "w", encoding="utf-8") as f:
-                    f.write(new)
         return
     for path in list(files(".antt", ".rt", ".edit")):
         text = read(path)
