@@ -22,7 +22,7 @@ extern "C" {
 
 /* The version. A program that was written for a lower second number goes on working, but for what CHANGELOG.md says. */
 #define GT_VERSION_MAJOR 1
-#define GT_VERSION_MINOR 12
+#define GT_VERSION_MINOR 13
 
 /* Bytes of a digest, and so of a reference. */
 #define GT_DIGEST_BYTES 32

@@ -31,7 +31,7 @@ def functions_of(path):
     files, handed_on = in_sight_of_others(path.parents[1])
     found = []
     for line in path.read_text(encoding="utf-8").splitlines():
-        begun = re.match(r'\s*((?:pub |extern "C" )*)fn (\w+)', line)
+        begun = re.match(r'\s*((?:pub(?:\(crate\))? |extern "C" )*)fn (\w+)', line)
         if begun:
             words, name = begun.groups()
             is_public = "pub " in words and (path.name in files or name in handed_on)

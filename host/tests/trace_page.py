@@ -50,13 +50,20 @@ def parts(page):
 # ---- The sources
 
 # The words that may stand before a name where it is declared.
-DECLARING = r'(?:(?:pub|abbrev|unfoldable|record|data|const|fn|extern "C") +)*'
+DECLARING = r'(?:(?:pub|pub\(crate\)|abbrev|unfoldable|record|data|const|struct|enum|fn|extern "C") +)*'
 
 
 @lru_cache(maxsize=None)
 def declared(path):
     """The functions, definitions, records and fields that a source declares, and further words at the beginnings of its lines."""
     return set(re.findall(rf"^\s*{DECLARING}([\w·'-]+)(?=[\s:(<])", path.read_text(encoding="utf-8"), re.MULTILINE))
+
+
+@lru_cache(maxsize=None)
+def owners(path):
+    """What a function of a source may stand behind: its module, its crate, and the types whose methods the source has."""
+    types = re.findall(r"^impl(?:<[^{]*?>)? (?:[^{]+ for )?(\w+)", path.read_text(encoding="utf-8"), re.MULTILINE)
+    return {path.stem, path.parents[1].name, *types}
 
 
 @lru_cache(maxsize=None)
@@ -102,8 +109,8 @@ def exists(part, name):
     if is_path(name):
         return bool(files(name))
     if "::" in name:
-        module, function = name.split("::")
-        return any(function in declared(path) for path in SOURCES if path.suffix == ".rt" and module in (path.stem, path.parents[1].name))
+        owner, function = name.split("::")
+        return any(function in declared(path) for path in SOURCES if path.suffix == ".rt" and owner in owners(path))
     if part.head == "cases":
         return any(name in declared(path) for path in CASES)
     if is_path(part.head):

@@ -23,8 +23,8 @@ use Rattle.answer.proofs.Checks.{number_of, value_of, first_holds, first_fails, 
 use Rattle.answer.proofs.Promises.{both_hold, decides, first_refused, second_refused, as_one, in_line, handed_on, decided}
 use Rattle.setup.specs.Setup.{Setup}
 use Rattle.block.specs.Layout.{site_of, reference_count, reference_list, reference_at}
-use Rattle.block.specs.Reading.{well_shaped, fields_of, reading, answer_of}
-use Rattle.block.specs.declared.Reading.TheVariants.{Block}
+use Rattle.block.specs.Reading.{well_shaped, fields_of, reading, read_answer}
+use Rattle.std.specs.Prelude.{Ok}
 use Rattle.block.proofs.Shape.{shaped, well_shaped_lem}
 use Rattle.block.proofs.Acceptance.{number_accepted}
 use Rattle.block.proofs.Causes as reader
@@ -85,7 +85,7 @@ module _ (digest : Bytes → Bytes) (formed : Bool) (s : Setup) (v : View) (b : 
   by_checks =
       same_rest _ _ _ _ (by_test (well_shaped b)
       (λ y.
-      let own : answer_of (reading b) ≡ answer_to (own_checks b) 0 = reader.by_checks b ∙ first_holds _ _ 0 y in
+      let own : read_answer (reading b) ≡ answer_to (own_checks b) 0 = reader.by_checks b ∙ first_holds _ _ 0 y in
       same_rest _ _ _ _ (same_rest _ _ _ _ (same_rest _ _ _ _ (ap (λ (a : Answer). answer_to (as_one a ∷ held) value) own ∙ in_line (own_checks b) held value refl))))
       (λ f. first_fails _ _ _ f ∙ sym (first_fails _ _ _ f)))
 
@@ -96,7 +96,7 @@ module _ (digest : Bytes → Bytes) (formed : Bool) (s : Setup) (v : View) (b : 
 module _ (digest : Bytes → Bytes) (t b : Bytes) (verdict : ℕ) where
   -- the reader's answer
   abbrev read : Answer
-  read = answer_of (reading b)
+  read = read_answer (reading b)
 
   abbrev all : List Check
   all = checks digest (in_form t) (setup_of t) (view_of t) b verdict (count_of t)
@@ -130,7 +130,7 @@ module _ (digest : Bytes → Bytes) (t b : Bytes) (verdict : ℕ) where
   behind = 4 + length own
 
   -- the reader accepts where its checks hold, of which 3 is admission's too
-  accepted : ((well_shaped b ≡ true) × FirstHold own (length own)) ↔ (reading b ≡ Block (fields_of b))
+  accepted : ((well_shaped b ≡ true) × FirstHold own (length own)) ↔ (reading b ≡ Ok (fields_of b))
   accepted =
       let shape_first = both_hold (take 1 (reader.checks b)) own (length own) (1 + length own) refl in
       Iff.trans

@@ -35,7 +35,7 @@ module _ (t list : Bytes) (i place : ℕ) (f : in_form t ≡ true) (e : place �
   r = reference_at list i
 
   pub named_put : place < count_of t → bit_or (named_by t (count_of t) list i) (1 * 2 ^ place % 2 ^ 64) ≡ named_by t (count_of t) list (i + 1)
-  named_put h = some_put (names t list) 64 (count_of t) i place (formed_places t f).bound h here
+  named_put h = some_put (names t list) 64 (count_of t) i place (formed_places t f) h here
     where
       holds : digest_at t place ≡ r
       holds = same_equal (digest_at t place) r (ap (has_digest (view_of t) r) e ∙ first_passes (has_digest (view_of t) r) (count_of t) (omega arith))

@@ -7,7 +7,7 @@ use Rattle.answer.specs.declared.Answer.{Answer}
 use Rattle.answer.specs.Checks.{Check, check, check_none, answer_to}
 use Rattle.setup.specs.Setup.{Setup}
 use Rattle.block.specs.Layout.{site_of, sequence_of, reference_count, reference_list, reference_at, request_for}
-use Rattle.block.specs.Reading.{well_shaped, reading, answer_of}
+use Rattle.block.specs.Reading.{well_shaped, reading, read_answer}
 use Rattle.table.specs.View.{max_places, Row, View}
 use Rattle.table.specs.Layout.{setup_of, count_of, view_of, with_row}
 use Rattle.table.specs.Rules.{has_digest, parent_rule}
@@ -53,7 +53,7 @@ module _ (digest : Bytes → Bytes) where
       ∷ check 3 (well_shaped b) 0
       ∷ check 4 (ltb (site_of b) s.sites) 0
       ∷ check 5 (eqb verdict 1) 0
-      ∷ check (answer_of (reading b)).refusal (eqb (answer_of (reading b)).refusal 0) (answer_of (reading b)).value
+      ∷ check (read_answer (reading b)).refusal (eqb (read_answer (reading b)).refusal 0) (read_answer (reading b)).value
       ∷ held_checks v b
 
   -- the answer of an admission; a success returns the block's place

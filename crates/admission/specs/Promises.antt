@@ -4,9 +4,9 @@ use Rattle.base.specs.Search.{First}
 use Rattle.base.specs.Bytes.{Bytes}
 use Rattle.answer.specs.declared.Answer.{Answer}
 use Rattle.block.specs.Layout.{site_of, reference_count, reference_list, reference_at}
-use Rattle.block.specs.Reading.{fields_of, reading, answer_of}
+use Rattle.block.specs.Reading.{fields_of, reading, read_answer}
 use Rattle.block.specs.Promises.{Shaped}
-use Rattle.block.specs.declared.Reading.TheVariants.{Block}
+use Rattle.std.specs.Prelude.{Ok}
 use Rattle.table.specs.View.{max_places}
 use Rattle.table.specs.Layout.{setup_of, count_of, digest_at, view_of}
 use Rattle.table.specs.Rules.{parent_rule}
@@ -32,7 +32,7 @@ pub record Readable (t b : Bytes) (verdict : ℕ) : Type 0 where
   pub formed : in_form t ≡ true
   pub site : site_of b < (setup_of t).sites
   pub link : verdict ≡ 1
-  pub accepted : reading b ≡ Block (fields_of b)
+  pub accepted : reading b ≡ Ok (fields_of b)
 
 -- this place holds the block of digest d
 abbrev pub HeldAt : Bytes → Bytes → ℕ → Type 0
@@ -79,10 +79,10 @@ module _ (digest : Bytes → Bytes) where
       pub four : (answer.refusal ≡ 4) ↔ (BlockShaped t b × ((setup_of t).sites ≤ site_of b))
       pub five : (answer.refusal ≡ 5) ↔ (OfSite t b × (verdict ≢ 1))
       -- 6, 18 and 7 are those of reading the block, with the index that reading gives
-      pub six : (answer.refusal ≡ 6) ↔ (Vouched t b verdict × ((answer_of (reading b)).refusal ≡ 6))
-      pub eighteen : (answer.refusal ≡ 18) ↔ (Vouched t b verdict × ((answer_of (reading b)).refusal ≡ 18))
-      pub seven : (answer.refusal ≡ 7) ↔ (Vouched t b verdict × ((answer_of (reading b)).refusal ≡ 7))
-      pub index : (answer.refusal ≡ 6) ⊎ ((answer.refusal ≡ 18) ⊎ (answer.refusal ≡ 7)) → answer.value ≡ (answer_of (reading b)).value
+      pub six : (answer.refusal ≡ 6) ↔ (Vouched t b verdict × ((read_answer (reading b)).refusal ≡ 6))
+      pub eighteen : (answer.refusal ≡ 18) ↔ (Vouched t b verdict × ((read_answer (reading b)).refusal ≡ 18))
+      pub seven : (answer.refusal ≡ 7) ↔ (Vouched t b verdict × ((read_answer (reading b)).refusal ≡ 7))
+      pub index : (answer.refusal ≡ 6) ⊎ ((answer.refusal ≡ 18) ⊎ (answer.refusal ≡ 7)) → answer.value ≡ (read_answer (reading b)).value
       pub eight : (answer.refusal ≡ 8) ↔ (Readable t b verdict × DigestHeld t (digest b))
       -- "its place"
       pub held_place : answer.refusal ≡ 8 → First (HeldAt t (digest b)) answer.value

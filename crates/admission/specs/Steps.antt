@@ -1,6 +1,6 @@
 -- What the contracts of inner functions cite: what an entry point has tested. Nothing here need be believed.
 use Rattle.std.specs.Prelude.{◌≡◌, Bool, cond, not, ℕ, ◌/◌, eqb, length}
-use Rattle.base.specs.Search.{first_below, any_below}
+use Rattle.base.specs.Search.{first_below, any_below, below}
 use Rattle.base.specs.Mask.{mask_below}
 use Rattle.base.specs.Bytes.{Bytes, same_bytes}
 use Rattle.sha256.specs.Sha256.{sha256}
@@ -13,6 +13,7 @@ use Rattle.table.specs.View.{View}
 use Rattle.table.specs.Layout.{count_of, digest_at, view_of, with_row}
 use Rattle.table.specs.Rules.{has_digest}
 use Rattle.table.specs.Steps.{Indexed}
+use Rattle.admission.specs.declared.held.Found.{Found}
 use Rattle.admission.specs.Admission.{row_for, held_checks}
 
 -- searches over a reference list, which has as many references as its length gives: whether the digest d is among them, the index of the first that
@@ -26,13 +27,13 @@ first_missing v k list = first_below (λ i. not (any_below (has_digest v (refere
 abbrev pub places_listed : Bytes → ℕ → Bytes → ℕ
 places_listed t k list = mask_below (λ j. among list (digest_at t j)) k
 
--- a table in form with its index, a block that passes check 3, the mask of the places that the block refers to, and the index of its first missing
--- reference
-pub record LookedUp (t index b : Bytes) (references none : ℕ) : Type 0 where
+-- a table in form with its index, a block that passes check 3, and what was found for its references: the mask of the places that the block refers
+-- to, and the index of its first missing reference
+pub record LookedUp (t index b : Bytes) (found : Found) : Type 0 where
   pub indexed : Indexed t index
   pub shaped : Shaped b
-  pub places : references ≡ places_listed t (count_of t) (reference_list b)
-  pub missing : none ≡ first_missing (view_of t) (count_of t) (reference_list b)
+  pub places : found.places ≡ places_listed t (count_of t) (reference_list b)
+  pub missing : found.missing ≡ below (length (reference_list b) / reference_size) (first_missing (view_of t) (count_of t) (reference_list b))
 
 -- what checks 8 to 11 answer, and the table after them
 unfoldable pub held_answer : Bytes → Bytes → Answer

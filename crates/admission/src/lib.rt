@@ -7,60 +7,58 @@ mod held;
 
 ghost use Rattle.std.specs.Prelude.{◌≡◌, true};
 ghost use Rattle.sha256.specs.Sha256.{sha256};
+ghost use Rattle.answer.specs.Refusals.{answer_of};
 ghost use Rattle.block.specs.Reading.{fields_of};
-ghost use Rattle.block.specs.Promises.{Shaped};
 ghost use Rattle.table.specs.Form.{in_form};
 ghost use Rattle.admission.specs.Admission.{admission, admitted};
 ghost use Rattle.admission.specs.Steps.{held_answer, entered};
 
-use answer::Answer;
-use block::Reading;
+use answer::Refusal;
+use block::{Fields, ShapedBlock};
+use table::TableBytes;
 
 // Makes checks 8 to 11 of a block that the reader accepts, and puts the block at the next place if they hold.
-fn enter(table: &mut [u8], block: &[u8], fields: block::Fields) -> Answer
-    requires { (in_form table.old ≡ true) × Shaped block.now × (fields ≡ fields_of block.now) }
-    ensures value { result ≡ held_answer table.old block.now }
+fn enter(table: &mut TableBytes, block: &ShapedBlock, fields: Fields) -> Result<usize, Refusal>
+    requires { (in_form table.old ≡ true) × (fields ≡ fields_of block.now) }
+    ensures value { answer_of result ≡ held_answer table.old block.now }
     ensures table_after { table.new ≡ entered table.old block.now }
 {
-    let digest = sha256::digest(block);
+    let digest = sha256::digest(block.bytes());
     let index = table::index::index_of(table);
-    let found = held::look_up(table, &index, block::parts::reference_list(block));
-    let references = found.places;
-    let answer = held::held_answer(table, &index, block, &digest, references, found.missing);
-    if answer.refusal != 0 {
-        return answer;
-    }
+    let found = held::look_up(table, &index, block.references());
+    let place = held::held_answer(table, &index, block, &digest, found)?;
     table::writing::put_row(
         table,
         &digest,
         fields.site,
         fields.sequence,
-        references,
-        block::parts::request_list(block),
+        found.places,
+        block.requests(),
     );
-    answer
+    Ok(place)
 }
 
 // Puts the block at the table's next place and answers with that place. Refuses in the order of the documents; a refusal changes nothing.
-pub fn admit(table: &mut [u8], block: &[u8], verdict: u8) -> Answer
-    ensures value { result ≡ admission sha256 table.old block.now verdict }
+pub fn admit(table: &mut [u8], block: &[u8], verdict: u8) -> Result<usize, Refusal>
+    ensures value { answer_of result ≡ admission sha256 table.old block.now verdict }
     ensures table_after { table.new ≡ admitted sha256 table.old block.now verdict }
 {
-    if !table::in_form(table) {
-        return answer::refused(2, 0);
-    }
-    if !block::well_shaped(block) {
-        return answer::refused(3, 0);
-    }
-    if table::rows::sites_of(table) <= block::parts::site_of(block) {
-        return answer::refused(4, 0);
+    let Some(table) = table::formed_mut(table) else {
+        return Err(Refusal::OutOfForm);
+    };
+    let Some(shaped) = ShapedBlock::new(block) else {
+        return Err(Refusal::Misshapen);
+    };
+    if table::rows::sites_of(table) <= shaped.site() {
+        return Err(Refusal::UnknownSite);
     }
     if verdict != 1 {
-        return answer::refused(5, 0);
+        return Err(Refusal::Unverified);
     }
-    let reading = block::read_block(block);
-    let Reading::Block(fields) = reading else {
-        return block::answer_of(reading);
+    let reading = shaped.read();
+    // A block that the reader refuses goes no further.
+    let Ok(fields) = reading else {
+        return reading.map(|_| 0);
     };
-    enter(table, block, fields)
+    enter(table, &shaped, fields)
 }

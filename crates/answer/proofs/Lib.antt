@@ -6,3 +6,5 @@ pub mod Checks
 pub mod Promises
 -- answers put into a buffer one behind the other
 pub mod Buffer
+-- the numbers of refusals
+pub mod Refusals

@@ -1,14 +1,17 @@
 -- Laws of byte strings: when two are equal, and that what is made of bytes is bytes. Assumes nothing.
-use mathlib.Core.Path.{◌≡◌, refl, ap, ap₂, ◌∙◌}
-use mathlib.Core.Bool.{true, false}
-use mathlib.Core.Logic.{◌≢◌}
+use mathlib.Core.Path.{◌≡◌, refl, sym, ap, ap₂, ◌∙◌}
+use mathlib.Core.Bool.{Bool, true, false, ◌&&◌}
 use mathlib.Core.List.{List, [], ◌∷◌, ◌++◌}
 use Prim.Native.Nat.{ℕ, zero, suc, ◌+◌, ◌≤◌, ◌<◌, suc-le-suc}
 use native.Mathlib.Omega.{arith}
+use lib.Bits.{or_zero_r, or_add_and, and_le_l}
 use lib.Dec.{eqb, lit<}
 use lib.ListN.{length, get_or, take, drop, replicate}
 use lib.Seq.{get_or-take, get_or-drop, length-take-le}
-use borrow.Author.Tests.{eqb-true, eq-eqb}
+use borrow.Author.Tests.{eqb-true, eqb-false, eq-eqb, ne_eqb}
+use Rattle.base.proofs.Tests.{by_test, and_false}
+use Rattle.std.specs.Prelude.{fold, bit_or}
+use Rattle.std.specs.Cmp.Lexicographic.{pointwise}
 use Rattle.base.specs.Bytes.{Bytes, AllBytes, same_bytes, all_zero, concat}
 use Rattle.base.proofs.Tests.{true_not_false, not_true_false, and_left, and_right}
 
@@ -46,8 +49,28 @@ unfolding all_zero
 all_zero_lem [] z = refl
 all_zero_lem (x ∷ b) z = rw (eq-eqb x 0 (z 0 (omega arith)), all_zero_lem b (λ i h. z (suc i) (suc-le-suc h)))
 
-pub not_all_zero : (b : Bytes) (i : ℕ) → get_or b i 0 ≢ 0 → all_zero b ≡ false
-not_all_zero b i n = not_true_false (all_zero b) (λ e. n (zero_at b e i))
+-- a byte string is all zero where no bit of it is 1
+no_bit_more : (bits x : ℕ) (t : Bool) → (eqb (bit_or bits x) 0 && t) ≡ (eqb bits 0 && (eqb x 0 && t))
+no_bit_more bits x t = by_test (eqb x 0)
+    (λ y. rw (eqb-true x 0 y, or_zero_r bits) refl)
+    (λ n. rw (n, ne_eqb (bit_or bits x) 0 (λ e. eqb-false x 0 n (omega (arith, or_add_and bits x, and_le_l bits x, e)))) (sym (and_false (eqb bits 0))))
+
+pub no_bit : (b : Bytes) (bits : ℕ) → eqb (fold bit_or bits b) 0 ≡ (eqb bits 0 && all_zero b)
+unfolding all_zero
+no_bit [] bits = go (eqb bits 0)
+  where
+    go : (t : Bool) → t ≡ (t && true)
+    go true = refl
+    go false = refl
+no_bit (x ∷ b) bits = no_bit b (bit_or bits x) ∙ no_bit_more bits x (all_zero b)
+
+-- equality of the library's slices
+pub same_pointwise : (a b : Bytes) → pointwise eqb a b ≡ same_bytes a b
+unfolding same_bytes
+same_pointwise [] [] = refl
+same_pointwise [] (y ∷ ys) = refl
+same_pointwise (x ∷ xs) [] = refl
+same_pointwise (x ∷ xs) (y ∷ ys) = ap (λ (t : Bool). eqb x y && t) (same_pointwise xs ys)
 
 pub zeros_drop : (n : ℕ) (b : Bytes) → all_zero b ≡ true → all_zero (drop n b) ≡ true
 zeros_drop n b e = all_zero_lem (drop n b) (λ i h. get_or-drop n b i 0 ∙ zero_at b e (n + i))

@@ -18,6 +18,8 @@ pub mod TopPlace
 pub mod List
 -- a print that was not met is that of a new key
 pub mod Prints
+-- `any`, `all` and `find` over the numbers below a bound
+pub mod Ranges
 -- an element of a list and its index
 pub mod Members
 -- the elements of a list that pass a test
@@ -34,3 +36,5 @@ pub mod Splice
 pub mod Number
 -- numbers of any count of bytes, the low byte first
 pub mod LowFirst
+-- the conversions of the library
+pub mod Words

@@ -1,16 +1,16 @@
 -- Laws of numbers and their bytes, the low byte first. Assumes nothing.
 use mathlib.Core.Path.{◌≡◌, refl, ap, ◌∙◌}
 use mathlib.Core.List.{[], ◌∷◌}
-use Prim.Native.Nat.{ℕ, zero, suc, ◌+◌, ◌*◌, ◌/◌, ◌%◌, ◌^◌, ◌-◌, ◌≤◌, ◌<◌}
+use Prim.Native.Nat.{ℕ, zero, suc, ◌+◌, ◌*◌, ◌/◌, ◌%◌, ◌^◌, ◌<◌}
 use native.Mathlib.Nat.{mul-suc}
 use native.Mathlib.Numerals.{add-one}
 use native.Mathlib.Omega.{arith}
 use lib.Dec.{lit<}
-use lib.Pow.{pow-add, pow_mono}
+use lib.Pow.{pow-add}
 use lib.ListN.{length, get_or, drop}
 use lib.Seq.{drop-cons}
 use Rattle.base.specs.Bytes.{Bytes, AllBytes}
-use Rattle.base.specs.LowFirst.{word_size, low_first, low_first_bytes}
+use Rattle.base.specs.LowFirst.{low_first, low_first_bytes}
 
 pub length_low_first : (k x : ℕ) → length (low_first_bytes k x) ≡ k
 unfolding low_first_bytes
@@ -36,15 +36,6 @@ low_first_below (x ∷ b) a = omega (arith, low_first_below b (λ i. a (suc i)),
 pub low_first_drop : (b : Bytes) (i : ℕ) → i < length b → low_first (drop i b) ≡ low_first (drop (i + 1) b) * 256 + get_or b i 0
 unfolding low_first
 low_first_drop b i h = ap low_first (drop-cons b i 0 h) ∙ omega (arith, ap (λ (n : ℕ). low_first (drop n b)) (add-one i))
-
--- a byte more has room in a word, and the bound that goes with it
-pub low_first_room : (x i : ℕ) → 0 < i → x < 2 ^ (8 * (word_size - i)) → x < 2 ^ 56
-low_first_room x i p h = omega (arith, pow_mono {i = 8 * (word_size - i)} {j = 56} (omega arith))
-
-pub low_first_more : (x y i : ℕ) → 0 < i → i ≤ word_size → x < 2 ^ (8 * (word_size - i)) → y < 256 → x * 256 + y < 2 ^ (8 * (word_size - (i - 1)))
-low_first_more x y i p l h k =
-    let e : word_size - (i - 1) ≡ suc (word_size - i) = omega arith in
-    rw (e, byte_more (word_size - i)) (omega arith)
 
 -- the number of a number's bytes
 pub low_first_of_bytes : (k x : ℕ) → x < 2 ^ (8 * k) → low_first (low_first_bytes k x) ≡ x

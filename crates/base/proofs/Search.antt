@@ -1,15 +1,32 @@
 -- Laws of the first number below a bound that passes a test: the turns of the loop that looks for it, and what it is. Assumes nothing.
-use mathlib.Core.Path.{◌≡◌, refl, sym, ap}
+use mathlib.Core.Path.{◌≡◌, refl, sym, ap, ◌∙◌}
 use mathlib.Core.Bool.{Bool, true, false, not, cond, ◌||◌}
 use mathlib.Core.Logic.{◌↔◌, inl, inr}
 use Prim.Native.Nat.{ℕ, zero, suc, ◌+◌, ◌≤◌, ◌<◌}
 use native.Mathlib.Nat.{eq-or-lt_of_le, le_of_suc-le-suc}
 use native.Mathlib.Numerals.{add-one}
 use native.Mathlib.Omega.{arith}
-use lib.Dec.{eqb, ltb}
-use borrow.Author.Tests.{eqb-true, eqb-false, lt-ltb, le-ltb, ltb-true, ltb-false, not-true, not-false}
-use Rattle.base.specs.Search.{first_below, any_below, all_below, First}
+use lib.Dec.{ltb}
+use borrow.Author.Tests.{lt-ltb, le-ltb, ltb-true, ltb-false, not-true, not-false}
+use Rattle.std.specs.Prelude.{Option, Some, None, is_some}
+use Rattle.std.specs.Option.{option_or}
+use Rattle.base.specs.Search.{below, found_below, first_below, any_below, all_below, First}
 use Rattle.base.proofs.Tests.{by_test, true_not_false, not_true_false}
+
+-- what a number below a bound and none say
+pub below_some : (k i x : ℕ) → Some i ≡ below k x → (x < k) × (i ≡ x)
+below_some k i x e = go (ltb x k) refl e
+  where
+    go : (t : Bool) → ltb x k ≡ t → Some i ≡ cond t (Some x) None → (x < k) × (i ≡ x)
+    go true q e = (ltb-true x k q, cc)
+    go false q e = absurd cc
+
+pub below_none : (k x : ℕ) → None ≡ below k x → k ≤ x
+below_none k x e = go (ltb x k) refl e
+  where
+    go : (t : Bool) → ltb x k ≡ t → None ≡ cond t (Some x) None → k ≤ x
+    go true q e = absurd cc
+    go false q e = ltb-false x k q
 
 module _ (f : ℕ → Bool) where
   pub first_le : (k : ℕ) → first_below f k ≤ k
@@ -41,10 +58,6 @@ module _ (f : ℕ → Bool) where
     | inr l ↦ let i = first_hit j k l e y in rw (i, lt-ltb j k l)
   ]
 
-  -- none was found up to the end
-  pub first_end : (i k : ℕ) → i ≡ k → first_below f i ≡ i → k ≡ first_below f k
-  first_end i k e p = sym (rw e at p)
-
   -- what the first is: it passes, and none before it does
   pub first_passes : (k : ℕ) → first_below f k < k → f (first_below f k) ≡ true
   unfolding first_below
@@ -67,19 +80,6 @@ module _ (f : ℕ → Bool) where
       go false q true p h ih l = ih (omega (arith, ltb-false (first_below f k) k q))
       go false q false p h ih l = elim (eq-or-lt_of_le (le_of_suc-le-suc h)) [ inl e ↦ rw e p | inr i ↦ ih (omega (arith, ltb-false (first_below f k) k q)) ]
 
-  -- the first below one more, which fails or passes
-  pub first_more_failing : (k : ℕ) → f k ≡ false → cond (eqb (first_below f k) k) (k + 1) (first_below f k) ≡ first_below f (k + 1)
-  unfolding first_below
-  first_more_failing k n = by_test (eqb (first_below f k) k)
-      (λ y. rw y (sym (first_past k (eqb-true (first_below f k) k y) n)))
-      (λ z. rw (z, add-one k, lt-ltb (first_below f k) k (omega (arith, first_le k, eqb-false (first_below f k) k z))))
-
-  pub first_more_passing : (k : ℕ) → f k ≡ true → first_below f k ≡ first_below f (k + 1)
-  unfolding first_below
-  first_more_passing k y = by_test (ltb (first_below f k) k)
-      (λ t. rw (add-one k, t))
-      (λ t. rw (add-one k, t, y) (omega (arith, first_le k, ltb-false (first_below f k) k t)))
-
   -- where none below k passes, there is no first, and the other way round
   pub any_false : (k : ℕ) → ((j : ℕ) → j < k → f j ≡ false) → any_below f k ≡ false
   unfolding any_below
@@ -88,6 +88,52 @@ module _ (f : ℕ → Bool) where
   pub first_nowhere : (k : ℕ) → ((j : ℕ) → j < k → f j ≡ false) → first_below f k ≡ k
   unfolding any_below
   first_nowhere k n = omega (arith, first_le k, ltb-false (first_below f k) k (any_false k n))
+
+  -- the search answers none
+  pub found_none : (k : ℕ) → first_below f k ≡ k → None ≡ found_below f k
+  found_none k e = rw (e, le-ltb k k (omega arith)) refl
+
+  pub found_nowhere : (k : ℕ) → ((j : ℕ) → j < k → f j ≡ false) → None ≡ found_below f k
+  found_nowhere k h = found_none k (first_nowhere k h)
+
+  -- the search answers the first number
+  pub found_first : (k i : ℕ) → i < k → first_below f i ≡ i → f i ≡ true → Some i ≡ found_below f k
+  found_first k i l e y = rw (first_hit i k l e y, lt-ltb i k l) refl
+
+  pub found_here : (k i : ℕ) → i < k → ((j : ℕ) → j < i → f j ≡ false) → f i ≡ true → Some i ≡ found_below f k
+  found_here k i l h y = found_first k i l (first_nowhere i h) y
+
+  -- what the search's answer says
+  pub some_found : (k i : ℕ) → Some i ≡ found_below f k → (any_below f k ≡ true) × (i ≡ first_below f k)
+  unfolding any_below
+  some_found k i e = let h = below_some k i (first_below f k) e in (lt-ltb _ k h.0, h.1)
+
+  pub none_found : (k : ℕ) → None ≡ found_below f k → any_below f k ≡ false
+  unfolding any_below
+  none_found k e = le-ltb _ k (below_none k (first_below f k) e)
+
+  pub none_first : (k : ℕ) → None ≡ found_below f k → first_below f k ≡ k
+  none_first k e = omega (arith, first_le k, below_none k (first_below f k) e)
+
+  -- one number more
+  pub found_step : (k : ℕ) → found_below f (k + 1) ≡ option_or (found_below f k) (cond (f k) (Some k) None)
+  unfolding first_below
+  found_step k = rw (add-one k) (go (ltb (first_below f k) k) refl (f k))
+    where
+      go : (t : Bool) → ltb (first_below f k) k ≡ t → (u : Bool)
+          → below (suc k) (cond t (first_below f k) (cond u k (suc k))) ≡ option_or (cond t (Some (first_below f k)) None) (cond u (Some k) None)
+      go true q u = let h = ltb-true _ _ q in rw (lt-ltb (first_below f k) (suc k) (omega arith)) refl
+      go false q true = rw (lt-ltb k (suc k) (omega arith)) refl
+      go false q false = rw (le-ltb (suc k) (suc k) (omega arith)) refl
+
+  -- whether the search answers a number
+  pub any_some : (k : ℕ) (o : Option ℕ) → o ≡ found_below f k → is_some o ≡ any_below f k
+  unfolding any_below
+  any_some k o e = ap is_some e ∙ go (ltb (first_below f k) k)
+    where
+      go : (t : Bool) → is_some (cond t (Some (first_below f k)) None) ≡ t
+      go true = refl
+      go false = refl
 
   pub any_false_at : (k : ℕ) → any_below f k ≡ false → (j : ℕ) → j < k → f j ≡ false
   unfolding any_below

@@ -1,24 +1,19 @@
 -- Laws of `splice`, a part written over bytes: what stands up to the end of the part, the length, each element and each part afterwards, two parts
 -- written one behind the other, one over the other, and apart from each other. Assumes nothing.
 use mathlib.Core.Path.{◌≡◌, refl, sym, ap, ap₂, ◌∙◌}
-use mathlib.Core.List.{[], ◌++◌, append_assoc}
+use mathlib.Core.List.{List, [], ◌++◌, append_assoc}
 use Prim.Native.Nat.{ℕ, ◌+◌, ◌-◌, ◌≤◌, ◌<◌}
 use native.Mathlib.Nat.{add_assoc, add-zero}
 use native.Mathlib.Omega.{arith}
 use lib.ListN.{length, get_or, take, drop, length-append, length-drop, take-append-drop, get_or-append}
-use lib.Seq.{sets, sets-eq, take_at, drop_at, drop-drop, get_or-take, get_or-drop, get_or-append-add, length-take-le, take-append-le, drop-append-le, drop-append-add, take-take}
+use lib.Seq.{take_at, drop_at, drop-drop, get_or-take, get_or-drop, get_or-append-add, length-take-le, take-append-le, drop-append-le, drop-append-add, take-take}
 use Rattle.base.specs.Bytes.{Bytes, splice}
 use Rattle.base.proofs.Parts.{part_of_front}
 
 -- what is left of the whole where a part of it, from `at` on and as long as `part`, is made `part`
-pub splice_of_part : (b part ys : Bytes) (at : ℕ) → ys ≡ part → take at b ++ (ys ++ drop (at + length part - at) (drop at b)) ≡ splice b at part
+pub splice_of_part : {A : Type 0} (b part ys : List A) (at : ℕ) → ys ≡ part → take at b ++ (ys ++ drop (at + length part - at) (drop at b)) ≡ splice b at part
 unfolding splice
 splice_of_part b part ys at e = let k : at + length part - at ≡ length part = omega arith in rw (e, k, drop-drop (length part) at b)
-
--- what a run of stores leaves
-pub splice_of_stores : (b part : Bytes) (at : ℕ) → at + length part ≤ length b → sets b at part ≡ splice b at part
-unfolding splice
-splice_of_stores b part at h = sets-eq part b at h ∙ append_assoc (take at b) part (drop (at + length part) b)
 
 -- nothing put
 pub splice_nothing : (b : Bytes) (at : ℕ) → splice b at [] ≡ b

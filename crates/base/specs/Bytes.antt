@@ -34,6 +34,6 @@ unfoldable pub concat : List Bytes → Bytes
 concat [] = []
 concat (x ∷ xs) = x ++ concat xs
 
--- the bytes `b` with `part` written over them from index `at` on, all other bytes as they were
-unfoldable pub splice : Bytes → ℕ → Bytes → Bytes
+-- the list `b` with `part` written over it from index `at` on, all other items as they were
+unfoldable pub splice : {A : Type 0} → List A → ℕ → List A → List A
 splice b at part = take at b ++ (part ++ drop (at + length part) b)

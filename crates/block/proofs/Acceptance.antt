@@ -6,11 +6,11 @@ use borrow.Author.Tests.{not-true}
 use Rattle.base.specs.Search.{any_below}
 use Rattle.base.specs.Bytes.{Bytes}
 use Rattle.block.specs.Layout.{reference_count, request_count, reference_list, request_list}
-use Rattle.block.specs.Reading.{bad_request_at, slot_repeated_at, reference_repeated_at, fields_of, reading, answer_of}
+use Rattle.block.specs.Reading.{bad_request_at, slot_repeated_at, reference_repeated_at, fields_of, reading, read_answer}
 use Rattle.block.specs.Promises.{Shaped, answer}
 use Rattle.block.specs.declared.Fields.{Fields}
-use Rattle.block.specs.declared.Reading.{Reading}
-use Rattle.block.specs.declared.Reading.TheVariants.{Block}
+use Rattle.block.specs.Reading.{Reading}
+use Rattle.std.specs.Prelude.{Ok}
 use Rattle.block.proofs.Shape.{shaped, well_shaped_lem}
 use Rattle.block.proofs.Causes.{told}
 
@@ -20,7 +20,7 @@ pub record Accepted (b : Bytes) : Type 0 where
   pub slots : any_below (slot_repeated_at (request_list b)) (request_count b) ≡ false
   pub references : any_below (reference_repeated_at (reference_list b)) (reference_count b) ≡ false
 
-pub accepted_reading : (b : Bytes) → Accepted b → reading b ≡ Block (fields_of b)
+pub accepted_reading : (b : Bytes) → Accepted b → reading b ≡ Ok (fields_of b)
 unfolding reading
 accepted_reading b a = rw (well_shaped_lem b a.shape, a.requests, a.slots, a.references)
 
@@ -35,15 +35,15 @@ all_held b e =
       references = not-true _ held.1;
     }
 
-pub number_accepted : (b : Bytes) → ((answer b).refusal ≡ 0) ↔ (reading b ≡ Block (fields_of b))
+pub number_accepted : (b : Bytes) → ((answer b).refusal ≡ 0) ↔ (reading b ≡ Ok (fields_of b))
 number_accepted b = (λ e. accepted_reading b (all_held b e), λ e. rw e)
 
 pub record AcceptedAs (b : Bytes) (f : Fields) : Type 0 where
   pub accepted : Accepted b
   pub fields : f ≡ fields_of b
 
-pub reading_accepted : (b : Bytes) (f : Fields) → reading b ≡ Block f → AcceptedAs b f
+pub reading_accepted : (b : Bytes) (f : Fields) → reading b ≡ Ok f → AcceptedAs b f
 reading_accepted b f e =
-    let a = all_held b (ap (λ (r : Reading). (answer_of r).refusal) e) in
-    let same : Block f ≡ Block (fields_of b) = sym e ∙ accepted_reading b a in
+    let a = all_held b (ap (λ (r : Reading). (read_answer r).refusal) e) in
+    let same : Ok f ≡ Ok (fields_of b) = sym e ∙ accepted_reading b a in
     record { accepted = a; fields = cc }

@@ -21,17 +21,20 @@ use Rattle.answer.proofs.Checks.{value_of, first_holds, first_fails, valued_only
 use Rattle.answer.proofs.Promises.{succeeds, first_refused, decided}
 use Rattle.setup.specs.Setup.{max_slot}
 use Rattle.block.specs.Layout.{reference_count, request_count, reference_list, request_list, reference_at, request_at}
-use Rattle.block.specs.Reading.{well_shaped, bad_request_at, slot_repeated_at, reference_repeated_at, fields_of, each_entry, reading, answer_of}
+use Rattle.block.specs.Reading.{well_shaped, bad_request_at, slot_repeated_at, reference_repeated_at, fields_of, each_entry, reading, read_answer}
 use Rattle.block.specs.Promises.{Shaped, BadIn, BadAt, SlotRepeatedIn, SlotRepeatedAt, RepeatedAt, GoodRequests, DifferentSlots, answer, Causes}
 use Rattle.block.specs.Steps.{from_references, from_slots}
-use Rattle.block.specs.declared.Reading.{Reading}
-use Rattle.block.specs.declared.Reading.TheVariants.{Block, BadRequest, RepeatedSlot, RepeatedReference}
+use Rattle.block.specs.Reading.{Reading}
+use Rattle.std.specs.Prelude.{Ok}
+use Rattle.std.specs.Prelude.{Err}
+use Rattle.answer.specs.declared.Refusal.{Refusal}
+use Rattle.answer.specs.declared.Refusal.TheVariants.{BadRequest, RepeatedSlot, RepeatedReference}
 use Rattle.block.proofs.Shape.{shaped, well_shaped_lem}
 
 -- ---- a check of entries, in reading and in a list of checks
 
-entries : (n : ℕ) (refusal : ℕ → Reading) (rest : Reading) (fails : ℕ → Bool) (count : ℕ) (cs : List Check) → ((i : ℕ) → answer_of (refusal i) ≡ refused n i)
-    → answer_of rest ≡ answer_to cs 0 → answer_of (each_entry fails count refusal rest) ≡ answer_to (check_none n fails count ∷ cs) 0
+entries : (n : ℕ) (refusal : ℕ → Refusal) (rest : Reading) (fails : ℕ → Bool) (count : ℕ) (cs : List Check) → ((i : ℕ) → read_answer (Err (refusal i)) ≡ refused n i)
+    → read_answer rest ≡ answer_to cs 0 → read_answer (each_entry fails count refusal rest) ≡ answer_to (check_none n fails count ∷ cs) 0
 entries n refusal rest fails count cs named e =
     by_test (any_below fails count)
     (λ y. rw y (named _) ∙ sym (first_fails _ cs 0 (rw y)))
@@ -115,7 +118,7 @@ module _ (b : Bytes) where
       rw y
       (entries 6 BadRequest (from_slots b) _ _ _ (λ i. refl)
       (entries 18 RepeatedSlot (from_references b) _ _ _ (λ i. refl)
-      (entries 7 RepeatedReference (Block (fields_of b)) _ _ _ (λ i. refl) (sym (succeeds [] 0 tt)))))
+      (entries 7 RepeatedReference (Ok (fields_of b)) _ _ _ (λ i. refl) (sym (succeeds [] 0 tt)))))
 
   pub by_checks : answer b ≡ answer_to checks 0
   by_checks = by_test (well_shaped b) (λ y. well_shaped_answer y ∙ sym (first_holds _ _ 0 y)) (λ f. misshapen f ∙ sym (first_fails _ _ 0 f))

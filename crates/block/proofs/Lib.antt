@@ -18,5 +18,3 @@ pub mod Counting
 pub mod Promises
 -- bytes and fields determine each other
 pub mod RoundTrip
--- what `let Reading::Block(..) = .. else` shows
-pub mod LetElse

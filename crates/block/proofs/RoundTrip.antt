@@ -22,7 +22,7 @@ use Rattle.block.specs.Codec.{Digest, AdmissibleRequest, no_request, Fitting, Gi
 use Rattle.block.specs.Promises.{Shaped}
 use Rattle.block.specs.declared.Request.{Request}
 use Rattle.block.specs.declared.Fields.{Fields}
-use Rattle.block.specs.declared.Reading.TheVariants.{Block}
+use Rattle.std.specs.Prelude.{Ok}
 use Rattle.block.proofs.Lists.{references_length, references_at_lem, requests_length, requests_at}
 use Rattle.block.proofs.RequestCheck.{good_request, request_good}
 use Rattle.block.proofs.Shape.{reference_list_length, request_list_length, references_counted, requests_counted}
@@ -174,7 +174,7 @@ module _ (b : Bytes) (a : AllBytes b) (r : Accepted b) where
 
 -- ---- from what reading hands back to the content
 
-fields_given : (b : Bytes) (f : Fields) → reading b ≡ Block f → Gives f b
+fields_given : (b : Bytes) (f : Fields) → reading b ≡ Ok f → Gives f b
 unfolding content_of content
 fields_given b f e =
     let a = reading_accepted b f e in

@@ -1,15 +1,14 @@
 -- Check 3 as a test and as a record of what it shows, and the two lists of bytes that pass it. Assumes nothing.
-use mathlib.Core.Path.{◌≡◌, ap, ◌∙◌}
+use mathlib.Core.Path.{◌≡◌, ◌∙◌}
 use mathlib.Core.Bool.{Bool, true, ◌&&◌}
-use Prim.Native.Nat.{ℕ, ◌+◌, ◌*◌, ◌/◌, ◌-◌, ◌≤◌}
+use Prim.Native.Nat.{◌+◌, ◌*◌, ◌/◌, ◌≤◌}
 use native.Mathlib.Omega.{arith}
 use lib.Dec.{leb, eqb}
-use lib.ListN.{length, take, drop, length-drop}
+use lib.ListN.{length, drop, length-drop}
 use lib.Seq.{length-take-le}
 use borrow.Author.Tests.{leb-true, eqb-true, le-leb, eq-eqb}
 use Rattle.base.specs.Bytes.{Bytes}
 use Rattle.base.proofs.Tests.{and_left, and_right}
-use Rattle.base.proofs.Parts.{part_size_lem, rest_part}
 use Rattle.block.specs.Limits.{header_size, reference_size, request_size, max_references, max_requests, block_size, max_block_size}
 use Rattle.block.specs.Layout.{reference_count, request_count, reference_list, request_list}
 use Rattle.block.specs.Reading.{well_shaped}
@@ -37,17 +36,6 @@ well_shaped_lem b s =
       le-leb (request_count b) max_requests s.requests,
       eq-eqb (length b) (block_size (reference_count b) (request_count b)) s.exact,
     )
-
--- the two lists as the code hands them on, from a count p in a local
-module _ (b : Bytes) (p : ℕ) (e : p ≡ reference_count b) where
-  abbrev pub middle : ℕ
-  middle = header_size + reference_size * p
-
-  pub reference_part_lem : take (middle - header_size) (drop header_size b) ≡ reference_list b
-  reference_part_lem = ap (λ (n : ℕ). take n (drop header_size b)) (part_size_lem header_size (reference_size * p) ∙ ap (λ (n : ℕ). reference_size * n) e)
-
-  pub request_part_lem : take (length b - middle) (drop middle b) ≡ request_list b
-  request_part_lem = rest_part b middle ∙ ap (λ (n : ℕ). drop (header_size + reference_size * n) b) e
 
 module _ (b : Bytes) (s : Shaped b) where
   -- what passes check 3 is within the limit of a block's length

@@ -8,7 +8,7 @@ use Rattle.block.specs.Layout.{Content, reference_at, request_at, content, conte
 use Rattle.block.specs.Reading.{fields_of, reading}
 use Rattle.block.specs.declared.Request.{Request}
 use Rattle.block.specs.declared.Fields.{Fields}
-use Rattle.block.specs.declared.Reading.TheVariants.{Block}
+use Rattle.std.specs.Prelude.{Ok}
 
 -- x is 32 bytes, as a digest is
 pub record Digest (x : Bytes) : Type 0 where
@@ -38,7 +38,7 @@ pub record Fitting (c : Content) : Type 0 where
 
 -- reading accepts b, and c is its content
 pub record Reads (b : Bytes) (c : Content) : Type 0 where
-  pub accepted : reading b ≡ Block (fields_of b)
+  pub accepted : reading b ≡ Ok (fields_of b)
   pub content : content_of b ≡ c
 
 -- what the fields f, which reading hands back, say of the block b
@@ -65,4 +65,4 @@ pub record RoundTrip : Type 0 where
   -- no other bytes read to that content, and every content that is read is fitting
   pub only : (b : Bytes) (c : Content) → AllBytes b → Reads b c → (b ≡ encode c) × Fitting c
   -- the fields that reading hands back, with the two parts, are the block's content
-  pub fields : (b : Bytes) (f : Fields) → reading b ≡ Block f → Gives f b
+  pub fields : (b : Bytes) (f : Fields) → reading b ≡ Ok f → Gives f b

@@ -7,9 +7,9 @@ use Rattle.answer.specs.declared.Answer.{Answer}
 use Rattle.setup.specs.Setup.{max_slot}
 use Rattle.block.specs.Limits.{header_size, max_references, max_requests, block_size}
 use Rattle.block.specs.Layout.{reference_count, request_count, reference_list, request_list, reference_at, request_at, request_for}
-use Rattle.block.specs.Reading.{reading, answer_of}
+use Rattle.block.specs.Reading.{reading, read_answer}
 use Rattle.block.specs.declared.Fields.{Fields}
-use Rattle.block.specs.declared.Reading.TheVariants.{Block}
+use Rattle.std.specs.Prelude.{Ok}
 
 -- the bytes b pass check 3: they are not under 5 bytes, p and r are within their limits, and the length is theirs
 pub record Shaped (b : Bytes) : Type 0 where
@@ -56,7 +56,7 @@ pub record DifferentSlots (b : Bytes) : Type 0 where
 module _ (b : Bytes) where
   -- what reading answers for the bytes b, as a number and a value
   abbrev pub answer : Answer
-  answer = answer_of (reading b)
+  answer = read_answer (reading b)
 
   -- each refusal of reading, with its cause
   pub record Causes : Type 0 where
@@ -80,4 +80,4 @@ module _ (b : Bytes) where
 
 pub record Promises : Type 0 where
   pub causes : (b : Bytes) → Causes b
-  pub once_each : (b : Bytes) (f : Fields) → reading b ≡ Block f → OnceEach b
+  pub once_each : (b : Bytes) (f : Fields) → reading b ≡ Ok f → OnceEach b

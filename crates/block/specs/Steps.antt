@@ -7,8 +7,9 @@ use Rattle.setup.specs.Setup.{slot_count}
 use Rattle.block.specs.Limits.{header_size, reference_size, request_size, max_references, max_request_list_size}
 use Rattle.block.specs.Layout.{reference_count, request_count, reference_list, request_list, reference_at, request_at}
 use Rattle.block.specs.Reading.{bad_request_at, slot_repeated_at, reference_repeated_at, fields_of, each_entry}
-use Rattle.block.specs.declared.Reading.{Reading}
-use Rattle.block.specs.declared.Reading.TheVariants.{Block, RepeatedSlot, RepeatedReference}
+use Rattle.block.specs.Reading.{Reading}
+use Rattle.std.specs.Prelude.{Ok}
+use Rattle.answer.specs.declared.Refusal.TheVariants.{RepeatedSlot, RepeatedReference}
 
 -- the bytes of two lists that fit into a block, and an output that has room for the block
 pub record Writable (references requests output : Bytes) : Type 0 where
@@ -43,7 +44,7 @@ slots_met list i = mask_below (λ slot. any_below (λ j. eqb (request_at list j)
 -- what is left of reading after check 18, and after check 6
 module _ (b : Bytes) where
   abbrev pub from_references : Reading
-  from_references = each_entry (reference_repeated_at (reference_list b)) (reference_count b) RepeatedReference (Block (fields_of b))
+  from_references = each_entry (reference_repeated_at (reference_list b)) (reference_count b) RepeatedReference (Ok (fields_of b))
 
   abbrev pub from_slots : Reading
   from_slots = each_entry (slot_repeated_at (request_list b)) (request_count b) RepeatedSlot from_references

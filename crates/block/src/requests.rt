@@ -1,5 +1,6 @@
 // The request list of a block: the bytes `&block[5 + 32 * p..]`.
-ghost use Rattle.std.specs.Prelude.{◌≡◌, ◌+◌, ◌*◌, ◌≤◌, length};
+ghost use Rattle.std.specs.Prelude.{◌≡◌, ◌+◌, ◌*◌, ◌/◌, ◌≤◌, length};
+ghost use Rattle.base.specs.Search.{below};
 ghost use Rattle.block.specs.Limits.{request_size};
 ghost use Rattle.block.specs.Layout.{request_at, requests_in, counted_request};
 ghost use Rattle.block.specs.Reading.{bad_request};
@@ -16,7 +17,7 @@ pub fn request(list: &[u8], i: usize) -> Request
     let at = REQUEST_SIZE * i;
     Request {
         slot: list[at],
-        number: base::number_of(list[at + 1], list[at + 2]),
+        number: u16::from_be_bytes([list[at + 1], list[at + 2]]),
     }
 }
 
@@ -24,59 +25,41 @@ pub fn request(list: &[u8], i: usize) -> Request
 fn is_bad(q: Request) -> bool
     ensures { result ≡ bad_request q }
 {
-    if MAX_SLOT < q.slot {
-        return true;
-    }
-    q.number == 0
+    MAX_SLOT < q.slot || q.number == 0
 }
 
-// The index of the first request of the list that fails check 6; the number of requests if none does.
-pub fn first_bad(list: &[u8]) -> usize
-    ensures { result ≡ first_bad list.now }
+// The index of the first request of the list that fails check 6.
+pub fn first_bad(list: &[u8]) -> Option<usize>
+    ensures { result ≡ below (length list.now / request_size) (first_bad list.now) }
 {
-    let k = list.len() / REQUEST_SIZE;
-    let mut i = 0;
-    while i < k {
-        if is_bad(request(list, i)) {
-            return i;
-        }
-        i += 1;
-    }
-    k
+    (0..list.len() / REQUEST_SIZE).find(|i| is_bad(request(list, *i)))
 }
 
-// The index of the first request of the list whose slot an earlier one has, which is check 18; the number of requests if there is none. A mask keeps
-// the slots met, so that one pass is enough.
-pub fn first_of_repeated_slot(list: &[u8]) -> usize
+// The index of the first request of the list whose slot an earlier one has, which is check 18. A mask keeps the slots met, so that one pass is enough.
+pub fn first_of_repeated_slot(list: &[u8]) -> Option<usize>
     requires { NoneBad list.now }
-    ensures { result ≡ first_of_repeated_slot list.now }
+    ensures { result ≡ below (length list.now / request_size) (first_of_repeated_slot list.now) }
 {
-    let k = list.len() / REQUEST_SIZE;
     let mut met: u64 = 0;
-    let mut i = 0;
-    while i < k {
-        let slot = base::wide(request(list, i).slot);
+    for i in 0..list.len() / REQUEST_SIZE {
+        let slot = usize::from(request(list, i).slot);
         if base::in_mask(met, slot) {
-            return i;
+            return Some(i);
         }
-        met = met | (1u64 << slot);
-        i += 1;
+        met |= 1u64 << slot;
     }
-    k
+    None
 }
 
 // The counted request of a slot: the number of the first request of the list that names the slot, 0 if none does.
 pub fn counted_request(list: &[u8], slot: u8) -> u16
     ensures { result ≡ counted_request (requests_in list.now) slot }
 {
-    let k = list.len() / REQUEST_SIZE;
-    let mut i = 0;
-    while i < k {
+    for i in 0..list.len() / REQUEST_SIZE {
         let q = request(list, i);
         if q.slot == slot {
             return q.number;
         }
-        i += 1;
     }
     0
 }

@@ -11,10 +11,11 @@ pub fn write_block(site: u8, sequence: u16, references: &[u8], requests: &[u8], 
     requires { Writable references.now requests.now output.old }
     ensures { output.new ≡ splice output.old 0 (encode (content site sequence references.now requests.now)) }
 {
+    let [high, low] = sequence.to_be_bytes();
     let header = [
         site,
-        (sequence / 256) as u8,
-        (sequence % 256) as u8,
+        high,
+        low,
         (references.len() / REFERENCE_SIZE) as u8,
         (requests.len() / REQUEST_SIZE) as u8,
     ];

@@ -16,7 +16,5 @@ pub mod OriginInvariant
 pub mod ThresholdInvariant
 -- a message that is received is heard
 pub mod Hearing
--- the ways out of the code that takes a message
-mod Ways
 -- one message and one request change what document 01's sentences say
 pub mod Promises

@@ -8,21 +8,20 @@ fn supporters(heard: &[u16], n: u8, number: u16) -> u16
     requires { (n ≤ max_sites) × (length heard.now ≡ max_sites) }
     ensures { result ≡ supporters n heard.now number }
 {
-    let mut mask: u16 = 0;
-    let mut p: u8 = 0;
-    while p < n {
-        if heard[base::wide(p)] == number {
-            mask = mask | (1u16 << p);
+    let mut mask = 0;
+    for p in 0..n {
+        if heard[usize::from(p)] == number {
+            mask |= 1u16 << p;
         }
-        p += 1;
     }
     mask
 }
 
 // How many sites below n have the number as their heard entry.
+#[tactic(auto, unfolding(crate::specs::Process::support))]
 pub fn support(heard: &[u16], n: u8, number: u16) -> u32
     requires { (n ≤ max_sites) × (length heard.now ≡ max_sites) }
     ensures { result ≡ support n heard.now number }
 {
-    u16::count_ones(supporters(heard, n, number))
+    supporters(heard, n, number).count_ones()
 }

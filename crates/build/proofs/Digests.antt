@@ -10,7 +10,7 @@ use lib.Seq.{take_all, take-append-le, take-append-add, get_or-take, length-take
 use Rattle.base.specs.Bytes.{Bytes, concat, splice}
 use Rattle.base.proofs.List.{map_at}
 use Rattle.base.proofs.Parts.{concat_append, length_joined}
-use Rattle.base.proofs.Splice.{splice_nothing, splice_append, length_splice}
+use Rattle.base.proofs.Splice.{splice_nothing, splice_append}
 use Rattle.block.specs.Limits.{reference_size, max_references}
 use Rattle.table.specs.View.{max_places}
 use Rattle.table.specs.Layout.{table_size, row_start, digest_at}
@@ -67,11 +67,6 @@ module _ (t : Bytes) (size : length t ≡ table_size) where
   fitting_size ps count h = digests_size (fitting ps count) (λ i l.
       let k = length-take (max_references - count) ps in
       rw (get_or-take (max_references - count) ps i 0 (omega arith)) (h i (omega arith)))
-
-  pub put_size : (ps : List ℕ) (count : ℕ) (list : Bytes) → AllPlaces ps → Room list count → length (put_digests t ps count list) ≡ length list
-  unfolding put_digests
-  put_size ps count list h r =
-      length_splice list (reference_size * count) (digests_of t (fitting ps count)) (omega (arith, fitting_size ps count h, fitting_few ps count r.few, r.size))
 
   pub put_append : (ps qs : List ℕ) (count : ℕ) (list : Bytes) → AllPlaces ps → Room list count
       → put_digests t qs (count + length (fitting ps count)) (put_digests t ps count list) ≡ put_digests t (ps ++ qs) count list

@@ -1,23 +1,13 @@
--- Laws of the greatest of a function's values below a bound: the turns of the loop that looks for it, and what it is. Assumes nothing.
+-- What the greatest of a function's values below a bound is. Assumes nothing.
 use mathlib.Core.Path.{◌≡◌}
 use mathlib.Core.Logic.{◌≢◌, inl, inr}
-use Prim.Native.Nat.{ℕ, zero, suc, ◌+◌, ◌≤◌, ◌<◌}
+use Prim.Native.Nat.{ℕ, zero, suc, ◌≤◌, ◌<◌}
 use native.Mathlib.Nat.{eq-or-lt_of_le, le_of_suc-le-suc}
-use native.Mathlib.Numerals.{add-one}
 use native.Mathlib.Decide.{dec_le}
 use native.Mathlib.Omega.{arith}
 use Rattle.build.specs.Building.{greatest_below}
 
 module _ (f : ℕ → ℕ) where
-  -- one turn of the loop that looks for it: here is no greater value, or here is one as great
-  pub greatest_keeps : (k : ℕ) → f k ≤ greatest_below f k → greatest_below f (k + 1) ≡ greatest_below f k
-  unfolding greatest_below
-  greatest_keeps k h = rw (add-one k) (omega arith)
-
-  pub greatest_grows : (k : ℕ) → greatest_below f k ≤ f k → greatest_below f (k + 1) ≡ f k
-  unfolding greatest_below
-  greatest_grows k h = rw (add-one k) (omega arith)
-
   -- no value is greater
   pub greatest_bounds : (k i : ℕ) → i < k → f i ≤ greatest_below f k
   unfolding greatest_below

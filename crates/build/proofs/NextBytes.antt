@@ -2,14 +2,13 @@
 -- written where there is room for it. Assumes nothing.
 use mathlib.Core.Path.{◌≡◌, ap, ap₂, ◌∙◌}
 use mathlib.Core.Bool.{Bool, true}
-use Prim.Native.Nat.{ℕ, ◌+◌, ◌-◌, ◌*◌, ◌≤◌, ◌<◌}
+use Prim.Native.Nat.{ℕ, ◌+◌, ◌*◌, ◌≤◌, ◌<◌}
 use native.Mathlib.Omega.{arith}
-use lib.ListN.{length, take, drop}
+use lib.ListN.{length}
 use borrow.Author.Tests.{le-leb, lt-leb}
 use Rattle.base.specs.Bytes.{Bytes, splice}
-use Rattle.base.proofs.Splice.{splice_part_in}
 use Rattle.answer.specs.Checks.{success, refused, answer_to}
-use Rattle.block.specs.Limits.{header_size, reference_size}
+use Rattle.block.specs.Limits.{header_size, reference_size, max_references}
 use Rattle.block.specs.Layout.{requests_in, content, encode}
 use Rattle.block.specs.Steps.{Writable}
 use Rattle.block.proofs.Encoding.{references_held}
@@ -42,7 +41,7 @@ module _ (seen : ℕ → Bool) (t : Bytes) (p : ℕ) (requests : Bytes) (formed 
   }
 
   -- what is written for the bytes of the two lists is the next block
-  pub encoding_is : (sequence : ℕ) (list : Bytes) → sequence ≡ next_sequence seen (view_of t) p → list ≡ references
+  encoding_is : (sequence : ℕ) (list : Bytes) → sequence ≡ next_sequence seen (view_of t) p → list ≡ references
       → encode (content p sequence list requests) ≡ next_block seen (view_of t) p requests
   encoding_is sequence list e f = ap₂ (λ (n : ℕ) (l : Bytes). encode (content p n l requests)) e f ∙ ap encode content_is
 
@@ -51,27 +50,23 @@ module _ (seen : ℕ → Bool) (t : Bytes) (p : ℕ) (requests : Bytes) (formed 
       digests_size t (table_form t formed).size (picked seen (view_of t) p)
       (λ i h. omega (arith, picked_held seen (view_of t) p i h, (table_form t formed).held.fits))
 
-  -- the front of the list that was picked, as the code cuts it
-  pub front_is : (list after : Bytes) (count : ℕ) → after ≡ splice list 0 references → count ≡ length (picked seen (view_of t) p)
-      → take ((reference_size * count) - 0) (drop 0 after) ≡ references
-  front_is list after count e n =
-      let size : (reference_size * count) - 0 ≡ length references = omega (arith, references_size) in
-      ap₂ (λ (m : ℕ) (l : Bytes). take m l) size e ∙ splice_part_in list 0 references (omega arith)
-
-  module _ (listed : RequestList requests) (output : Bytes) (count : ℕ) (is : count ≡ length (picked seen (view_of t) p)) where
+  module _ (listed : RequestList requests) (output list : Bytes) (is : list ≡ references) where
     abbrev needed : ℕ
-    needed = header_size + reference_size * count + length requests
+    needed = header_size + length list + length requests
 
     needed_size : length (next_block seen (view_of t) p requests) ≡ needed
-    needed_size = needed_is seen t p requests formed listed.whole ∙ omega arith
+    needed_size = needed_is seen t p requests formed listed.whole ∙ omega (arith, references_size, ap length is)
 
-    pub writable : needed ≤ length output → Writable references requests output
+    list_few : length list ≤ reference_size * max_references
+    list_few = omega (arith, references_size, ap length is, picked_few seen (view_of t) p)
+
+    pub writable : needed ≤ length output → Writable list requests output
     writable room = record {
-      references_whole = omega (arith, references_size);
-      references_few = omega (arith, references_size, picked_few seen (view_of t) p);
+      references_whole = omega (arith, references_size, ap length is);
+      references_few = list_few;
       requests_whole = listed.whole;
       requests_few = listed.fits;
-      room = omega (arith, references_size);
+      room = omega arith;
     }
 
     -- 17, and the block
@@ -82,9 +77,9 @@ module _ (seen : ℕ → Bool) (t : Bytes) (p : ℕ) (requests : Bytes) (formed 
         let no = lt-leb (length (next_block seen (view_of t) p requests)) (length output) (omega (arith, needed_size)) in
         (rw (yes, no, needed_size), rw (yes, no))
 
-    pub way_written : next_sequence seen (view_of t) p ≤ max_sequence → needed ≤ length output → (after : Bytes)
-        → after ≡ splice output 0 (next_block seen (view_of t) p requests) → (success needed ≡ next_answer seen t p requests output) × (after ≡ next_output seen t p requests output)
+    pub way_written : (sequence : ℕ) → sequence ≡ next_sequence seen (view_of t) p → sequence ≤ max_sequence → needed ≤ length output → (after : Bytes)
+        → after ≡ splice output 0 (encode (content p sequence list requests)) → (success needed ≡ next_answer seen t p requests output) × (after ≡ next_output seen t p requests output)
     unfolding next_answer next_output answer_to
-    way_written last h after e = let within = le-leb (next_sequence seen (view_of t) p) max_sequence last in
+    way_written sequence q last h after e = let within = le-leb (next_sequence seen (view_of t) p) max_sequence (omega arith) in
         let yes = le-leb (length (next_block seen (view_of t) p requests)) (length output) (omega (arith, needed_size)) in
-        (rw (within, yes, needed_size), rw (within, yes) e)
+        (rw (within, yes, needed_size), rw (within, yes) (e ∙ ap (splice output 0) (encoding_is sequence list q is)))

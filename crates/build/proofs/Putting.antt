@@ -13,7 +13,7 @@ use Rattle.base.proofs.PassingBelow.{passing_here, passing_past, passing_from}
 use Rattle.table.specs.View.{max_places}
 use Rattle.table.specs.Layout.{table_size}
 use Rattle.build.specs.Steps.{Room, fitting, put_digests}
-use Rattle.build.proofs.Digests.{AllPlaces, fitting_few, counted_append, put_nothing, put_size, put_append}
+use Rattle.build.proofs.Digests.{AllPlaces, counted_append, put_nothing, put_append}
 
 pub places_passing : (f : ℕ → Bool) (k : ℕ) → k ≤ max_places → AllPlaces (passing_below f k)
 places_passing f k h i l = omega (arith, (passing_from f k _ (at_member (passing_below f k) i 0 l)).0)
@@ -35,13 +35,6 @@ module _ (t : Bytes) (f : ℕ → Bool) (count : ℕ) (list : Bytes) where
   }
 
   module _ (size : length t ≡ table_size) (room : Room list count) where
-    -- there is room for all references still
-    pub put_room : (i : ℕ) (after : Bytes) (end : ℕ) → i ≤ max_places → PutBelow i after end → Room after end
-    put_room i after end h w = record {
-      size = ap length w.listed ∙ put_size t size (passing_below f i) count list (places_passing f i h) room ∙ room.size;
-      few = omega (arith, w.counted, fitting_few (passing_below f i) count room.few);
-    }
-
     pub put_here : (i : ℕ) (after : Bytes) (end : ℕ) → i ≤ max_places → f i ≡ true → PutBelow i after end
         → PutBelow (i + 1) (put_digests t (i ∷ []) end after) (end + length (fitting (i ∷ []) end))
     put_here i after end h y w = record {

@@ -1,69 +1,74 @@
 -- What is put for the site's greatest block, and then for the others, are the references of the next block. Assumes nothing.
-use mathlib.Core.Path.{◌≡◌, sym, ap, ap₂, ◌∙◌}
+use mathlib.Core.Path.{◌≡◌, ap, ap₂, ◌∙◌}
 use mathlib.Core.Bool.{Bool, true}
-use mathlib.Core.List.{List, [], ◌∷◌, ◌++◌}
-use Prim.Native.Nat.{ℕ, zero, suc, ◌+◌, ◌≤◌, ◌<◌}
+use mathlib.Core.List.{List, [], ◌∷◌}
+use Prim.Native.Nat.{ℕ, ◌+◌, ◌*◌, ◌<◌}
 use native.Mathlib.Omega.{arith}
-use lib.ListN.{length}
-use Rattle.base.specs.Search.{first_below}
-use Rattle.base.specs.List.{passing_below}
+use lib.ListN.{length, take}
+use Rattle.std.specs.declared.option.Option.TheVariants.{None, Some}
+use Rattle.base.specs.Search.{first_below, any_below, found_below}
 use Rattle.base.specs.Mask.{in_mask}
 use Rattle.base.specs.Bytes.{Bytes, splice}
+use Rattle.base.proofs.Splice.{splice_part_in}
 use Rattle.base.proofs.Tests.{true_not_false}
-use Rattle.base.proofs.Search.{first_passes, first_before}
+use Rattle.base.proofs.Search.{first_passes, any_first, any_false_at, some_found, none_found}
 use Rattle.base.proofs.PassingBelow.{passing_none, passing_one}
+use Rattle.block.specs.Limits.{reference_size}
 use Rattle.table.specs.Layout.{count_of, view_of}
+use Rattle.table.proofs.InForm.{table_form}
 use Rattle.watch.specs.Promises.{Shares}
 use Rattle.watch.proofs.ForkTest.{forked_shares}
 use Rattle.build.specs.Building.{is_greatest, picked}
-use Rattle.build.specs.Steps.{Buildable, Room, others_in, fitting, digests_of, put_digests}
+use Rattle.build.specs.Steps.{Buildable, Room, greatest_in, others_in, fitting, digests_of, put_digests}
 use Rattle.build.proofs.Sequence.{greatest_only}
-use Rattle.build.proofs.Digests.{AllPlaces, counted_append, put_append}
+use Rattle.build.proofs.PickedPlaces.{picked_few, picked_held}
+use Rattle.build.proofs.Digests.{counted_append, digests_size, put_append}
+use Rattle.build.proofs.Putting.{places_passing}
 
 module _ (t : Bytes) (seen p : ℕ) where
+  abbrev greatest : List ℕ
+  greatest = greatest_in t seen p
+
   abbrev others : List ℕ
   others = others_in t seen p
 
   abbrev own : ℕ → Bool
   own = is_greatest (in_mask seen) (view_of t) p
 
-  -- how many references a list has then, and the list
-  abbrev Picked : ℕ → Bytes → Bytes → Type 0
-  Picked count list after =
-      (count ≡ length (picked (in_mask seen) (view_of t) p)) × (after ≡ splice list 0 (digests_of t (picked (in_mask seen) (view_of t) p)))
+  -- the site has no block, or one is its greatest
+  pub nobody : None ≡ found_below own (count_of t) → greatest ≡ []
+  nobody e = passing_none own (count_of t) (any_false_at own (count_of t) (none_found own (count_of t) e))
 
-  -- the references are those that fit of the greatest block's place and the others
-  all_picked : (ps : List ℕ) → passing_below own (count_of t) ≡ ps → (list : Bytes)
-      → Picked (0 + length (fitting (ps ++ others) 0)) list (put_digests t (ps ++ others) 0 list)
-  unfolding picked put_digests
-  all_picked ps e list = (
-    omega (arith, ap (λ (qs : List ℕ). length (fitting (qs ++ others) 0)) e),
-    ap (λ (qs : List ℕ). splice list 0 (digests_of t (fitting (qs ++ others) 0))) (sym e),
-  )
+  module _ (ready : Buildable t seen p) where
+    pub alone : (place : ℕ) → Some place ≡ found_below own (count_of t) → greatest ≡ place ∷ []
+    alone place e = passing_one own (count_of t) place below here (λ i l y. greatest_only (in_mask seen) (view_of t) p unforked i place l below y here)
+      where
+        some : any_below own (count_of t) ≡ true
+        some = (some_found own (count_of t) place e).0
 
-  -- the site has no block
-  pub picked_others : count_of t ≤ first_below own (count_of t) → (list : Bytes) → Picked (0 + length (fitting others 0)) list (put_digests t others 0 list)
-  picked_others h list = all_picked [] (passing_none own (count_of t) (λ i l. first_before own (count_of t) i (omega arith))) list
+        is : place ≡ first_below own (count_of t)
+        is = (some_found own (count_of t) place e).1
 
-  -- its greatest block first
-  module _ (ready : Buildable t seen p) (place : ℕ) (is : place ≡ first_below own (count_of t)) (below : place < count_of t) where
-    unforked : Shares (view_of t) (in_mask seen) p → ⊥
-    unforked s = true_not_false ((forked_shares (view_of t) (in_mask seen) p).1 s) ready.unforked
+        below : place < count_of t
+        below = omega (arith, is, any_first own (count_of t) some)
 
-    here : own place ≡ true
-    here = rw is (first_passes own (count_of t) (omega arith))
+        here : own place ≡ true
+        here = rw is (first_passes own (count_of t) (any_first own (count_of t) some))
 
-    alone : passing_below own (count_of t) ≡ place ∷ []
-    alone = passing_one own (count_of t) place below here (λ i l y. greatest_only (in_mask seen) (view_of t) p unforked i place l below y here)
+        unforked : Shares (view_of t) (in_mask seen) p → ⊥
+        unforked s = true_not_false ((forked_shares (view_of t) (in_mask seen) p).1 s) ready.unforked
 
-    is_place : AllPlaces (place ∷ [])
-    is_place zero l = omega (arith, ready.sized.bound)
-    is_place (suc j) l = absurd (omega arith)
-
-    pub picked_own : (list mid : Bytes) (count : ℕ) → Room list 0 → count ≡ 0 + length (fitting (place ∷ []) 0) → mid ≡ put_digests t (place ∷ []) 0 list
-        → Picked (count + length (fitting others count)) list (put_digests t others count mid)
-    picked_own list mid count room e f =
-        let all = all_picked (place ∷ []) alone list in (
-          ap (λ (n : ℕ). n + length (fitting others n)) e ∙ counted_append (place ∷ []) others 0 room.few ∙ all.0,
-          ap₂ (put_digests t others) e f ∙ put_append t ready.sized.size (place ∷ []) others 0 list is_place room ∙ all.1,
-        )
+    -- the front of the list, with both put
+    pub front_is : (list mid after : Bytes) (first count : ℕ) → Room list 0 → first ≡ length (fitting greatest 0) → mid ≡ put_digests t greatest 0 list
+        → count ≡ first + length (fitting others first) → after ≡ put_digests t others first mid
+        → (count ≡ length (picked (in_mask seen) (view_of t) p)) × (take (reference_size * count) after ≡ digests_of t (picked (in_mask seen) (view_of t) p))
+    unfolding picked put_digests
+    front_is list mid after first count room e f g h =
+        let few = picked_few (in_mask seen) (view_of t) p in
+        let start : first ≡ 0 + length (fitting greatest 0) = omega arith in
+        let n : count ≡ length (picked (in_mask seen) (view_of t) p) = g ∙ ap (λ (n : ℕ). n + length (fitting others n)) start ∙ counted_append greatest others 0 room.few ∙ omega arith in
+        let size = digests_size t (table_form t ready.formed).size (picked (in_mask seen) (view_of t) p) (λ i l. omega (arith, picked_held (in_mask seen) (view_of t) p i l, ready.held)) in
+        let width : reference_size * count ≡ length (digests_of t (picked (in_mask seen) (view_of t) p)) = omega (arith, n, size) in
+        let put : after ≡ splice list 0 (digests_of t (picked (in_mask seen) (view_of t) p)) =
+        h ∙ ap₂ (put_digests t others) start f ∙ put_append t (table_form t ready.formed).size greatest others 0 list (places_passing own (count_of t) ready.held) room in
+        (n, ap₂ (λ (m : ℕ) (l : Bytes). take m l) width put ∙ splice_part_in list 0 (digests_of t (picked (in_mask seen) (view_of t) p)) (omega (arith, room.size, size, few)))

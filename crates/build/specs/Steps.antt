@@ -9,15 +9,18 @@ use Rattle.block.specs.Limits.{reference_size, request_size, max_references, max
 use Rattle.table.specs.View.{max_places}
 use Rattle.table.specs.Layout.{setup_of, count_of, digest_at, view_of}
 use Rattle.table.specs.Form.{in_form}
-use Rattle.table.specs.Steps.{Places}
 use Rattle.watch.specs.Forks.{forked_in}
-use Rattle.build.specs.Building.{is_referred, is_other, next_block, building_checks}
+use Rattle.build.specs.Building.{next_sequence, is_greatest, is_referred, is_other, next_block, building_checks}
 
 -- a table in form, and a site that passes check 16
 pub record Buildable (t : Bytes) (seen p : ℕ) : Type 0 where
   pub formed : in_form t ≡ true
-  pub sized : Places t (count_of t)
+  pub held : count_of t ≤ max_places
   pub unforked : forked_in (view_of t) (in_mask seen) p ≡ false
+
+-- `next` is the sequence number of the site's next block
+abbrev pub IsNext : Bytes → ℕ → ℕ → ℕ → Type 0
+IsNext t seen p next = next ≡ next_sequence (in_mask seen) (view_of t) p
 
 -- a list with room for 16 references, the first `count` of which are there
 pub record Room (list : Bytes) (count : ℕ) : Type 0 where
@@ -27,6 +30,10 @@ pub record Room (list : Bytes) (count : ℕ) : Type 0 where
 -- the mask of the places that held blocks of the site refer to directly
 abbrev pub referred_mask : Bytes → ℕ → ℕ → ℕ
 referred_mask t seen p = mask_below (is_referred (in_mask seen) (view_of t) p) max_places
+
+-- the place of the site's block of greatest sequence number, if the site has a block
+abbrev pub greatest_in : Bytes → ℕ → ℕ → List ℕ
+greatest_in t seen p = passing_below (is_greatest (in_mask seen) (view_of t) p) (count_of t)
 
 -- the places of other sites' blocks that no held block of the site refers to, in place order
 abbrev pub others_in : Bytes → ℕ → ℕ → List ℕ

@@ -1,80 +1,63 @@
 // The references of a site's next block.
-ghost use Rattle.std.specs.Prelude.{◌≡◌, [], ◌∷◌, ◌+◌, ◌*◌, length};
-ghost use Rattle.base.specs.Search.{first_below};
+ghost use Rattle.std.specs.Prelude.{◌≡◌, [], ◌∷◌, ◌+◌, ◌≤◌, ◌<◌, length};
+ghost use Rattle.base.specs.Search.{found_below};
 ghost use Rattle.base.specs.Mask.{in_mask};
-ghost use Rattle.base.specs.Bytes.{splice};
-ghost use Rattle.block.specs.Limits.{reference_size, max_references};
-ghost use Rattle.table.specs.Layout.{count_of, view_of};
-ghost use Rattle.table.specs.Steps.{Place, Places};
-ghost use Rattle.build.specs.Building.{next_sequence, is_greatest, is_other, picked};
-ghost use Rattle.build.specs.Steps.{Buildable, Room, referred_mask, others_in, fitting, digests_of, put_digests};
+ghost use Rattle.table.specs.View.{max_places};
+ghost use Rattle.table.specs.Layout.{table_size, count_of, view_of};
+ghost use Rattle.build.specs.Building.{is_greatest, is_other, picked};
+ghost use Rattle.build.specs.Steps.{Buildable, IsNext, Room, referred_mask, greatest_in, others_in, fitting, digests_of, put_digests};
 
 use block::{MAX_REFERENCES, REFERENCE_SIZE};
-use table::rows;
+use table::{TableBytes, rows};
+use watch::sites::SiteBlocks;
 
 // Whether place i holds the site's block of greatest sequence number, where `next` is one more than that number.
-fn is_greatest(table: &[u8], seen: u64, site: u8, next: u16, i: usize) -> bool
-    requires { Place table.now i × (next ≡ next_sequence (in_mask seen) (view_of table.now) site) }
-    ensures { result ≡ is_greatest (in_mask seen) (view_of table.now) site i }
+fn is_greatest(own: SiteBlocks, next: u16, i: usize) -> bool
+    requires { (i < max_places) × IsNext own.table.now own.seen own.site next }
+    ensures { result ≡ is_greatest (in_mask own.entry.seen) (view_of own.entry.table.now) own.entry.site i }
 {
-    if !watch::sites::of_site(table, seen, i, site) {
-        return false;
-    }
-    (rows::sequence_at(table, i) as u32) + 1 == (next as u32)
+    own.at(i) && u32::from(rows::sequence_at(own.table, i)) + 1 == u32::from(next)
 }
 
-// The place of the site's block of greatest sequence number, or the count if the site has no block.
-fn greatest_place(table: &[u8], seen: u64, site: u8, next: u16) -> usize
-    requires { Places table.now (count_of table.now) × (next ≡ next_sequence (in_mask seen) (view_of table.now) site) }
-    ensures { result ≡ first_below (is_greatest (in_mask seen) (view_of table.now) site) (count_of table.now) }
+// The place of the site's block of greatest sequence number, if the site has a block.
+fn greatest_place(own: SiteBlocks, next: u16) -> Option<usize>
+    requires { (count_of own.table.now ≤ max_places) × IsNext own.table.now own.seen own.site next }
+    ensures { result ≡ found_below (is_greatest (in_mask own.entry.seen) (view_of own.entry.table.now) own.entry.site) (count_of own.entry.table.now) }
 {
-    let k = rows::count_of(table);
-    let mut i = 0;
-    while i < k {
-        if is_greatest(table, seen, site, next, i) {
-            return i;
-        }
-        i += 1;
-    }
-    k
+    (0..rows::count_of(own.table)).find(|i| is_greatest(own, next, *i))
 }
 
 // The mask of the places that the site's blocks refer to directly.
-fn referred_mask(table: &[u8], seen: u64, site: u8) -> u64
-    requires { Places table.now (count_of table.now) }
-    ensures { result ≡ referred_mask table.now seen site }
+fn referred_mask(own: SiteBlocks) -> u64
+    requires { count_of own.table.now ≤ max_places }
+    ensures { result ≡ referred_mask own.entry.table.now own.entry.seen own.entry.site }
 {
-    let k = rows::count_of(table);
-    let mut mask: u64 = 0;
-    let mut i = 0;
-    while i < k {
-        if watch::sites::of_site(table, seen, i, site) {
-            mask = mask | rows::references_at(table, i);
+    let mut mask = 0;
+    for i in 0..rows::count_of(own.table) {
+        if own.at(i) {
+            mask |= rows::references_at(own.table, i);
         }
-        i += 1;
     }
     mask
 }
 
 // Whether place i is looked at and holds a block of another site, and is not in the mask of the places referred to.
-fn is_other(table: &[u8], seen: u64, site: u8, referred: u64, i: usize) -> bool
-    requires { Place table.now i × (referred ≡ referred_mask table.now seen site) }
-    ensures { result ≡ is_other (in_mask seen) (view_of table.now) site i }
+fn is_other(own: SiteBlocks, referred: u64, i: usize) -> bool
+    requires { (i < max_places) × (referred ≡ referred_mask own.table.now own.seen own.site) }
+    ensures { result ≡ is_other (in_mask own.entry.seen) (view_of own.entry.table.now) own.entry.site i }
 {
-    if !base::in_mask(seen, i) {
-        return false;
-    }
-    if rows::site_at(table, i) == site {
-        return false;
-    }
-    !base::in_mask(referred, i)
+    base::in_mask(own.seen, i)
+        && rows::site_at(own.table, i) != own.site
+        && !base::in_mask(referred, i)
 }
 
-// Puts the digest of place i after the list's first `count` references, if there is room, and answers how many references the list has then.
-fn put_place(table: &[u8], i: usize, count: usize, list: &mut [u8]) -> usize
-    requires { Place table.now i × Room list.old count }
+// Puts the digest of place i after the list's first `count` references, if there is room, and answers how many references the list has then. The
+// clause `sized` is for a caller whose table is a field of a struct: of a field's array Rattle states no length.
+fn put_place(table: &TableBytes, i: usize, count: usize, list: &mut [u8]) -> usize
+    requires { (i < max_places) × Room list.old count }
     ensures value { result ≡ count + length (fitting (i ∷ []) count) }
     ensures list_after { list.new ≡ put_digests table.now (i ∷ []) count list.old }
+    ensures sized { length table.now ≡ table_size }
 {
     if MAX_REFERENCES <= count {
         return count;
@@ -85,34 +68,40 @@ fn put_place(table: &[u8], i: usize, count: usize, list: &mut [u8]) -> usize
 
 // Puts the digests of the other sites' blocks that no block of this site refers to, in place order and as long as there is room, after the list's
 // first `count` references, and answers how many references the list has then.
-fn put_others(table: &[u8], seen: u64, site: u8, count: usize, list: &mut [u8]) -> usize
-    requires { Places table.now (count_of table.now) × Room list.old count }
-    ensures value { result ≡ count + length (fitting (others_in table.now seen site) count) }
-    ensures list_after { list.new ≡ put_digests table.now (others_in table.now seen site) count list.old }
+fn put_others(own: SiteBlocks, count: usize, list: &mut [u8]) -> usize
+    requires { (count_of own.table.now ≤ max_places) × Room list.old count }
+    ensures value { result ≡ count + length (fitting (others_in own.entry.table.now own.entry.seen own.entry.site) count) }
+    ensures list_after { list.new ≡ put_digests own.entry.table.now (others_in own.entry.table.now own.entry.seen own.entry.site) count list.old }
 {
-    let k = rows::count_of(table);
-    let referred = referred_mask(table, seen, site);
+    let referred = referred_mask(own);
     let mut end = count;
-    let mut i = 0;
-    while i < k {
-        if is_other(table, seen, site, referred, i) {
-            end = put_place(table, i, end, list);
+    for i in 0..rows::count_of(own.table) {
+        if is_other(own, referred, i) {
+            end = put_place(own.table, i, end, list);
         }
-        i += 1;
     }
     end
 }
 
-// Puts the references of the next block to the front of the list, and answers how many they are.
-pub fn pick(table: &[u8], seen: u64, site: u8, next: u16, list: &mut [u8]) -> usize
-    requires { Buildable table.now seen site × (next ≡ next_sequence (in_mask seen) (view_of table.now) site) × (length list.old ≡ reference_size * max_references) }
-    ensures value { result ≡ length (picked (in_mask seen) (view_of table.now) site) }
-    ensures list_after { list.new ≡ splice list.old 0 (digests_of table.now (picked (in_mask seen) (view_of table.now) site)) }
+// Puts the digest of the site's block of greatest sequence number to the front of the list, if the site has a block, and answers how many references
+// the list has then.
+fn put_greatest(own: SiteBlocks, next: u16, list: &mut [u8]) -> usize
+    requires { Buildable own.table.now own.seen own.site × IsNext own.table.now own.seen own.site next × Room list.old 0 }
+    ensures value { result ≡ length (fitting (greatest_in own.entry.table.now own.entry.seen own.entry.site) 0) }
+    ensures list_after { list.new ≡ put_digests own.entry.table.now (greatest_in own.entry.table.now own.entry.seen own.entry.site) 0 list.old }
 {
-    let place = greatest_place(table, seen, site, next);
-    if rows::count_of(table) <= place {
-        return put_others(table, seen, site, 0, list);
+    match greatest_place(own, next) {
+        Some(place) => put_place(own.table, place, 0, list),
+        None => 0,
     }
-    let own = put_place(table, place, 0, list);
-    put_others(table, seen, site, own, list)
+}
+
+// The references of the next block, which are put to the front of the list.
+pub fn pick<'a>(own: SiteBlocks, next: u16, list: &'a mut [u8]) -> &'a [u8]
+    requires { Buildable own.table.now own.seen own.site × IsNext own.table.now own.seen own.site next × Room list.old 0 }
+    ensures { result.now ≡ digests_of own.entry.table.now (picked (in_mask own.entry.seen) (view_of own.entry.table.now) own.entry.site) }
+{
+    let greatest = put_greatest(own, next, list);
+    let count = put_others(own, greatest, list);
+    &list[..REFERENCE_SIZE * count]
 }

@@ -1,14 +1,17 @@
 -- What the calls of C programs that are not calls of the core answer and leave, over document 01's digest and reading. Refusals are numbered as in
 -- "What is turned down": 13 for an index not below the count of entries, 17 for an output that is too short, with the length needed.
-use Rattle.std.specs.Prelude.{cond, ℕ, leb, ltb, length}
+use Rattle.std.specs.Prelude.{Result, Ok, Err, cond, ℕ, leb, ltb, length}
 use Rattle.base.specs.Bytes.{Bytes, splice}
 use Rattle.sha256.specs.Sha256.{sha256}
 use Rattle.answer.specs.Checks.{success, refused}
+use Rattle.answer.specs.Refusals.{refusal_number, refusal_value}
 use Rattle.answer.specs.declared.Answer.{Answer}
+use Rattle.answer.specs.declared.Refusal.{Refusal}
 use Rattle.block.specs.Limits.{reference_size}
 use Rattle.block.specs.Layout.{reference_list, request_list, reference_at, request_at}
 use Rattle.block.specs.Reading.{reading, when_read}
 use Rattle.block.specs.declared.Fields.{Fields}
+use Rattle.block.specs.declared.Request.{Request}
 use Rattle.c_interface.specs.declared.BlockReading.{BlockReading}
 use Rattle.c_interface.specs.declared.Requested.{Requested}
 
@@ -33,8 +36,13 @@ digest_output message output = put_output (sha256 message) output
 abbrev pub no_fields : Fields
 no_fields = record { site = 0; sequence = 0; references = 0; requests = 0 }
 
+-- a result of reading, as programs in C get it
+abbrev pub read_as : Result Fields Refusal → BlockReading
+read_as (Ok fields) = record { answer = success 0; fields = fields }
+read_as (Err refusal) = record { answer = refused (refusal_number refusal) (refusal_value refusal); fields = no_fields }
+
 unfoldable pub block_reading : Bytes → BlockReading
-block_reading b = when_read (reading b) (λ f. record { answer = success 0; fields = f }) (λ a. record { answer = a; fields = no_fields })
+block_reading b = read_as (reading b)
 
 -- ---- gt_reference
 
@@ -49,6 +57,11 @@ reference_output b index output =
 
 abbrev pub without_request : Answer → Requested
 without_request a = record { answer = a; slot = 0; number = 0 }
+
+-- a request or why there is none, as programs in C get it
+abbrev pub requested_as : Result Request Refusal → Requested
+requested_as (Ok request) = record { answer = success 0; slot = request.slot; number = request.number }
+requested_as (Err refusal) = without_request (refused (refusal_number refusal) (refusal_value refusal))
 
 abbrev pub request_there : Bytes → ℕ → Requested
 request_there list index = record { answer = success 0; slot = (request_at list index).slot; number = (request_at list index).number }

@@ -1,4 +1,4 @@
-// The core, for C programs that keep a campaign. Each call is the one function that its body calls, with the same contract.
+// The core, for C programs that keep a campaign. Each call is the one function that its body calls, with its outcome as programs in C get it.
 ghost use Rattle.std.specs.Prelude.{◌≡◌, length};
 ghost use Rattle.sha256.specs.Sha256.{sha256};
 ghost use Rattle.answer.specs.Buffer.{put_answers};
@@ -27,7 +27,7 @@ pub extern "C" fn gt_fresh(sites: u8, owners: &[u8], table: &mut [u8]) -> Answer
     ensures value { result ≡ fresh_answer (record { sites = sites; owners = owners.now }) table.old }
     ensures table_after { table.new ≡ fresh_in (record { sites = sites; owners = owners.now }) table.old }
 {
-    table::fresh_in(sites, owners, table)
+    table::fresh_in(sites, owners, table).into()
 }
 
 // Whether a lent buffer is a table in form.
@@ -44,7 +44,7 @@ pub extern "C" fn gt_admit(table: &mut [u8], block: &[u8], verdict: u8) -> Answe
     ensures value { result ≡ admission sha256 table.old block.now verdict }
     ensures table_after { table.new ≡ admitted sha256 table.old block.now verdict }
 {
-    admission::admit(table, block, verdict)
+    admission::admit(table, block, verdict).into()
 }
 
 // Writes the records of a place and marks the place interpreted.
@@ -54,7 +54,7 @@ pub extern "C" fn gt_interpret(table: &mut [u8], place: usize, records: &mut [u1
     ensures table_after { table.new ≡ marked table.old records.old place }
     ensures records_after { records.new ≡ recorded table.old records.old place }
 {
-    interpret::interpret(table, place, records)
+    interpret::interpret(table, place, records).into()
 }
 
 // Takes the block at place 0 out of the table, and moves all other places and their records down by one.
@@ -64,7 +64,7 @@ pub extern "C" fn gt_retire(table: &mut [u8], records: &mut [u16]) -> Answer
     ensures table_after { table.new ≡ retired_table table.old records.old }
     ensures records_after { records.new ≡ retired_records table.old records.old }
 {
-    retire::retire(table, records)
+    retire::retire(table, records).into()
 }
 
 // Takes the block at the last place out of the table, as if it had not been admitted.
@@ -73,7 +73,7 @@ pub extern "C" fn gt_take_back(table: &mut [u8]) -> Answer
     ensures value { result ≡ taking_back table.old }
     ensures table_after { table.new ≡ taken_back table.old }
 {
-    take_back::take_back(table)
+    take_back::take_back(table).into()
 }
 
 // The sites with two held blocks of one sequence number.
@@ -81,7 +81,7 @@ pub extern "C" fn gt_take_back(table: &mut [u8]) -> Answer
 pub extern "C" fn gt_forks(table: &[u8]) -> ForkedSites
     ensures { result ≡ forks table.now }
 {
-    watch::forks(table)
+    watch::forks(table).into()
 }
 
 // All ancestors of a place, itself left out.
@@ -89,7 +89,7 @@ pub extern "C" fn gt_forks(table: &[u8]) -> ForkedSites
 pub extern "C" fn gt_ancestors(table: &[u8], place: usize) -> AncestorPlaces
     ensures { result ≡ ancestors table.now place }
 {
-    watch::ancestors(table, place)
+    watch::ancestors(table, place).into()
 }
 
 // Writes a site's next block to the front of the output, and answers with its length.
@@ -98,7 +98,7 @@ pub extern "C" fn gt_build(table: &[u8], site: u8, requests: &[u8], output: &mut
     ensures value { result ≡ building table.now site requests.now output.old }
     ensures output_after { output.new ≡ built table.now site requests.now output.old }
 {
-    build::build(table, site, requests, output)
+    build::build(table, site, requests, output).into()
 }
 
 // Runs an encoded list of calls, and answers how many there were; their answers go to the buffer, as far as they fit.
@@ -141,7 +141,7 @@ pub extern "C" fn gt_arrive(
     ensures shelf_after { shelf.new ≡ (arrival sha256 table.old shelf.old campaign block.now verdict (length outcomes.old)).shelf }
     ensures outcomes_after { outcomes.new ≡ put_answers outcomes.old 0 (listed (arrival sha256 table.old shelf.old campaign block.now verdict (length outcomes.old))) }
 {
-    campaigns::arrive(table, shelf, campaign, block, verdict, outcomes)
+    campaigns::arrive(table, shelf, campaign, block, verdict, outcomes).into()
 }
 
 // Makes one table and one record buffer of two controllers': the left's table and the third buffer.
@@ -157,5 +157,5 @@ pub extern "C" fn gt_join<'a>(
     ensures left_after { left.new ≡ joined left.old right.now left_records.now right_records.now third.old }
     ensures third_after { third.new ≡ copied left.old right.now left_records.now right_records.now third.old }
 {
-    join::join(left, right, left_records, right_records, third)
+    join::join(left, right, left_records, right_records, third).into()
 }

@@ -7,40 +7,103 @@
 pub mod core_calls;
 
 ghost use Rattle.std.specs.Prelude.{◌≡◌, length};
+ghost use Rattle.answer.specs.Refusals.{done_of};
 ghost use Rattle.block.specs.Limits.{reference_size};
-ghost use Rattle.c_interface.specs.Calls.{digest_answer, put_output, digest_output, block_reading, reference_answer, reference_output, requested};
+ghost use Rattle.c_interface.specs.Calls.{digest_answer, put_output, digest_output, read_as, block_reading, reference_answer, reference_output, requested_as, requested};
 
-use answer::Answer;
-use block::{Fields, REFERENCE_SIZE, Reading};
+use answer::{Answer, Refusal};
+use block::{Fields, REFERENCE_SIZE, Request, ShapedBlock};
 
 // What reading a block answers: a success and the block's fields, or the refusal beside fields that are all 0.
 #[repr(C)]
-#[derive(Clone, Copy)]
+#[derive(Clone, Copy, Debug, PartialEq, Eq)]
 pub struct BlockReading {
     pub answer: Answer,
     pub fields: Fields,
 }
 
+impl From<Result<Fields, Refusal>> for BlockReading {
+    ghost from_gives = { λ reading answer. answer ≡ read_as reading };
+
+    fn from(reading: Result<Fields, Refusal>) -> BlockReading {
+        BlockReading {
+            answer: Answer::from(reading.map(|_| 0)),
+            fields: reading.unwrap_or(Fields {
+                site: 0,
+                sequence: 0,
+                references: 0,
+                requests: 0,
+            }),
+        }
+    }
+}
+
 // A request of a block, or a refusal beside which slot and number are 0.
 #[repr(C)]
-#[derive(Clone, Copy)]
+#[derive(Clone, Copy, Debug, PartialEq, Eq)]
 pub struct Requested {
     pub answer: Answer,
     pub slot: u8,
     pub number: u16,
 }
 
+impl From<Result<Request, Refusal>> for Requested {
+    ghost from_gives = { λ request answer. answer ≡ requested_as request };
+
+    fn from(request: Result<Request, Refusal>) -> Requested {
+        let Request { slot, number } = request.unwrap_or(Request { slot: 0, number: 0 });
+        Requested {
+            answer: Answer::from(request.map(|_| 0)),
+            slot,
+            number,
+        }
+    }
+}
+
 // Puts a digest at the front of the output, or refuses with 17 and the length needed if there is no room.
-fn put_digest(digest: &[u8], output: &mut [u8]) -> Answer
+fn put_digest(digest: &[u8], output: &mut [u8]) -> Result<(), Refusal>
     requires { length digest.now ≡ reference_size }
-    ensures value { result ≡ digest_answer output.old }
+    ensures value { done_of result ≡ digest_answer output.old }
     ensures output_after { output.new ≡ put_output digest.now output.old }
 {
     if output.len() < REFERENCE_SIZE {
-        return answer::refused(17, REFERENCE_SIZE);
+        return Err(Refusal::NoRoom(REFERENCE_SIZE));
     }
     base::put(output, 0, digest);
-    answer::success(0)
+    Ok(())
+}
+
+// Puts the reference at an index of a block at the front of the output.
+fn put_reference(bytes: &[u8], index: usize, output: &mut [u8]) -> Result<(), Refusal>
+    ensures value { done_of result ≡ reference_answer bytes.now index output.old }
+    ensures output_after { output.new ≡ reference_output bytes.now index output.old }
+{
+    let Some(block) = ShapedBlock::new(bytes) else {
+        return Err(Refusal::Misshapen);
+    };
+    let fields = block.read()?;
+    if fields.references <= index {
+        return Err(Refusal::UnknownPlace);
+    }
+    put_digest(
+        block::references::reference(block.references(), index),
+        output,
+    )
+}
+
+// The request at an index of a block.
+fn request(bytes: &[u8], index: usize) -> Result<Request, Refusal>
+    ensures { requested_as result ≡ requested bytes.now index }
+{
+    let Some(block) = ShapedBlock::new(bytes) else {
+        return Err(Refusal::Misshapen);
+    };
+    let fields = block.read()?;
+    if fields.requests <= index {
+        return Err(Refusal::UnknownPlace);
+    }
+    let list = block.requests();
+    Ok(block::requests::request(list, index))
 }
 
 // Puts the message's digest at the front of the output. Refuses with 17.
@@ -49,30 +112,16 @@ pub extern "C" fn gt_digest(message: &[u8], output: &mut [u8]) -> Answer
     ensures value { result ≡ digest_answer output.old }
     ensures output_after { output.new ≡ digest_output message.now output.old }
 {
-    put_digest(&sha256::digest(message), output)
+    put_digest(&sha256::digest(message), output).into()
 }
 
 // Reads a block: its fields, or the reader's refusal.
 #[unsafe(no_mangle)]
+#[tactic(auto, unfolding(crate::specs::Calls::block_reading))]
 pub extern "C" fn gt_read_block(bytes: &[u8]) -> BlockReading
     ensures { result ≡ block_reading bytes.now }
 {
-    let reading = block::read_block(bytes);
-    let Reading::Block(fields) = reading else {
-        return BlockReading {
-            answer: block::answer_of(reading),
-            fields: Fields {
-                site: 0,
-                sequence: 0,
-                references: 0,
-                requests: 0,
-            },
-        };
-    };
-    BlockReading {
-        answer: answer::success(0),
-        fields,
-    }
+    BlockReading::from(block::read_block(bytes))
 }
 
 // Puts the reference at an index of a block at the front of the output. Refuses as the reader does, with 13 or with 17.
@@ -81,15 +130,7 @@ pub extern "C" fn gt_reference(bytes: &[u8], index: usize, output: &mut [u8]) ->
     ensures value { result ≡ reference_answer bytes.now index output.old }
     ensures output_after { output.new ≡ reference_output bytes.now index output.old }
 {
-    let reading = block::read_block(bytes);
-    let Reading::Block(fields) = reading else {
-        return block::answer_of(reading);
-    };
-    if fields.references <= index {
-        return answer::refused(13, 0);
-    }
-    let list = block::parts::reference_list(bytes);
-    put_digest(block::references::reference(list, index), output)
+    put_reference(bytes, index, output).into()
 }
 
 // The request at an index of a block. Refuses as the reader does, or with 13.
@@ -97,26 +138,5 @@ pub extern "C" fn gt_reference(bytes: &[u8], index: usize, output: &mut [u8]) ->
 pub extern "C" fn gt_request(bytes: &[u8], index: usize) -> Requested
     ensures { result ≡ requested bytes.now index }
 {
-    let reading = block::read_block(bytes);
-    let Reading::Block(fields) = reading else {
-        return Requested {
-            answer: block::answer_of(reading),
-            slot: 0,
-            number: 0,
-        };
-    };
-    if fields.requests <= index {
-        return Requested {
-            answer: answer::refused(13, 0),
-            slot: 0,
-            number: 0,
-        };
-    }
-    let list = block::parts::request_list(bytes);
-    let request = block::requests::request(list, index);
-    Requested {
-        answer: answer::success(0),
-        slot: request.slot,
-        number: request.number,
-    }
+    request(bytes, index).into()
 }

@@ -1,6 +1,6 @@
 -- What holds at each turn of a pass and of the passes, as the loops keep it. Assumes nothing.
-use mathlib.Core.Path.{◌≡◌, refl, sym, ap, ◌∙◌}
-use mathlib.Core.Bool.{Bool, true, false}
+use mathlib.Core.Path.{◌≡◌, sym, ap, ◌∙◌}
+use mathlib.Core.Bool.{Bool, true}
 use mathlib.Core.Logic.{◌⊎◌, inl, inr}
 use mathlib.Core.List.{List}
 use Prim.Native.Nat.{ℕ, suc, ◌+◌, ◌-◌, ◌≤◌, ◌<◌}
@@ -51,15 +51,11 @@ module _ (t : Bytes) (ws : List Waiting) (o : List ℕ) (c : ℕ) (p : Pass) whe
     turned_fit : AllFit ws → AllFit turn.waiting
     turned_fit f = elim turned_cases [ inl e ↦ rw e f | inr e ↦ rw e (fit_without p.at ws f) ]
 
-pub record PassInvariant (c : ℕ) (t₀ s₀ : Bytes) (o₀ : List ℕ) (p₀ : Pass) (t s : Bytes) (o : List ℕ) (p : Pass) (at : ℕ) : Type 0 where
+pub record PassInvariant (c : ℕ) (t₀ s₀ : Bytes) (o₀ : List ℕ) (p₀ : Pass) (t s : Bytes) (o : List ℕ) (p : Pass) : Type 0 where
   pub passable : Passable s p.ended
-  pub stands : at ≡ p.at
   pub left : left_of sha256 c t (waiting_in s) o p ≡ left_of sha256 c t₀ (waiting_in s₀) o₀ p₀
-  pub table : length t ≡ length t₀
-  pub shelf : length s ≡ length s₀
-  pub outcomes : length o ≡ length o₀
 
-module _ (c : ℕ) (t₀ s₀ : Bytes) (o₀ : List ℕ) (p₀ : Pass) (t s : Bytes) (o : List ℕ) (p : Pass) (at : ℕ) (g : PassInvariant c t₀ s₀ o₀ p₀ t s o p at)
+module _ (c : ℕ) (t₀ s₀ : Bytes) (o₀ : List ℕ) (p₀ : Pass) (t s : Bytes) (o : List ℕ) (p : Pass) (g : PassInvariant c t₀ s₀ o₀ p₀ t s o p)
     (below : p.at < length (waiting_in s)) (t' s' : Bytes) (o' : List ℕ) (p' : Pass) (ep : p' ≡ (turned sha256 t (waiting_in s) o c p).next)
     (et : t' ≡ (turned sha256 t (waiting_in s) o c p).table) (es : s' ≡ shelf_bytes (turned sha256 t (waiting_in s) o c p).waiting)
     (eo : o' ≡ (turned sha256 t (waiting_in s) o c p).outcomes) where
@@ -75,36 +71,24 @@ module _ (c : ℕ) (t₀ s₀ : Bytes) (o₀ : List ℕ) (p₀ : Pass) (t s : By
   waiting_next : waiting_in s' ≡ (turned sha256 t ws o c p).waiting
   waiting_next = laid_waiting s' _ laid_next
 
-  pub goes_on : length t' ≡ length t → length s' ≡ length s → length o' ≡ length o → PassInvariant c t₀ s₀ o₀ p₀ t' s' o' p' p'.at
-  goes_on lt ls lo =
+  pub goes_on : PassInvariant c t₀ s₀ o₀ p₀ t' s' o' p'
+  goes_on =
       record {
         passable = record { laid = laid_own s' _ laid_next; few = rw (waiting_next, ep) few };
-        stands = refl;
         left = rw (waiting_next, et, eo, ep) (left_turn sha256 c t ws o p below ∙ g.left);
-        table = lt ∙ g.table;
-        shelf = ls ∙ g.shelf;
-        outcomes = lo ∙ g.outcomes;
       }
 
-  pub goes_down : length (waiting_in s') - p'.at < length (waiting_in s) - at
-  goes_down = rw (waiting_next, ep, g.stands) (turned_less t ws o c p below)
+  pub goes_down : length (waiting_in s') - p'.at < length (waiting_in s) - p.at
+  goes_down = rw (waiting_next, ep) (turned_less t ws o c p below)
 
 -- ---- the passes
 
 pub record PassesInvariant (c : ℕ) (t₀ s₀ : Bytes) (o₀ : List ℕ) (t s : Bytes) (o : List ℕ) (ended : ℕ) (again : Bool) : Type 0 where
   pub passable : Passable s ended
   pub left : rest_of sha256 c again t (waiting_in s) (record { numbers = o; count = ended }) ≡ rest_of sha256 c true t₀ (waiting_in s₀) (record { numbers = o₀; count = 0 })
-  pub table : length t ≡ length t₀
-  pub shelf : length s ≡ length s₀
-  pub outcomes : length o ≡ length o₀
 
--- how far the passes have to go
-abbrev pub ahead : Bool → List Waiting → ℕ
-ahead true ws = suc (length ws)
-ahead false ws = 0
-
-module _ (c : ℕ) (t₀ s₀ : Bytes) (o₀ : List ℕ) (t s : Bytes) (o : List ℕ) (ended : ℕ) (again : Bool) (g : PassesInvariant c t₀ s₀ o₀ t s o ended again)
-    (goes : again ≡ true) (t' s' : Bytes) (o' : List ℕ) (ended' : ℕ) (again' : Bool) (ea : again' ≡ admits (pass sha256 t c (waiting_in s)).tries)
+module _ (c : ℕ) (t₀ s₀ : Bytes) (o₀ : List ℕ) (t s : Bytes) (o : List ℕ) (ended : ℕ) (g : PassesInvariant c t₀ s₀ o₀ t s o ended true)
+    (t' s' : Bytes) (o' : List ℕ) (ended' : ℕ) (again' : Bool) (ea : again' ≡ admits (pass sha256 t c (waiting_in s)).tries)
     (en : ended' ≡ ended + length (outcomes_of (pass sha256 t c (waiting_in s)).tries)) (et : t' ≡ (pass sha256 t c (waiting_in s)).table)
     (es : s' ≡ shelf_bytes (pass sha256 t c (waiting_in s)).waiting)
     (eo : o' ≡ (noted (record { numbers = o; count = ended }) (outcomes_of (pass sha256 t c (waiting_in s)).tries)).numbers) where
@@ -119,24 +103,16 @@ module _ (c : ℕ) (t₀ s₀ : Bytes) (o₀ : List ℕ) (t s : Bytes) (o : List
   waiting_passed : waiting_in s' ≡ (pass sha256 t c (waiting_in s)).waiting
   waiting_passed = laid_waiting s' _ laid_passed
 
-  pub settles_on : length t' ≡ length t → length s' ≡ length s → length o' ≡ length o → PassesInvariant c t₀ s₀ o₀ t' s' o' ended' again'
-  settles_on lt ls lo =
+  pub settles_on : PassesInvariant c t₀ s₀ o₀ t' s' o' ended' again'
+  settles_on =
       record {
         passable = record {
           laid = laid_own s' _ laid_passed;
           few = omega (arith, ap length waiting_passed, pass_length sha256 c (waiting_in s) t, g.passable.few);
         };
         left = rw (waiting_passed, et, eo, en, ea)
-            (rest_turn sha256 c t (waiting_in s) (record { numbers = o; count = ended })
-            ∙ ap (λ (b : Bool). rest_of sha256 c b t (waiting_in s) (record { numbers = o; count = ended })) (sym goes) ∙ g.left);
-        table = lt ∙ g.table;
-        shelf = ls ∙ g.shelf;
-        outcomes = lo ∙ g.outcomes;
+            (rest_turn sha256 c t (waiting_in s) (record { numbers = o; count = ended }) ∙ g.left);
       }
 
-  pub settles_down : ahead again' (waiting_in s') < ahead again (waiting_in s)
-  settles_down =
-      rw (goes, waiting_passed)
-      (by_test again'
-      (λ y. rw y (omega (arith, pass_fewer sha256 c (waiting_in s) t (sym ea ∙ y))))
-      (λ n. rw n (omega arith)))
+  pub settles_down : again' ≡ true → length (waiting_in s') < length (waiting_in s)
+  settles_down y = rw waiting_passed (pass_fewer sha256 c (waiting_in s) t (sym ea ∙ y))

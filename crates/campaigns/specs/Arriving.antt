@@ -1,12 +1,16 @@
 -- Request Three: what an arrival answers, and what it leaves of its campaign's table and of the shelf.
-use Rattle.std.specs.Prelude.{Bool, cond, List, [], ◌∷◌, ◌++◌, ℕ, ◌*◌, eqb, leb}
+use Rattle.std.specs.Prelude.{Result, Ok, Err, Bool, cond, List, [], ◌∷◌, ◌++◌, ℕ, ◌*◌, eqb, leb}
 use Rattle.base.specs.Bytes.{Bytes}
 use Rattle.answer.specs.declared.Answer.{Answer}
-use Rattle.answer.specs.Checks.{Check, check, answer_to, refused}
+use Rattle.answer.specs.Checks.{Check, check, answer_to, success, refused}
+use Rattle.answer.specs.Refusals.{refusal_number, refusal_value}
+use Rattle.answer.specs.declared.Refusal.{Refusal}
 use Rattle.shelf.specs.Layout.{Waiting, waiting_in, shelf_bytes}
 use Rattle.shelf.specs.Rules.{max_campaign, max_share, has_place, waits}
 use Rattle.shelf.specs.Form.{shelf_in_form}
 use Rattle.admission.specs.Admission.{admission, admitted}
+use Rattle.campaigns.specs.declared.Admitted.{Admitted}
+use Rattle.campaigns.specs.declared.ArrivalAnswer.{ArrivalAnswer}
 use Rattle.campaigns.specs.Passes.{Try, PassResult, outcomes_of, settled}
 
 -- ---- an arrival over the list of what waits
@@ -83,3 +87,10 @@ module _ (digest : Bytes → Bytes) where
       cond (eqb first.refusal 0)
       (record { answer = r.answer; table = r.table; shelf = shelf_bytes r.waiting; tries = r.tries })
       (record { answer = first; table = t; shelf = s; tries = [] })
+
+-- ---- what the code hands back
+
+-- the answer of an arrival, and how many outcomes go with it: none where the arrival is refused
+abbrev pub arrival_answer : Result Admitted Refusal → ArrivalAnswer
+arrival_answer (Ok a) = record { answer = success a.place; ended = a.ended }
+arrival_answer (Err refusal) = record { answer = refused (refusal_number refusal) (refusal_value refusal); ended = 0 }

@@ -1,15 +1,17 @@
 -- What the contracts of inner functions cite. Nothing here need be believed.
-use Rattle.std.specs.Prelude.{cond, ◌||◌, List, [], ℕ, ◌+◌, ◌≤◌, ◌<◌, eqb, length, get_or}
+use Rattle.std.specs.Prelude.{Result, Ok, Err, cond, ◌||◌, List, ℕ, ◌+◌, ◌≤◌, ◌<◌, eqb, length, get_or}
 use Rattle.base.specs.Bytes.{Bytes}
 use Rattle.answer.specs.Buffer.{put_answer}
 use Rattle.answer.specs.declared.Answer.{Answer}
+use Rattle.answer.specs.declared.Refusal.{Refusal}
+use Rattle.answer.specs.declared.Refusal.TheVariants.{Waiting as Waits, ShelfFull}
 use Rattle.block.specs.Limits.{max_block_size}
 use Rattle.shelf.specs.Layout.{max_waiting, Waiting, waiting_in}
-use Rattle.shelf.specs.Rules.{is_for, has_place}
+use Rattle.shelf.specs.Rules.{is_for, has_place, waits}
 use Rattle.shelf.specs.Steps.{no_waiting, Laid, without}
 use Rattle.admission.specs.Admission.{admission, admitted}
 use Rattle.campaigns.specs.Passes.{waits_on, outcome}
-use Rattle.campaigns.specs.Arriving.{Arrived, shelved}
+use Rattle.campaigns.specs.Arriving.{waiting_last}
 use Rattle.campaigns.specs.declared.Pass.{Pass}
 
 -- what `shelve` asks of a caller: the shelf is the layout of what waits, and the block fits into an entry
@@ -17,9 +19,13 @@ pub record Shelvable (s b : Bytes) : Type 0 where
   pub laid : Laid s (waiting_in s)
   pub short : length b ≤ max_block_size
 
--- what `shelve` answers and what waits after it; it has no table, and [] stands for one
-abbrev pub shelved_at : Answer → Bytes → ℕ → Bytes → Arrived
-shelved_at a s c b = shelved (has_place c (waiting_in s)) a [] (waiting_in s) c b
+-- what the shelf says to the block of an arrival that got 9
+abbrev pub shelving : Bytes → ℕ → Bytes → Result Unit Refusal
+shelving s c b = cond (waits c b (waiting_in s)) (Err Waits) (cond (has_place c (waiting_in s)) (Ok tt) (Err ShelfFull))
+
+-- and what waits then
+abbrev pub waiting_then : Bytes → ℕ → Bytes → List Waiting
+waiting_then s c b = cond (waits c b (waiting_in s)) (waiting_in s) (cond (has_place c (waiting_in s)) (waiting_last (waiting_in s) c b) (waiting_in s))
 
 -- what a pass asks of a caller: the shelf is the layout of what waits, and so few blocks have ended that the count of those that end cannot overflow
 pub record Passable (s : Bytes) (ended : ℕ) : Type 0 where

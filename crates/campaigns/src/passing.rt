@@ -2,69 +2,73 @@
 ghost use Rattle.std.specs.Prelude.{◌≡◌, ◌+◌, length};
 ghost use Rattle.sha256.specs.Sha256.{sha256};
 ghost use Rattle.answer.specs.Buffer.{put_answers};
+ghost use Rattle.answer.specs.Refusals.{answer_of};
 ghost use Rattle.shelf.specs.Layout.{waiting_in, shelf_bytes};
-ghost use Rattle.campaigns.specs.Passes.{outcome, outcomes_of, admits, pass};
+ghost use Rattle.campaigns.specs.Passes.{waits_on, outcome, outcomes_of, admits, pass};
 ghost use Rattle.campaigns.specs.Steps.{Passable, AtEntry, turned};
 
 use crate::Pass;
-use answer::Answer;
+use answer::{Answer, Refusal};
+use shelf::ShelfBytes;
+
+// Whether a block that was tried waits on: a reference of it is not held.
+pub fn waits_on(tried: Result<usize, Refusal>) -> bool
+    ensures { result ≡ waits_on (answer_of tried) }
+{
+    matches!(tried, Err(Refusal::NotHeld(_)))
+}
 
 // The outcome of a try: the place of a block that was let in, or the refusal's number, with value 0, of a block that was dropped.
-fn outcome_of(answer: Answer) -> Answer
-    ensures { result ≡ outcome answer }
+fn outcome_of(tried: Result<usize, Refusal>) -> Answer
+    ensures { result ≡ outcome (answer_of tried) }
 {
-    if answer.refusal == 0 {
-        return answer;
+    match tried {
+        Ok(place) => Answer {
+            refusal: 0,
+            value: place,
+        },
+        Err(refusal) => Answer {
+            refusal: refusal.number(),
+            value: 0,
+        },
     }
-    answer::refused(answer.refusal, 0)
 }
 
 // Tries the block of the entry at which the pass stands, if it waits for the campaign. A block that is let in or dropped is taken off the shelf.
-fn turn(table: &mut [u8], shelf: &mut [u8], campaign: u8, outcomes: &mut [u64], p: Pass) -> Pass
+fn turn(
+    table: &mut [u8],
+    shelf: &mut ShelfBytes,
+    campaign: u8,
+    outcomes: &mut [u64],
+    p: Pass,
+) -> Pass
     requires { AtEntry shelf.old p }
     ensures value { result ≡ (turned sha256 table.old (waiting_in shelf.old) outcomes.old campaign p).next }
     ensures table_after { table.new ≡ (turned sha256 table.old (waiting_in shelf.old) outcomes.old campaign p).table }
     ensures shelf_after { shelf.new ≡ shelf_bytes (turned sha256 table.old (waiting_in shelf.old) outcomes.old campaign p).waiting }
     ensures outcomes_after { outcomes.new ≡ (turned sha256 table.old (waiting_in shelf.old) outcomes.old campaign p).outcomes }
 {
-    let at = p.at;
-    let admitted = p.admitted;
-    let ended = p.ended;
-    if shelf::entries::campaign_at(shelf, at) != campaign {
-        return Pass {
-            at: at + 1,
-            admitted,
-            ended,
-        };
+    let next = Pass { at: p.at + 1, ..p };
+    if shelf::entries::campaign_at(shelf, p.at) != campaign {
+        return next;
     }
-    let answer = admission::admit(table, shelf::entries::block_at(shelf, at), 1);
-    if answer.refusal == 9 {
-        return Pass {
-            at: at + 1,
-            admitted,
-            ended,
-        };
+    let tried = admission::admit(table, shelf::entries::block_at(shelf, p.at), 1);
+    if waits_on(tried) {
+        return next;
     }
-    shelf::take_out(shelf, at);
-    answer::put_answer(outcomes, ended, outcome_of(answer));
-    if answer.refusal == 0 {
-        return Pass {
-            at,
-            admitted: true,
-            ended: ended + 1,
-        };
-    }
+    shelf::take_out(shelf, p.at);
+    answer::put_answer(outcomes, p.ended, outcome_of(tried));
     Pass {
-        at,
-        admitted,
-        ended: ended + 1,
+        admitted: p.admitted || tried.is_ok(),
+        ended: p.ended + 1,
+        ..p
     }
 }
 
 // Tries every waiting block of the campaign once, in the order they came. `ended` blocks have been let in or dropped before.
 pub fn pass_over(
     table: &mut [u8],
-    shelf: &mut [u8],
+    shelf: &mut ShelfBytes,
     campaign: u8,
     outcomes: &mut [u64],
     ended: usize,
@@ -81,11 +85,9 @@ pub fn pass_over(
         admitted: false,
         ended,
     };
-    let mut at = 0;
-    while at < shelf::entries::count_of(shelf) {
-        let next = turn(table, shelf, campaign, outcomes, p);
-        p = next;
-        at = p.at;
+    // An entry that is taken out leaves the next one in its place, so the turns are no count over a range.
+    while p.at < shelf::entries::count_of(shelf) {
+        p = turn(table, shelf, campaign, outcomes, p);
     }
     p
 }

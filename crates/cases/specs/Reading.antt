@@ -5,14 +5,14 @@ use Rattle.base.specs.List.{list_below}
 use Rattle.answer.specs.declared.Answer.{Answer}
 use Rattle.answer.specs.Checks.{success, refused}
 use Rattle.block.specs.Limits.{max_references, max_requests, max_request_list_size, max_block_size}
-use Rattle.block.specs.Reading.{reading, answer_of}
+use Rattle.block.specs.Reading.{reading, read_answer}
 use Rattle.block.specs.declared.Request.{Request}
 use Rattle.cases.specs.Toy.{toy, request, block}
 use Rattle.cases.specs.Blocks.{first, numbered, fully_referring}
 
 -- what reading answers
 abbrev pub read : Bytes → Answer
-read b = answer_of (reading b)
+read b = read_answer (reading b)
 
 -- requests of number 1 in these slots
 abbrev pub in_slots : List ℕ → List Request

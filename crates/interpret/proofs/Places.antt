@@ -23,9 +23,6 @@ use Rattle.interpret.specs.Steps.{referred_by, InterpretableSlot, PlaceList, dir
 -- ---- how many they are
 
 module _ (f : ℕ → Bool) where
-  pub passing_few : (j k most : ℕ) → j ≤ k → count_below f k ≤ most → length (passing_below f j) ≤ most
-  passing_few j k most h l = omega (arith, passing_length f j, count_grows f j k h)
-
   -- there is room for one more
   pub room : (j k most : ℕ) → j < k → f j ≡ true → count_below f k ≤ most → length (passing_below f j) < most
   room j k most h y l = omega (arith, passing_length f j, count_here f j y, count_grows f (j + 1) k (omega arith))
@@ -63,11 +60,9 @@ pub place_listed : (t : Bytes) (i : ℕ) (places : List ℕ) → places ≡ refe
     → (get_or places k 0 < i) × ((row_at t i).refers_to (get_or places k 0) ≡ true)
 place_listed t i places e k h = passing_from (row_at t i).refers_to i _ (rw (← e) (at_member places k 0 h))
 
-pub listed : (t : Bytes) (i : ℕ) (places buffer : List ℕ) (slot : ℕ) → InterpretableSlot t i places buffer slot → PlaceList t places buffer slot
-listed t i places buffer slot r =
+pub listed : (t : Bytes) (i : ℕ) (places : List ℕ) (slot : ℕ) → InterpretableSlot t i places slot → PlaceList t places slot
+listed t i places slot r =
     record {
-      size = r.ready.size;
-      numbers = r.ready.numbers;
       few = r.ready.few;
       below = r.below;
       held = λ k h. omega (arith, (place_listed t i places r.listed k h).0, r.ready.place);

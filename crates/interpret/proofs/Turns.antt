@@ -6,7 +6,9 @@ use Prim.Native.Nat.{ℕ, zero, suc, ◌+◌, ◌≤◌, ◌<◌}
 use native.Mathlib.Numerals.{add-one}
 use native.Mathlib.Omega.{arith}
 use lib.ListN.{get_or, set}
-use borrow.Author.Tests.{eq-eqb, ne_eqb, lt-ltb}
+use borrow.Author.Tests.{eq-eqb, ne_eqb}
+use Rattle.std.specs.Prelude.{IfSome}
+use Rattle.std.specs.declared.option.Option.TheVariants.{Some}
 use Rattle.base.proofs.List.{list_at, set_list}
 use Rattle.setup.specs.Setup.{max_sites}
 use Rattle.broadcast.specs.declared.Kind.{Kind}
@@ -14,7 +16,7 @@ use Rattle.broadcast.specs.declared.Kind.TheVariants.{Send, Echo, Ready}
 use Rattle.broadcast.specs.declared.SlotRecord.{SlotRecord}
 use Rattle.broadcast.specs.Process.{made_of, received, receive_all}
 use Rattle.broadcast.proofs.Steps.{Sized, nothing_heard, receive_all_append, receive_all_sized}
-use Rattle.table.specs.View.{max_places, Row, View}
+use Rattle.table.specs.View.{Row, View}
 use Rattle.table.specs.Rules.{parent_row}
 use Rattle.interpret.specs.Slot.{Direct, parent_state, messages_of, messages}
 use Rattle.interpret.specs.Interpretation.{direct_at}
@@ -24,7 +26,7 @@ use Rattle.interpret.proofs.Lowest.{hear_sender}
 -- ---- the parent
 
 module _ (v : View) (r : Row) (places : List ℕ) (k : ℕ) where
-  pub parent_in : (j : ℕ) → j ≡ get_or places k 0 → parent_row r (v.row j) ≡ true → j ≡ parent_first v r places (k + 1)
+  pub parent_in : (j : ℕ) → j ≡ get_or places k 0 → parent_row r (v.row j) ≡ true → Some j ≡ parent_first v r places (k + 1)
   unfolding parent_first
   parent_in j e y = rw (add-one k, ← e, y)
 
@@ -32,18 +34,29 @@ module _ (v : View) (r : Row) (places : List ℕ) (k : ℕ) where
   unfolding parent_first
   parent_out j e n = rw (add-one k, ← e, n)
 
+-- the parent is a place of the list
+pub parent_listed : (P : ℕ → Type 0) (v : View) (r : Row) (places : List ℕ) (k : ℕ) → ((i : ℕ) → i < k → P (get_or places i 0))
+    → IfSome (parent_first v r places k) P
+unfolding parent_first
+parent_listed P v r places zero h = tt
+parent_listed P v r places (suc k) h = go (parent_row r (v.row (get_or places k 0))) (parent_listed P v r places k (λ i l. h i (omega arith)))
+  where
+    go : (t : Bool) → IfSome (parent_first v r places k) P → IfSome (cond t (Some (get_or places k 0)) (parent_first v r places k)) P
+    go true ih = h k (omega arith)
+    go false ih = ih
+
 -- the parent's record
-pub parent_state_lem : (v : View) (b : List ℕ) (slot : ℕ) (r : Row) (places : List ℕ) (k : ℕ) → ((i : ℕ) → i < k → get_or places i 0 < max_places)
+pub parent_state_lem : (v : View) (b : List ℕ) (slot : ℕ) (r : Row) (places : List ℕ) (k : ℕ)
     → parent_state r.site r.sequence (directs_first v b slot places k) ≡ state_at b slot (parent_first v r places k)
 unfolding parent_state directs_first parent_first state_at
-parent_state_lem v b slot r places zero h = refl
-parent_state_lem v b slot r places (suc k) h = go (parent_row r (v.row (get_or places k 0))) refl (parent_state_lem v b slot r places k (λ i l. h i (omega arith)))
+parent_state_lem v b slot r places zero = refl
+parent_state_lem v b slot r places (suc k) = go (parent_row r (v.row (get_or places k 0))) refl (parent_state_lem v b slot r places k)
   where
     go : (t : Bool) → parent_row r (v.row (get_or places k 0)) ≡ t
         → parent_state r.site r.sequence (directs_first v b slot places k) ≡ state_at b slot (parent_first v r places k)
         → parent_state r.site r.sequence (direct_at v b slot (get_or places k 0) ∷ directs_first v b slot places k)
-        ≡ state_at b slot (cond t (get_or places k 0) (parent_first v r places k))
-    go true e ih = rw (e, lt-ltb (get_or places k 0) max_places (h k (omega arith)))
+        ≡ state_at b slot (cond t (Some (get_or places k 0)) (parent_first v r places k))
+    go true e ih = rw e
     go false e ih = rw e ih
 
 -- ---- the lowest numbers of a kind, with one block more

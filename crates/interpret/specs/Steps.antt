@@ -1,5 +1,5 @@
 -- What the contracts of inner functions cite: what an entry point has tested. Nothing here need be believed.
-use Rattle.std.specs.Prelude.{◌≡◌, cond, List, [], ◌∷◌, ℕ, zero, suc, ◌≤◌, ◌<◌, eqb, ltb, length, get_or}
+use Rattle.std.specs.Prelude.{◌≡◌, cond, List, [], ◌∷◌, ℕ, zero, suc, ◌≤◌, ◌<◌, eqb, ltb, length, get_or, Option, Some, None}
 use Rattle.base.specs.Count.{count_below}
 use Rattle.base.specs.List.{list_below, passing_below}
 use Rattle.base.specs.Bytes.{Bytes}
@@ -10,17 +10,15 @@ use Rattle.broadcast.specs.declared.SlotRecord.{SlotRecord}
 use Rattle.broadcast.specs.Record.{blank}
 use Rattle.broadcast.specs.Process.{made_of, received, receive_all}
 use Rattle.table.specs.View.{max_places, Row, View}
-use Rattle.table.specs.Layout.{table_size, setup_of, site_at, row_at, view_of}
+use Rattle.table.specs.Layout.{setup_of, site_at, row_at, view_of}
 use Rattle.table.specs.Rules.{parent_row}
-use Rattle.records.specs.Layout.{buffer_size, record_in}
+use Rattle.records.specs.Layout.{record_in}
 use Rattle.interpret.specs.Slot.{Direct, messages}
 use Rattle.interpret.specs.Interpretation.{direct_at}
 
--- a table and a record buffer of the right lengths, a place, sites below 16, and no more than 16 references, so that arrays of sixteen have room
-pub record Interpretable (t : Bytes) (i : ℕ) (buffer : List ℕ) : Type 0 where
-  pub size : length t ≡ table_size
+-- a place, sites below 16, and no more than 16 references, so that arrays of sixteen have room
+pub record Interpretable (t : Bytes) (i : ℕ) : Type 0 where
   pub place : i < max_places
-  pub numbers : length buffer ≡ buffer_size
   pub few : (setup_of t).sites ≤ max_sites
   pub sites : (j : ℕ) → j < i → site_at t j < max_sites
   pub few_references : count_below (row_at t i).refers_to max_places ≤ max_references
@@ -30,15 +28,13 @@ abbrev pub referred_by : Bytes → ℕ → List ℕ
 referred_by t i = passing_below (row_at t i).refers_to i
 
 -- what Interpretable asks, with the list of the places that place i refers to, and a slot
-pub record InterpretableSlot (t : Bytes) (i : ℕ) (places buffer : List ℕ) (slot : ℕ) : Type 0 where
-  pub ready : Interpretable t i buffer
+pub record InterpretableSlot (t : Bytes) (i : ℕ) (places : List ℕ) (slot : ℕ) : Type 0 where
+  pub ready : Interpretable t i
   pub listed : places ≡ referred_by t i
   pub below : slot < slot_count
 
--- a table and a record buffer of the right lengths, a slot, and a list of places that hold blocks of sites below 16
-pub record PlaceList (t : Bytes) (places buffer : List ℕ) (slot : ℕ) : Type 0 where
-  pub size : length t ≡ table_size
-  pub numbers : length buffer ≡ buffer_size
+-- a slot, and a list of places that hold blocks of sites below 16
+pub record PlaceList (t : Bytes) (places : List ℕ) (slot : ℕ) : Type 0 where
   pub few : (setup_of t).sites ≤ max_sites
   pub below : slot < slot_count
   pub held : (k : ℕ) → k < length places → get_or places k 0 < max_places
@@ -79,15 +75,16 @@ heard_from n owner k low (suc p) r = received (heard_from n owner k low p r) n o
 abbrev pub heard_all : Bytes → List ℕ → List ℕ → ℕ → SlotRecord → SlotRecord
 heard_all t places buffer slot r = receive_all (setup_of t).sites (owner_of (setup_of t) slot) (messages (setup_of t).sites (directs_of t places buffer slot)) r
 
--- the last of the first k places of a list whose block is a parent for the row r, max_places if there is none
-unfoldable pub parent_first : View → Row → List ℕ → ℕ → ℕ
-parent_first v r places zero = max_places
-parent_first v r places (suc k) = cond (parent_row r (v.row (get_or places k 0))) (get_or places k 0) (parent_first v r places k)
+-- the last of the first k places of a list whose block is a parent for the row r, if there is one
+unfoldable pub parent_first : View → Row → List ℕ → ℕ → Option ℕ
+parent_first v r places zero = None
+parent_first v r places (suc k) = cond (parent_row r (v.row (get_or places k 0))) (Some (get_or places k 0)) (parent_first v r places k)
 
--- the last place of a list whose block is a parent for place i, max_places if there is none
-abbrev pub parent_of : Bytes → ℕ → List ℕ → ℕ
+-- the last place of a list whose block is a parent for place i, if there is one
+abbrev pub parent_of : Bytes → ℕ → List ℕ → Option ℕ
 parent_of t i places = parent_first (view_of t) (row_at t i) places (length places)
 
 -- the record of a slot at the parent's place, the blank record where there is no parent
-unfoldable pub state_at : List ℕ → ℕ → ℕ → SlotRecord
-state_at buffer slot i = cond (ltb i max_places) (record_in buffer i slot) blank
+unfoldable pub state_at : List ℕ → ℕ → Option ℕ → SlotRecord
+state_at buffer slot (Some i) = record_in buffer i slot
+state_at buffer slot None = blank

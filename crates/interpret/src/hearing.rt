@@ -5,11 +5,25 @@ ghost use Rattle.broadcast.specs.declared.Kind.TheVariants.{Send, Echo, Ready};
 ghost use Rattle.interpret.specs.Steps.{PlaceList, least_of, lowest_of, heard_from, heard_all};
 
 use broadcast::{Kind, SlotRecord};
+use records::RecordBuffer;
 use setup::MAX_SITES;
-use table::rows;
+use table::{TableBytes, rows};
+
+// The lower of two numbers, where 0 is none: a record holds plain numbers (broadcast/specs/Record.antt), of which an Option would have to be made here.
+fn least(v: u16, w: u16) -> u16
+    ensures { result ≡ least_of v w }
+{
+    if v == 0 {
+        w
+    } else if w == 0 {
+        v
+    } else {
+        v.min(w)
+    }
+}
 
 // For each site, the lowest number of each kind that was made in its blocks, 0 if there is none. A higher number has no effect: of a sender's
-// messages of one kind only the first counts.
+// messages of one kind only the first counts. One pass fills the three lists; a pass for each kind takes more than twice the time.
 #[derive(Clone, Copy)]
 struct Lowest {
     sends: [u16; MAX_SITES],
@@ -17,81 +31,64 @@ struct Lowest {
     readies: [u16; MAX_SITES],
 }
 
-// The lower of two numbers, where 0 is none.
-fn least(v: u16, w: u16) -> u16
-    ensures { result ≡ least_of v w }
-{
-    if v == 0 {
-        return w;
-    }
-    if w == 0 {
-        return v;
-    }
-    if v < w { v } else { w }
-}
-
-// For each site, the lowest number of each kind that was made in its blocks at a list of places.
-fn lowest_of(table: &[u8], places: &[u8], records: &[u16], slot: usize) -> Lowest
-    requires { PlaceList table.now places.now records.now slot }
-    ensures sends_value { result.sends ≡ lowest_of table.now places.now records.now slot Send }
-    ensures echoes_value { result.echoes ≡ lowest_of table.now places.now records.now slot Echo }
-    ensures readies_value { result.readies ≡ lowest_of table.now places.now records.now slot Ready }
-{
-    let mut sends = [0u16; MAX_SITES];
-    let mut echoes = [0u16; MAX_SITES];
-    let mut readies = [0u16; MAX_SITES];
-    let mut k = 0;
-    while k < places.len() {
-        let j = base::wide(places[k]);
-        let p = base::wide(rows::site_at(table, j));
-        let made = records::made_in(records, j, slot);
-        sends[p] = least(made.send, sends[p]);
-        echoes[p] = least(made.echo, echoes[p]);
-        readies[p] = least(made.ready, readies[p]);
-        k += 1;
-    }
-    Lowest {
-        sends,
-        echoes,
-        readies,
-    }
-}
-
 // The record after one message of this kind from each site whose number in `low` is not 0, lower senders first.
-fn hear(state: SlotRecord, n: u8, owner: u8, kind: Kind, low: [u16; MAX_SITES]) -> SlotRecord
+fn hear(state: SlotRecord, n: u8, owner: u8, kind: Kind, low: &[u16; MAX_SITES]) -> SlotRecord
     requires { n ≤ max_sites }
-    ensures { result ≡ heard_from n owner kind low n state }
+    ensures { result ≡ heard_from n owner kind low.now n state }
 {
-    let mut s = state;
-    let mut p: u8 = 0;
-    while p < n {
-        let number = low[base::wide(p)];
+    let mut heard = state;
+    for p in 0..n {
+        let number = low[usize::from(p)];
         if number != 0 {
-            s = broadcast::after(s, n, owner, kind, p, number);
+            broadcast::receive(&mut heard, n, owner, kind, p, number);
         }
-        p += 1;
     }
-    s
+    heard
 }
 
-// The record after all messages made in the blocks of a list of places: SENDs before ECHOs before READYs.
-pub fn hear_all(
-    state: SlotRecord,
-    table: &[u8],
-    places: &[u8],
-    records: &[u16],
-    slot: usize,
-) -> SlotRecord
-    requires { PlaceList table.now places.now records.now slot }
-    ensures { result ≡ heard_all table.now places.now records.now slot state }
-{
-    let low = lowest_of(table, places, records, slot);
-    let n = rows::sites_of(table);
-    let owner = rows::owner_of(table, slot);
-    let sends = low.sends;
-    let echoes = low.echoes;
-    let readies = low.readies;
-    let sent = hear(state, n, owner, Kind::Send, sends);
-    let echoed = hear(sent, n, owner, Kind::Echo, echoes);
-    hear(echoed, n, owner, Kind::Ready, readies)
+// The blocks at a list of places, with their records in a slot.
+#[derive(Clone, Copy)]
+pub struct HeldBlocks<'a> {
+    pub table: &'a TableBytes,
+    pub places: &'a [u8],
+    pub records: &'a RecordBuffer,
+    pub slot: usize,
+}
+
+impl HeldBlocks<'_> {
+    // For each site, the lowest number of each kind that was made in its blocks.
+    fn lowest(self) -> Lowest
+        requires { PlaceList self.table.now self.places.now self.slot }
+        ensures sends_value { result.sends ≡ lowest_of self.entry.table.now self.entry.places.now self.entry.records.now self.entry.slot Send }
+        ensures echoes_value { result.echoes ≡ lowest_of self.entry.table.now self.entry.places.now self.entry.records.now self.entry.slot Echo }
+        ensures readies_value { result.readies ≡ lowest_of self.entry.table.now self.entry.places.now self.entry.records.now self.entry.slot Ready }
+    {
+        let mut low = Lowest {
+            sends: [0; MAX_SITES],
+            echoes: [0; MAX_SITES],
+            readies: [0; MAX_SITES],
+        };
+        for place in self.places {
+            let j = usize::from(*place);
+            let site = usize::from(rows::site_at(self.table, j));
+            let made = records::made_in(self.records, j, self.slot);
+            low.sends[site] = least(made.send, low.sends[site]);
+            low.echoes[site] = least(made.echo, low.echoes[site]);
+            low.readies[site] = least(made.ready, low.readies[site]);
+        }
+        low
+    }
+
+    // The record after all messages made in the blocks: SENDs before ECHOs before READYs.
+    pub fn hear_all(self, state: SlotRecord) -> SlotRecord
+        requires { PlaceList self.table.now self.places.now self.slot }
+        ensures { result ≡ heard_all self.entry.table.now self.entry.places.now self.entry.records.now self.entry.slot state }
+    {
+        let low = self.lowest();
+        let n = rows::sites_of(self.table);
+        let owner = rows::owner_of(self.table, self.slot);
+        let sent = hear(state, n, owner, Kind::Send, &low.sends);
+        let echoed = hear(sent, n, owner, Kind::Echo, &low.echoes);
+        hear(echoed, n, owner, Kind::Ready, &low.readies)
+    }
 }

@@ -6,7 +6,8 @@
 
 mod hearing;
 
-ghost use Rattle.std.specs.Prelude.{◌≡◌, ◌≤◌, ◌<◌, length, take};
+ghost use Rattle.std.specs.Prelude.{◌≡◌, ◌≤◌, ◌<◌, length, IfSome};
+ghost use Rattle.answer.specs.Refusals.{done_of};
 ghost use Rattle.base.specs.Count.{count_below};
 ghost use Rattle.base.specs.Mask.{in_mask};
 ghost use Rattle.base.specs.List.{passing_below};
@@ -15,80 +16,74 @@ ghost use Rattle.block.specs.Limits.{max_references};
 ghost use Rattle.broadcast.specs.Record.{nothing_made};
 ghost use Rattle.table.specs.View.{max_places};
 ghost use Rattle.table.specs.Layout.{setup_of, references_at, view_of};
-ghost use Rattle.table.specs.Steps.{Place};
-ghost use Rattle.records.specs.Layout.{buffer_size};
 ghost use Rattle.interpret.specs.Interpretation.{record_for, written, interpretation, marked, recorded};
 ghost use Rattle.interpret.specs.Steps.{referred_by, Interpretable, InterpretableSlot, parent_of, state_at};
 
-use answer::Answer;
+use answer::Refusal;
 use block::MAX_REFERENCES;
 use broadcast::SlotRecord;
-use records::{BUFFER_SIZE, PART_SIZE};
+use hearing::HeldBlocks;
+use records::{PART_SIZE, RecordBuffer};
 use setup::SLOTS;
-use table::{MAX_PLACES, rows, rules};
+use table::{TableBytes, rows, rules};
 
-// Puts the places that are in the mask and below `place` to the front of the list, lower places first, and answers how many they are.
-fn list_places(references: u64, place: usize, list: &mut [u8]) -> usize
+// Puts the places that are in the mask and below `place` to the front of the list, lower places first, and hands out that front.
+fn list_places(references: u64, place: usize, list: &mut [u8]) -> &[u8]
     requires { (place ≤ max_places) × (length list.old ≡ max_references) × (count_below (in_mask references) max_places ≤ max_references) }
-    ensures upper_bound { result ≤ max_references }
-    ensures list_after { take result list.new ≡ passing_below (in_mask references) place }
+    ensures { result.now ≡ passing_below (in_mask references) place }
 {
     let mut count = 0;
-    let mut j = 0;
-    while j < place {
+    for j in 0..place {
         if base::in_mask(references, j) {
             list[count] = j as u8;
             count += 1;
         }
-        j += 1;
     }
-    count
+    &list[..count]
 }
 
-// The last place of the list that holds the parent of the block at `place`, or MAX_PLACES if there is none.
-fn parent_of(table: &[u8], place: usize, references: u64, places: &[u8]) -> usize
-    requires { Place table.now place × (references ≡ references_at table.now place) × (places.now ≡ referred_by table.now place) }
+// The last place of the list that holds the parent of the block at `place`, if one does.
+fn parent_of(table: &TableBytes, place: usize, references: u64, places: &[u8]) -> Option<usize>
+    requires { (place < max_places) × (references ≡ references_at table.now place) × (places.now ≡ referred_by table.now place) }
     ensures { result ≡ parent_of table.now place places.now }
 {
     let site = rows::site_at(table, place);
     let sequence = rows::sequence_at(table, place);
-    let mut parent = MAX_PLACES;
-    let mut k = 0;
-    while k < places.len() {
-        let j = base::wide(places[k]);
+    let mut parent = None;
+    for listed in places {
+        let j = usize::from(*listed);
         if rules::refers_to_parent(table, j, references, site, sequence) {
-            parent = j;
+            parent = Some(j);
         }
-        k += 1;
     }
     parent
 }
 
 // How a block starts in a slot: the record at the parent's place, or a blank record without a parent, with nothing made.
-fn start_of(records: &[u16], parent: usize, slot: usize) -> SlotRecord
-    requires { (length records.now ≡ buffer_size) × (slot < slot_count) }
+fn start_of(records: &RecordBuffer, parent: Option<usize>, slot: usize) -> SlotRecord
+    requires { IfSome parent (λ i. i < max_places) × (slot < slot_count) }
     ensures { result ≡ nothing_made (state_at records.now slot parent) }
 {
     let blank = broadcast::blank();
-    if MAX_PLACES <= parent {
-        return blank;
+    match parent {
+        Some(place) => SlotRecord {
+            made: blank.made,
+            ..records::record_in(records, place, slot)
+        },
+        None => blank,
     }
-    let mut s = records::record_in(records, parent, slot);
-    let none = blank.made;
-    s.made = none;
-    s
 }
 
 // The record of a place in a slot: the parent's record with nothing made, then the request, then the messages.
 fn slot_record(
-    table: &[u8],
+    table: &TableBytes,
     place: usize,
     places: &[u8],
-    parent: usize,
-    records: &[u16],
+    parent: Option<usize>,
+    records: &RecordBuffer,
     slot: usize,
 ) -> SlotRecord
-    requires { InterpretableSlot table.now place places.now records.now slot × (parent ≡ parent_of table.now place places.now) }
+    requires { InterpretableSlot table.now place places.now slot × (parent ≡ parent_of table.now place places.now) }
     ensures { result ≡ record_for (setup_of table.now) (view_of table.now) records.now place slot }
 {
     let site = rows::site_at(table, place);
@@ -96,52 +91,56 @@ fn slot_record(
     let number = rows::request_at(table, place, slot);
     let start = start_of(records, parent, slot);
     let asked = broadcast::take_request(start, owner, site, number);
-    hearing::hear_all(asked, table, places, records, slot)
+    let referred = HeldBlocks {
+        table,
+        places,
+        records,
+        slot,
+    };
+    referred.hear_all(asked)
 }
 
 // The 320 numbers of a place: its eight records, slot after slot.
-fn place_records(table: &[u8], place: usize, records: &[u16]) -> [u16; PART_SIZE]
-    requires { Interpretable table.now place records.now }
+fn place_records(table: &TableBytes, place: usize, records: &RecordBuffer) -> [u16; PART_SIZE]
+    requires { Interpretable table.now place }
     ensures { result ≡ written (setup_of table.now) (view_of table.now) records.now place }
 {
     let references = rows::references_at(table, place);
     let mut list = [0u8; MAX_REFERENCES];
-    let count = list_places(references, place, &mut list);
-    let parent = parent_of(table, place, references, &list[..count]);
+    let places = list_places(references, place, &mut list);
+    let parent = parent_of(table, place, references, places);
     let mut out = [0u16; PART_SIZE];
-    let mut slot = 0;
-    while slot < SLOTS {
-        let state = slot_record(table, place, &list[..count], parent, records, slot);
+    for slot in 0..SLOTS {
+        let state = slot_record(table, place, places, parent, records, slot);
         records::put_record(&mut out, slot, state);
-        slot += 1;
     }
     out
 }
 
 // Writes the records of a place and marks the place interpreted. Refuses in the order of document 01; a refusal changes nothing.
-pub fn interpret(table: &mut [u8], place: usize, records: &mut [u16]) -> Answer
-    ensures value { result ≡ interpretation table.old records.old place }
+pub fn interpret(table: &mut [u8], place: usize, records: &mut [u16]) -> Result<(), Refusal>
+    ensures value { done_of result ≡ interpretation table.old records.old place }
     ensures table_after { table.new ≡ marked table.old records.old place }
     ensures records_after { records.new ≡ recorded table.old records.old place }
 {
-    if !table::in_form(table) {
-        return answer::refused(2, 0);
-    }
-    if records.len() != BUFFER_SIZE {
-        return answer::refused(12, 0);
-    }
+    let Some(table) = table::formed_mut(table) else {
+        return Err(Refusal::OutOfForm);
+    };
+    let Some(records) = records.as_mut_array() else {
+        return Err(Refusal::RecordsSize);
+    };
     if rows::count_of(table) <= place {
-        return answer::refused(13, 0);
+        return Err(Refusal::UnknownPlace);
     }
     if rows::mark_at(table, place) == 1 {
-        return answer::refused(14, 0);
+        return Err(Refusal::Interpreted);
     }
-    let missing = rules::first_uninterpreted(table, place, rows::references_at(table, place));
-    if missing < place {
-        return answer::refused(15, missing);
+    let references = rows::references_at(table, place);
+    if let Some(missing) = rules::first_uninterpreted(table, place, references) {
+        return Err(Refusal::Uninterpreted(missing));
     }
     let part = place_records(table, place, records);
     records::put_part(records, place, &part);
     table::writing::set_mark(table, place);
-    answer::success(0)
+    Ok(())
 }

@@ -9,7 +9,7 @@ use lib.ListN.{length}
 use borrow.Author.Tests.{eq-eqb, ne_eqb, leb-true, not-true}
 use Rattle.base.specs.Bytes.{Bytes}
 use Rattle.base.proofs.Tests.{by_test}
-use Rattle.answer.proofs.Checks.{number_of}
+use Rattle.answer.proofs.Checks.{number_of, first_holds}
 use Rattle.answer.specs.declared.Answer.{Answer}
 use Rattle.answer.specs.Checks.{answer_to}
 use Rattle.answer.specs.Promises.{elsewhere, different}
@@ -19,8 +19,8 @@ use Rattle.table.specs.Layout.{setup_of, view_of}
 use Rattle.table.specs.Form.{in_form}
 use Rattle.records.specs.Layout.{buffer_size}
 use Rattle.join.specs.Join.{neither_retired, same_setup, joined_count, join_answer, joined_table, joined_records, joined, copied}
-use Rattle.join.specs.Promises.{BothFormed, OneSetup}
-use Rattle.join.specs.Steps.{sides_checks, blocks_checks, blocks_answer, blocks_table, blocks_records, JoinableSides}
+use Rattle.join.specs.Promises.{BothFormed, BuffersSized, OneSetup}
+use Rattle.join.specs.Steps.{sides_checks, later_checks, tables_checks, blocks_checks, blocks_answer, blocks_table, blocks_records, SameSetup, Joinable}
 use Rattle.join.proofs.CheckedJoin.{setup_same, formed_both, whole_of, unretired_of}
 
 module _ (left right : Bytes) (left_records right_records third : List ℕ) where
@@ -67,6 +67,16 @@ module _ (left right : Bytes) (left_records right_records third : List ℕ) wher
       let z = ne_eqb answer.refusal 0 (λ o. n (number_of q ∙ o)) in
       (q, (rw z, rw z))
 
+  -- the check of form, and those behind it
+  abbrev later : Answer
+  later = answer_to (later_checks left right (length left_records) (length right_records) (length third)) 0
+
+  sides_later : BothFormed left right → later ≡ sides
+  sides_later f = sym (first_holds _ _ _ (rw (f.left_formed, f.right_formed)))
+
+  pub later_refused : BothFormed left right → (a : Answer) → a ≡ later → a.refusal ≢ 0 → Leaves a left third
+  later_refused f a e n = refused a (e ∙ sides_later f) n
+
   -- ---- they pass
 
   one_setup : sides.refusal ≡ 0 → OneSetup left right left_records right_records third
@@ -78,8 +88,19 @@ module _ (left right : Bytes) (left_records right_records third : List ℕ) wher
         setup = (setup_same (setup_of left) (setup_of right)).0 h.1;
       }
 
-  pub one_setup_of : (a : Answer) → a ≡ sides → a.refusal ≡ 0 → OneSetup left right left_records right_records third
-  one_setup_of a e z = one_setup (number_of (sym e) ∙ z)
+  -- where the lengths are right, those of the two tables
+  module _ (w : BuffersSized left right left_records right_records third) where
+    both : BothFormed left right
+    both = record { left_formed = w.left_formed; right_formed = w.right_formed }
+
+    tables_later : answer_to (tables_checks left right) 0 ≡ later
+    tables_later = sym (first_holds _ _ _ (rw (eq-eqb (length left_records) buffer_size w.left_size, eq-eqb (length right_records) buffer_size w.right_size, eq-eqb (length third) buffer_size w.size)))
+
+    pub tables_refused : (a : Answer) → a ≡ answer_to (tables_checks left right) 0 → a.refusal ≢ 0 → Leaves a left third
+    tables_refused a e n = later_refused both a (e ∙ tables_later) n
+
+    pub one_setup_of : (a : Answer) → a ≡ answer_to (tables_checks left right) 0 → a.refusal ≡ 0 → OneSetup left right left_records right_records third
+    one_setup_of a e y = one_setup (number_of (sym (e ∙ tables_later ∙ sides_later both)) ∙ y)
 
   -- then those of the blocks decide
   blocks_decide : OneSetup left right left_records right_records third → blocks_answer left right ≡ answer
@@ -101,36 +122,28 @@ module _ (left right : Bytes) (left_records right_records third : List ℕ) wher
         ),
       )
 
-  -- ---- the blocks
+  -- what joining the blocks asks
+  pub same_setup_of : OneSetup left right left_records right_records third → SameSetup left right
+  same_setup_of o =
+      let u = o.unretired in
+      record {
+        formed = record { left_formed = u.buffers_sized.left_formed; right_formed = u.buffers_sized.right_formed };
+        left_retired = u.left_retired;
+        right_retired = u.right_retired;
+        setup = o.setup;
+      }
 
-  module _ (o : OneSetup left right left_records right_records third) (a : Answer) (e : a ≡ blocks_answer left right) where
-    pub formed_of_both : BothFormed left right
-    formed_of_both = let w = o.unretired.buffers_sized in record { left_formed = w.left_formed; right_formed = w.right_formed }
+-- ---- the blocks
 
-    pub passed : a.refusal ≡ 0 → JoinableSides left right left_records right_records third
-    unfolding different elsewhere
-    passed z =
-        let h = all_passed (blocks_checks left right) (joined_count (view_of left) (view_of right)) refl (number_of (sym e) ∙ z) in
-        record {
-          joinable = record {
-            formed = formed_of_both;
-            left_retired = o.unretired.left_retired;
-            right_retired = o.unretired.right_retired;
-            setup = o.setup;
-            apart = not-true _ h.0.1;
-            fits = leb-true (joined_count (view_of left) (view_of right)) max_places h.1;
-          };
-          sides = record { formed = formed_of_both; left_size = o.unretired.buffers_sized.left_size; right_size = o.unretired.buffers_sized.right_size };
-          size = o.unretired.buffers_sized.size;
-        }
-
-    abbrev Left : Bytes → List ℕ → Type 0
-    Left t b =
-        (a ≡ blocks_answer left right)
-        × ((t ≡ blocks_table left right) × (b ≡ blocks_records left right left_records right_records third))
-
-    pub as_was : a.refusal ≢ 0 → Left left third
-    as_was n = let z = ne_eqb (blocks_answer left right).refusal 0 (λ q. n (number_of e ∙ q)) in (e, (rw z, rw z))
-
-    pub as_joined : a.refusal ≡ 0 → (t : Bytes) (b : List ℕ) → t ≡ joined_table left right → b ≡ joined_records left right left_records right_records third → Left t b
-    as_joined z t b f g = let y = eq-eqb (blocks_answer left right).refusal 0 (number_of (sym e) ∙ z) in (e, (rw y f, rw y g))
+pub passed : (left right : Bytes) → SameSetup left right → (a : Answer) → a ≡ blocks_answer left right → a.refusal ≡ 0 → Joinable left right
+unfolding different elsewhere
+passed left right o a e z =
+    let h = all_passed (blocks_checks left right) (joined_count (view_of left) (view_of right)) refl (number_of (sym e) ∙ z) in
+    record {
+      formed = o.formed;
+      left_retired = o.left_retired;
+      right_retired = o.right_retired;
+      setup = o.setup;
+      apart = not-true _ h.0.1;
+      fits = leb-true (joined_count (view_of left) (view_of right)) max_places h.1;
+    }

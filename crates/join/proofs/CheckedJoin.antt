@@ -70,7 +70,8 @@ module _ (left right : Bytes) (left_records right_records third : List ℕ) (e :
       let u = unretired_of left right left_records right_records third (whole_of left right left_records right_records third formed h.0.0.0.0.1) h.0.0.0.1 in
       let w = u.buffers_sized in
       record {
-        sides = record { formed = formed; left_size = w.left_size; right_size = w.right_size };
+        left_size = w.left_size;
+        right_size = w.right_size;
         size = w.size;
         joinable = record {
           formed = formed;

@@ -12,10 +12,9 @@ use borrow.Author.Tests.{ltb-true, ltb-false, not-false}
 use Rattle.base.specs.Bytes.{Bytes, splice}
 use Rattle.base.proofs.Tests.{by_test}
 use Rattle.base.proofs.Count.{count_rises}
-use Rattle.base.proofs.Splice.{length_splice}
 use Rattle.table.specs.View.{max_places, View}
 use Rattle.table.specs.Layout.{count_of, digest_at, view_of}
-use Rattle.records.specs.Layout.{part_size, buffer_size, part_start, part_of}
+use Rattle.records.specs.Layout.{part_size, part_start, part_of}
 use Rattle.join.specs.Join.{is_extra, place_in, interpreted_at, handed_back, copied_below}
 use Rattle.join.specs.Promises.{place_behind}
 use Rattle.join.specs.Steps.{Joinable, result_place, extras_below}
@@ -48,9 +47,6 @@ module _ (v w : View) (left right : List ℕ) (i j : ℕ) where
   handed_short = by_test (interpreted_at v i)
       (λ y. rw y (short left i))
       (λ z. by_test (interpreted_at w j) (λ y. rw (z, y) (short right j)) (λ o. rw (z, o) (omega arith)))
-
-  pub copy_length : (x x' : List ℕ) (k : ℕ) → length x ≡ buffer_size → k < max_places → x' ≡ splice x (part_start k) (handed_back v w left right i j) → length x' ≡ buffer_size
-  copy_length x x' k e h q = ap length q ∙ length_splice x (part_start k) (handed_back v w left right i j) (omega (arith, handed_short)) ∙ e
 
 -- ---- one place more
 

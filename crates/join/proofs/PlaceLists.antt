@@ -12,13 +12,9 @@ use Rattle.base.specs.Search.{any_below}
 use Rattle.base.specs.Count.{count_below}
 use Rattle.base.specs.Bytes.{Bytes}
 use Rattle.base.proofs.Tests.{by_test}
-use Rattle.base.proofs.Search.{first_le}
 use Rattle.base.proofs.Count.{count_here, count_past}
 use Rattle.table.specs.View.{max_places}
 use Rattle.table.specs.Layout.{count_of, digest_at, view_of}
-use Rattle.table.specs.Rules.{has_digest, place_of}
-use Rattle.table.specs.Form.{in_form}
-use Rattle.table.proofs.InForm.{table_form}
 use Rattle.join.specs.Join.{is_extra, place_in}
 use Rattle.join.specs.Promises.{place_behind}
 use Rattle.join.specs.Steps.{PlacesFound, result_place}
@@ -38,10 +34,6 @@ held_next table other k v places a h e =
           (λ y. let q : i ≡ k = eqb-true i k y in rw q (get_or-set_same places k v 0 (omega (arith, a.size)) ∙ e))
           (λ n. get_or-set_other places k i v 0 (eqb-false i k n) ∙ a.at i (omega (arith, eqb-false i k n)));
     }
-
--- a place that was looked up is none above the last
-pub found_few : (t : Bytes) → in_form t ≡ true → (d : Bytes) (place : ℕ) → place ≡ place_of (view_of t) (count_of t) d → place ≤ max_places
-found_few t f d place e = omega (arith, first_le (has_digest (view_of t) d) (count_of t), (table_form t f).held.fits)
 
 -- ---- the places in the result
 

@@ -19,7 +19,7 @@ use Rattle.base.proofs.Sets.{mask_has}
 use Rattle.table.specs.View.{max_places, SameRow}
 use Rattle.table.specs.Layout.{count_of, digest_at, references_at, mark_at, view_of, with_row, with_mark}
 use Rattle.table.specs.Rules.{has_digest}
-use Rattle.table.specs.Steps.{Place, Places, row_with}
+use Rattle.table.specs.Steps.{row_with}
 use Rattle.table.proofs.InForm.{table_form, formed_places, formed_row, one_place}
 use Rattle.table.proofs.AddedRow.{put_same}
 use Rattle.join.specs.Join.{refers_by, is_extra, carried, join_place, place_in}
@@ -156,11 +156,11 @@ module _ (t right : Bytes) (j : ℕ) (places : List ℕ) (next : Next t right j 
   place_is_result : get_or places j 0 ≡ result_place left right j
   place_is_result = next.numbered.at j next.below
 
-  pub table_sized : Places t (count_of t)
+  pub table_sized : count_of t ≤ max_places
   table_sized = formed_places t so_far.formed
 
-  pub right_place : Place right j
-  right_place = let f = table_form right both.formed.right_formed in record { size = f.size; place = omega (arith, f.held.fits, next.below) }
+  pub right_place : j < max_places
+  right_place = omega (arith, formed_places right both.formed.right_formed, next.below)
 
   pub each : EachPlaced (references_at right j) places
   each = each_placed left right both j t so_far next.below places next.numbered
@@ -169,8 +169,8 @@ module _ (t right : Bytes) (j : ℕ) (places : List ℕ) (next : Next t right j 
     new : any_below (has_digest (view_of t) (digest_at right j)) (count_of t) ≡ false
     new = is_new_lem left right both j t so_far next.below (omega (arith, place_is_result))
 
-    pub next_place : Place t (count_of t)
-    next_place = record { size = table_sized.size; place = room left right both j next.below t so_far new }
+    pub next_place : count_of t < max_places
+    next_place = room left right both j next.below t so_far new
 
     pub put_is : (t' : Bytes) → t' ≡ with_row t (row_with right j (renumbered_by (references_at right j) places)) → t' ≡ join_place t (view_of right) j
     unfolding join_place

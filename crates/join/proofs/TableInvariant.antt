@@ -528,7 +528,3 @@ module _ (left right : Bytes) (both : Joinable left right) where
   unfolding join_below
   joining zero h = starts
   joining (suc k) h = next k h (join_below left w k) (joining k (omega arith))
-
-  -- they leave the table's length
-  pub below_size : (k : ℕ) → k ≤ m → (t : Bytes) → t ≡ join_below left w k → length t ≡ length left
-  below_size k h t e = ap length e ∙ (table_form _ (joining k h).formed).size ∙ sym (table_form left f).size

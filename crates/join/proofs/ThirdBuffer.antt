@@ -124,9 +124,9 @@ module _ (left right : Bytes) (left_records right_records third : List ℕ) (p :
 
   part_length : (q : ℕ) → q < c → mark_at t q ≡ 1 → length (part q) ≡ part_size
   part_length q h y = elim (source q h) [
-    | inl o ↦ ap length o.is ∙ length_part left_records p.sides.left_size q (omega (arith, few))
+    | inl o ↦ ap length o.is ∙ length_part left_records p.left_size q (omega (arith, few))
     | inr u ↦ elim u [
-      | inl o ↦ ap length o.is ∙ length_part right_records p.sides.right_size o.from (omega (arith, o.below, (table_form right p.joinable.formed.right_formed).held.fits))
+      | inl o ↦ ap length o.is ∙ length_part right_records p.right_size o.from (omega (arith, o.below, (table_form right p.joinable.formed.right_formed).held.fits))
       | inr o ↦ absurd (o.unmarked y)
     ]
   ]

@@ -8,7 +8,7 @@ use native.Mathlib.Nat.{pow-suc}
 use native.Mathlib.Decide.{dec_lt}
 use native.Mathlib.Omega.{arith}
 use lib.Bits.{bit_or, or_lt}
-use lib.Dec.{eqb, lit<}
+use lib.Dec.{eqb}
 use lib.ListN.{get_or}
 use lib.Pow.{pow_mono, pow_pos}
 use Rattle.base.specs.Search.{any_below}
@@ -37,9 +37,6 @@ pub record Marking (references : ℕ) (places : List ℕ) (mask left : ℕ) : Ty
   pub wide : mask < 2 ^ max_places
   pub among : (k : ℕ) → in_mask left k ≡ true → in_mask references k ≡ true
   pub is : (p : ℕ) → p < max_places → (in_mask mask p || some_at left places p) ≡ some_at references places p
-
-pub marking_starts : (references : ℕ) (places : List ℕ) → Marking references places 0 references
-marking_starts references places = record { wide = lit< tt; among = λ k y. y; is = λ p h. rw (not_in 0 p (pow_pos p)) }
 
 pub marking_ends : (references : ℕ) (places : List ℕ) (mask : ℕ) → Marking references places mask 0 → mask ≡ renumbered_by references places
 marking_ends references places mask a =

@@ -16,6 +16,14 @@ use Rattle.join.specs.Promises.{BothFormed, place_behind}
 abbrev pub sides_checks : Bytes → Bytes → ℕ → ℕ → ℕ → List Check
 sides_checks left right left_size right_size size = take 4 (join_checks left right left_size right_size size)
 
+-- those of them that are behind the check of form
+abbrev pub later_checks : Bytes → Bytes → ℕ → ℕ → ℕ → List Check
+later_checks left right left_size right_size size = drop 1 (sides_checks left right left_size right_size size)
+
+-- those of them that read the tables alone: 31 and 23
+abbrev pub tables_checks : Bytes → Bytes → List Check
+tables_checks left right = drop 1 (later_checks left right 0 0 0)
+
 abbrev pub blocks_checks : Bytes → Bytes → List Check
 blocks_checks left right = drop 4 (join_checks left right 0 0 0)
 
@@ -32,11 +40,12 @@ blocks_records left right left_records right_records third =
 
 -- ---- what the checks have shown
 
--- check 2 holds, and check 12 for the two sides' record buffers
-pub record Sides (left right : Bytes) (left_records right_records : List ℕ) : Type 0 where
+-- checks 2, 31 and 23, those of the two tables that read no single block, hold
+pub record SameSetup (left right : Bytes) : Type 0 where
   pub formed : BothFormed left right
-  pub left_size : length left_records ≡ buffer_size
-  pub right_size : length right_records ≡ buffer_size
+  pub left_retired : retired_of left ≡ 0
+  pub right_retired : retired_of right ≡ 0
+  pub setup : setup_of left ≡ setup_of right
 
 -- checks 2, 31, 23, 24 and 25, those of the two tables, hold
 pub record Joinable (left right : Bytes) : Type 0 where
@@ -50,7 +59,8 @@ pub record Joinable (left right : Bytes) : Type 0 where
 -- all checks hold
 pub record JoinableSides (left right : Bytes) (left_records right_records third : List ℕ) : Type 0 where
   pub joinable : Joinable left right
-  pub sides : Sides left right left_records right_records
+  pub left_size : length left_records ≡ buffer_size
+  pub right_size : length right_records ≡ buffer_size
   pub size : length third ≡ buffer_size
 
 -- ---- where blocks stand, as a list of places
@@ -59,6 +69,12 @@ pub record JoinableSides (left right : Bytes) (left_records right_records third 
 pub record PlacesFound (table other : Bytes) (places : List ℕ) : Type 0 where
   pub size : length places ≡ max_places
   pub at : (k : ℕ) → k < count_of other → get_or places k 0 ≡ place_in (view_of table) (digest_at other k)
+
+-- where the blocks of each of two tables stand in the other
+pub record BothFound (left right : Bytes) (in_right in_left : List ℕ) : Type 0 where
+  pub formed : BothFormed left right
+  pub there : PlacesFound right left in_right
+  pub back : PlacesFound left right in_left
 
 -- the place in the result of the block at the right's place j
 abbrev pub result_place : Bytes → Bytes → ℕ → ℕ
@@ -86,9 +102,7 @@ renumbered_by references places = mask_below (λ p. any_below (λ k. in_mask ref
 
 -- place i of the left, place j of the right, and where the blocks of each side stand in the other
 pub record Pair (left : Bytes) (i : ℕ) (right : Bytes) (j : ℕ) (in_right in_left : List ℕ) : Type 0 where
-  pub formed : BothFormed left right
-  pub there : PlacesFound right left in_right
-  pub back : PlacesFound left right in_left
+  pub found : BothFound left right in_right in_left
   pub first : i < count_of left
   pub second : j < count_of right
 

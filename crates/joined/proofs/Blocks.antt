@@ -12,7 +12,7 @@ use Rattle.setup.specs.Setup.{slot_count}
 use Rattle.block.specs.Layout.{site_of, sequence_of, references_of, request_for}
 use Rattle.block.specs.Reading.{reading, fields_of}
 use Rattle.block.specs.Promises.{Shaped}
-use Rattle.block.specs.declared.Reading.TheVariants.{Block}
+use Rattle.std.specs.Prelude.{Ok}
 use Rattle.block.proofs.Acceptance.{reading_accepted}
 use Rattle.table.specs.View.{max_places, View}
 use Rattle.table.specs.Layout.{count_of, digest_at, site_at, sequence_at, counted_request_at, row_at, view_of}
@@ -26,7 +26,7 @@ use Rattle.join.proofs.TableInvariant.{PlaceShows, Carried, TableInvariant}
 use Rattle.join.proofs.ThirdBuffer.{whole}
 use Rattle.run.proofs.SiteInvariant.{Rows}
 
-shaped : (b : Bytes) → reading b ≡ Block (fields_of b) → Shaped b
+shaped : (b : Bytes) → reading b ≡ Ok (fields_of b) → Shaped b
 shaped b e = (reading_accepted b (fields_of b) e).accepted.shape
 
 module _ (digest : Bytes → Bytes) (left right : Bytes) (left_records right_records third : List ℕ) (p : JoinableSides left right left_records right_records third)
@@ -63,7 +63,7 @@ module _ (digest : Bytes → Bytes) (left right : Bytes) (left_records right_rec
     request : (slot : ℕ) → slot < slot_count → counted_request_at t q slot ≡ request_for b slot
     refers : (a : ℕ) → a < c → (row_at t q).refers_to a ≡ lists b (digest_at t a)
     linked : (r : Bytes) → Memᴰ r (references_of b) → (a : ℕ) × (a < c) × (digest_at t a ≡ r)
-    accepted : reading b ≡ Block (fields_of b)
+    accepted : reading b ≡ Ok (fields_of b)
 
   -- a place from which on the block lists nothing, as all that it lists stands below
   beyond : (q : ℕ) (b : Bytes) → q < c → Shaped b → ((r : Bytes) → Memᴰ r (references_of b) → (a : ℕ) × (a < q) × (digest_at t a ≡ r))

@@ -1,19 +1,17 @@
 -- The parts of a buffer one place lower, and what moves them. Assumes nothing.
-use mathlib.Core.Path.{◌≡◌, sym, ap, ap₂, ◌∙◌}
-use mathlib.Core.List.{List, [], ◌∷◌, ◌++◌}
-use Prim.Native.Nat.{ℕ, suc, ◌+◌, ◌-◌, ◌≤◌, ◌<◌}
-use native.Mathlib.Numerals.{add-one}
+use mathlib.Core.Path.{◌≡◌, sym, ap, ◌∙◌}
+use mathlib.Core.List.{List, ◌++◌}
+use Prim.Native.Nat.{ℕ, suc, ◌+◌, ◌-◌, ◌*◌, ◌≤◌, ◌<◌}
 use native.Mathlib.Omega.{arith}
-use lib.ListN.{length, get_or, take, drop, set, length-drop, take-append-drop}
-use lib.Seq.{drop-drop, take-suc, take-suc-set, drop-set-lt, get_or-drop, length-take-le}
+use lib.ListN.{length, take, drop, length-drop}
+use lib.Seq.{drop-drop, length-take-le}
+use Rattle.std.specs.List.{copy_within}
 use Rattle.base.specs.Bytes.{splice}
 use Rattle.base.proofs.Parts.{part_of_front}
 use Rattle.base.proofs.Splice.{drop_splice, take_splice, length_splice}
 use Rattle.table.specs.View.{max_places}
 use Rattle.records.specs.Layout.{part_size, buffer_size, part_start}
 use Rattle.records.specs.Moving.{moved_parts, Moved}
-
--- ---- what is left
 
 module _ (buffer : List ℕ) (k : ℕ) (whole : length buffer ≡ buffer_size) (some : 0 < k) (few : k ≤ max_places) where
   abbrev part : List ℕ
@@ -43,31 +41,9 @@ module _ (buffer : List ℕ) (k : ℕ) (whole : length buffer ≡ buffer_size) (
       next : (i : ℕ) → part_size + part_start i ≡ part_start (suc i)
       next i = omega arith
 
--- ---- one turn of the loop
-
-module _ (b : List ℕ) (n : ℕ) (fits : n + part_size ≤ length b) where
-  abbrev d : List ℕ
-  d = drop part_size b
-
-  pub part_turn : (r : List ℕ) (i : ℕ) → i < n → length r ≡ length b → take i r ≡ take i d → drop i r ≡ drop i b
-      → (take (i + 1) (set r i (get_or r (i + part_size) 0)) ≡ take (i + 1) d) × (drop (i + 1) (set r i (get_or r (i + part_size) 0)) ≡ drop (i + 1) b)
-  part_turn r i h l p q =
-      let v : get_or r (i + part_size) 0 ≡ get_or d i 0 =
-      sym (get_or-drop i r part_size 0) ∙ ap (λ (x : List ℕ). get_or x part_size 0) q ∙ get_or-drop i b part_size 0
-      ∙ ap (λ (m : ℕ). get_or b m 0) (swap i) ∙ sym (get_or-drop part_size b i 0) in (
-        rw (add-one i) (take-suc-set r i (get_or r (i + part_size) 0) (omega arith) ∙ ap₂ (λ (x : List ℕ) (y : ℕ). x ++ (y ∷ [])) p v ∙ sym (take-suc d i 0 (omega (arith, length-drop part_size b)))),
-        rw (add-one i) (drop-set-lt (suc i) r i (get_or r (i + part_size) 0) (omega arith) ∙ next r ∙ ap (drop 1) q ∙ sym (next b)),
-      )
-    where
-      swap : (i : ℕ) → i + part_size ≡ part_size + i
-      swap i = omega arith
-
-      next : (x : List ℕ) → drop (suc i) x ≡ drop 1 (drop i x)
-      next x = let e : suc i ≡ i + 1 = omega arith in ap (λ (m : ℕ). drop m x) e ∙ sym (drop-drop 1 i x)
-
-  pub parts_are : (r : List ℕ) → take n r ≡ take n d → drop n r ≡ drop n b → r ≡ splice b 0 (take n d)
-  unfolding splice
-  parts_are r p q =
-      let l : length (take n d) ≡ n = length-take-le n d (omega (arith, length-drop part_size b)) in
-      let m : n ≡ 0 + length (take n d) = omega arith in
-      sym (take-append-drop n r) ∙ ap₂ ◌++◌ p q ∙ ap (λ (k : ℕ). take n d ++ drop k b) m
+  -- what copying all parts but the first to the front leaves
+  pub moved_down : copy_within buffer part_size (part_size * k) 0 ≡ moved_parts buffer k
+  unfolding moved_parts splice
+  moved_down =
+      let size : part_size * k - part_size ≡ part_start (k - 1) = omega arith in
+      ap (λ (n : ℕ). take n (drop part_size buffer) ++ drop (0 + n) buffer) size ∙ ap (λ (n : ℕ). part ++ drop (0 + n) buffer) (sym part_length)

@@ -10,7 +10,7 @@ ghost use Rattle.std.specs.Prelude.{◌≡◌, ◌*◌, ◌≤◌, ◌<◌, leng
 ghost use Rattle.base.specs.Bytes.{splice};
 ghost use Rattle.setup.specs.Setup.{slot_count};
 ghost use Rattle.table.specs.View.{max_places};
-ghost use Rattle.records.specs.Layout.{record_size, flatten, part_size, buffer_size, part_start, part_of, record_in, delivered_in};
+ghost use Rattle.records.specs.Layout.{record_size, flatten, part_size, part_start, part_of, record_in, delivered_in};
 ghost use Rattle.records.specs.Moving.{moved_parts};
 
 use broadcast::{Sent, SlotRecord};
@@ -33,17 +33,21 @@ pub const PART_SIZE: usize = RECORD_SIZE * SLOTS;
 
 pub const BUFFER_SIZE: usize = PART_SIZE * MAX_PLACES;
 
+// The record buffer of a table.
+pub type RecordBuffer = [u16; BUFFER_SIZE];
+
 // The record of a slot in the part of a place.
-pub fn record_in(records: &[u16], place: usize, slot: usize) -> SlotRecord
-    requires { (length records.now ≡ buffer_size) × (place < max_places) × (slot < slot_count) }
+pub fn record_in(records: &RecordBuffer, place: usize, slot: usize) -> SlotRecord
+    requires { (place < max_places) × (slot < slot_count) }
     ensures { result ≡ record_in records.now place slot }
 {
     numbers::record_at(records, PART_SIZE * place + RECORD_SIZE * slot)
 }
 
 // What was made in the block of a place, in a slot.
-pub fn made_in(records: &[u16], place: usize, slot: usize) -> Sent
-    requires { (length records.now ≡ buffer_size) × (place < max_places) × (slot < slot_count) }
+#[tactic(auto, unfolding(crate::specs::Layout::record_at))]
+pub fn made_in(records: &RecordBuffer, place: usize, slot: usize) -> Sent
+    requires { (place < max_places) × (slot < slot_count) }
     ensures { result ≡ (record_in records.now place slot).made }
 {
     numbers::sent_at(
@@ -53,24 +57,25 @@ pub fn made_in(records: &[u16], place: usize, slot: usize) -> Sent
 }
 
 // The number that the block of a place delivers in a slot, 0 if there is none.
-pub fn delivered_in(records: &[u16], place: usize, slot: usize) -> u16
-    requires { (length records.now ≡ buffer_size) × (place < max_places) × (slot < slot_count) }
+pub fn delivered_in(records: &RecordBuffer, place: usize, slot: usize) -> u16
+    requires { (place < max_places) × (slot < slot_count) }
     ensures { result ≡ delivered_in records.now place slot }
 {
     made_in(records, place, slot).delivered
 }
 
 // Puts the record of a slot into a place's part; all other numbers stay.
-pub fn put_record(part: &mut [u16], slot: usize, state: SlotRecord)
-    requires { (length part.old ≡ part_size) × (slot < slot_count) }
+pub fn put_record(part: &mut [u16; PART_SIZE], slot: usize, state: SlotRecord)
+    requires { slot < slot_count }
     ensures { part.new ≡ splice part.old (record_size * slot) (flatten state) }
 {
     numbers::put_record(part, RECORD_SIZE * slot, state);
 }
 
 // The part of a place.
-pub fn part(records: &[u16], place: usize) -> &[u16]
-    requires { (length records.now ≡ buffer_size) × (place < max_places) }
+#[tactic(auto, using(base::proofs::Parts::part_size_lem))]
+pub fn part(records: &RecordBuffer, place: usize) -> &[u16]
+    requires { place < max_places }
     ensures { result.now ≡ part_of records.now place }
 {
     let at = PART_SIZE * place;
@@ -78,22 +83,18 @@ pub fn part(records: &[u16], place: usize) -> &[u16]
 }
 
 // Puts the part of a place. An empty part changes nothing, and all numbers of other places stay.
-pub fn put_part(records: &mut [u16], place: usize, part: &[u16])
-    requires { (length records.old ≡ buffer_size) × (place < max_places) × (length part.now ≤ part_size) }
+pub fn put_part(records: &mut RecordBuffer, place: usize, part: &[u16])
+    requires { (place < max_places) × (length part.now ≤ part_size) }
     ensures { records.new ≡ splice records.old (part_start place) part.now }
 {
-    numbers::put(records, PART_SIZE * place, part);
+    base::put(records, PART_SIZE * place, part);
 }
 
 // Moves the parts of the places 1 to count - 1 each one place lower; all numbers from place count - 1 on stay.
-pub fn move_parts(records: &mut [u16], count: usize)
-    requires { (length records.old ≡ buffer_size) × (0 < count) × (count ≤ max_places) }
+#[tactic(auto, using(crate::proofs::Moving::moved_down))]
+pub fn move_parts(records: &mut RecordBuffer, count: usize)
+    requires { (0 < count) × (count ≤ max_places) }
     ensures { records.new ≡ moved_parts records.old count }
 {
-    let n = PART_SIZE * (count - 1);
-    let mut i = 0;
-    while i < n {
-        records[i] = records[i + PART_SIZE];
-        i += 1;
-    }
+    records.copy_within(PART_SIZE..PART_SIZE * count, 0);
 }

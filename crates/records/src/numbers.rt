@@ -8,27 +8,6 @@ use crate::{ECHOES_OFFSET, MADE_OFFSET, READIES_OFFSET};
 use broadcast::{Sent, SlotRecord};
 use setup::MAX_SITES;
 
-// Copies all numbers of `from` to `to`, which is as long.
-fn copy(to: &mut [u16], from: &[u16])
-    requires { length to.old ≡ length from.now }
-    ensures { to.new ≡ from.now }
-{
-    let mut i = 0;
-    while i < from.len() {
-        to[i] = from[i];
-        i += 1;
-    }
-}
-
-// Puts the part at index `at`; all other numbers stay.
-pub fn put(numbers: &mut [u16], at: usize, part: &[u16])
-    requires { at + length part.now ≤ length numbers.old }
-    ensures { numbers.new ≡ splice numbers.old at part.now }
-{
-    let end = at + part.len();
-    copy(&mut numbers[at..end], part);
-}
-
 // What was sent, which is four numbers from an index on.
 pub fn sent_at(records: &[u16], at: usize) -> Sent
     requires { at + sent_count ≤ length records.now }
@@ -47,12 +26,11 @@ fn heard_at(records: &[u16], at: usize) -> [u16; MAX_SITES]
     requires { at + max_sites ≤ length records.now }
     ensures { result ≡ take max_sites (drop at records.now) }
 {
-    let mut heard = [0u16; MAX_SITES];
-    copy(&mut heard, &records[at..at + MAX_SITES]);
-    heard
+    records[at..at + MAX_SITES].try_into().unwrap()
 }
 
 // The record whose numbers stand from an index on.
+#[tactic(auto, unfolding(crate::specs::Layout::record_at))]
 pub fn record_at(records: &[u16], at: usize) -> SlotRecord
     requires { at + record_size ≤ length records.now }
     ensures { result ≡ record_at records.now at }
@@ -74,7 +52,7 @@ fn put_sent(out: &mut [u16], at: usize, sent: Sent)
     requires { at + sent_count ≤ length out.old }
     ensures { out.new ≡ splice out.old at (sent_numbers sent) }
 {
-    put(out, at, &[sent.send, sent.echo, sent.ready, sent.delivered]);
+    base::put(out, at, &[sent.send, sent.echo, sent.ready, sent.delivered]);
 }
 
 // Puts a record's numbers at index `at`; all other numbers stay.
@@ -82,10 +60,8 @@ pub fn put_record(out: &mut [u16], at: usize, state: SlotRecord)
     requires { at + record_size ≤ length out.old }
     ensures { out.new ≡ splice out.old at (flatten state) }
 {
-    let echoes = state.echoes;
-    let readies = state.readies;
     put_sent(out, at, state.sent);
-    put(out, at + ECHOES_OFFSET, &echoes);
-    put(out, at + READIES_OFFSET, &readies);
+    base::put(out, at + ECHOES_OFFSET, &state.echoes);
+    base::put(out, at + READIES_OFFSET, &state.readies);
     put_sent(out, at + MADE_OFFSET, state.made);
 }

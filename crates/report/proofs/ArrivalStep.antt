@@ -84,7 +84,7 @@ module _ (x : Site) (b : Bytes) (verdict arrival : ℕ) (a : Answer) (t : Bytes)
       place_there =
           let h = ((promises.causes t x.records a.value).none.0 (number_of (sym interpreting) ∙ interpreted)).0.place_held in (
             ap length writes ∙ promises.sized t x.records a.value ∙ h.records_sized.size,
-            omega (arith, h.below, (formed_places t h.records_sized.formed).bound),
+            omega (arith, h.below, formed_places t h.records_sized.formed),
           )
 
       pub delivered_lines : delivery_lines r arrival a.value (site_of b) (sequence_of b) ≡ arrival_lines sha256 x b verdict arrival

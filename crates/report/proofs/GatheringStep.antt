@@ -12,14 +12,13 @@ use Rattle.base.specs.Bytes.{Bytes, splice}
 use Rattle.base.proofs.Tests.{by_test}
 use Rattle.sha256.specs.Sha256.{sha256}
 use Rattle.run.specs.Run.{Site}
-use Rattle.report.specs.Framing.{wanted, Outcome, stepped, lines_size, lines_of, handed}
+use Rattle.report.specs.Framing.{wanted, Outcome, stepped, lines_size, handed}
 use Rattle.report.specs.Gathering.{lent_site, Gathering, no_steps, is_due, piece_at, outcome_at, site_stepped_at, due, one_more, gather_on, gathering}
 use Rattle.report.specs.Steps.{advanced}
 use Rattle.report.specs.declared.ListingState.{ListingState}
 use Rattle.report.specs.declared.Gathered.{Gathered}
 use Rattle.report.specs.declared.Stepped.{Stepped}
 use Rattle.report.proofs.Appending.{Put, put_nothing, put_behind, put_keeps}
-use Rattle.report.proofs.LinesOut.{handed_text}
 use Rattle.report.proofs.DueStep.{is_due_lem}
 use Rattle.report.proofs.Termination.{work, length_piece, less_work, next_within, none_due, one_due, enough}
 
@@ -49,13 +48,12 @@ module _ (s : ListingState) (x : Site) (used end : ℕ) (unread : Bytes) (q : St
   is_outcome : q ≡ handed o
   is_outcome = h ∙ ap (λ (piece : Bytes). handed (stepped sha256 s x piece)) (piece_cut s used end unread e)
 
-  pub step_advances : (n : ℕ) → ◌≡◌ {A = Gathered} (record { state = q.state; used = end; length = n + q.lines.length })
+  pub step_advances : (n : ℕ) → ◌≡◌ {A = Gathered} (record { state = q.state; used = end; length = n + length q.lines })
       (advanced sha256 (record { state = s; used = used; length = n }) x unread)
-  unfolding lines_of
   step_advances n = rw is_outcome (ap (λ (m : ℕ). record { state = o.state; used = m; length = n + length o.lines }) (piece_ends s used end unread e))
 
-  pub step_lines : take q.lines.length q.lines.bytes ≡ (outcome_at sha256 s x used unread).lines
-  step_lines = handed_text o q is_outcome
+  pub step_lines : q.lines ≡ (outcome_at sha256 s x used unread).lines
+  step_lines = ap (λ (r : Stepped). r.lines) is_outcome
 
 -- what the steps so far came to, with their lines and their number
 abbrev pub so_far : Bytes → List ℕ → Gathered → Bytes → ℕ → Gathering

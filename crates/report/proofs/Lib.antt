@@ -10,8 +10,6 @@ pub mod Splitting
 pub mod ListingLines
 -- text put right behind text
 pub mod Appending
--- lines as they are handed over
-pub mod LinesOut
 -- one arrival, by what its two calls answer and leave
 pub mod ArrivalStep
 -- whether the empty table of an input's setup is made

@@ -12,8 +12,8 @@ use Rattle.base.specs.Bytes.{Bytes, concat}
 use Rattle.base.specs.List.{list_below}
 use Rattle.base.proofs.Tests.{by_test}
 use Rattle.report.specs.declared.Delivery.{Delivery}
-use Rattle.report.specs.declared.Field.{Field}
-use Rattle.report.specs.declared.Field.TheVariants.{Number, Empty}
+use Rattle.report.specs.Text.{Field}
+use Rattle.std.specs.Prelude.{Some, None}
 use Rattle.report.specs.Text.{ascii, space, digit, decimal, field_text, field_count, ending, line, names, refusal_line, delivery_line}
 use Rattle.report.specs.Lines.{Legible}
 use Rattle.report.proofs.Decimal.{leading, last_apart}
@@ -71,10 +71,10 @@ minus_no_digit n e = let d : Digits (ascii "-") = subst Digits e (decimal_says n
 
 field_same : (f g : Field) → field_text f ≡ field_text g → f ≡ g
 unfolding field_text
-field_same (Number n) (Number m) e = ap Number (sym (decimal_says n).value ∙ ap (number 0) e ∙ (decimal_says m).value)
-field_same (Number n) Empty e = absurd (minus_no_digit n e)
-field_same Empty (Number m) e = absurd (minus_no_digit m (sym e))
-field_same Empty Empty e = refl
+field_same (Some n) (Some m) e = ap Some (sym (decimal_says n).value ∙ ap (number 0) e ∙ (decimal_says m).value)
+field_same (Some n) None e = absurd (minus_no_digit n e)
+field_same None (Some m) e = absurd (minus_no_digit m (sym e))
+field_same None None e = refl
 
 -- it has neither a space nor a line feed
 abbrev pub Plain : Bytes → Type 0
@@ -87,8 +87,8 @@ digits_plain (c ∷ cs) d = (omega (arith, d.0.0), digits_plain cs d.1)
 
 pub field_plain : (f : Field) → Plain (field_text f)
 unfolding field_text ascii list_below
-field_plain (Number n) = digits_plain (decimal n) (decimal_says n).digits
-field_plain Empty = (omega arith, tt)
+field_plain (Some n) = digits_plain (decimal n) (decimal_says n).digits
+field_plain None = (omega arith, tt)
 
 -- ---- a line's text says its fields
 
@@ -129,18 +129,18 @@ ending_low : (i : ℕ) → ending i ≤ space
 unfolding ending
 ending_low i = by_test (eqb i (field_count - 1)) (λ e. rw e (omega arith)) (λ e. rw e (omega arith))
 
-line_says : (fs gs : List Field) → line fs ≡ line gs → (i : ℕ) → i < field_count → get_or fs i (Number 0) ≡ get_or gs i (Number 0)
+line_says : (fs gs : List Field) → line fs ≡ line gs → (i : ℕ) → i < field_count → get_or fs i (Some 0) ≡ get_or gs i (Some 0)
 unfolding line
-line_says fs gs e = fields_same ending ending_low (λ i. get_or fs i (Number 0)) (λ i. get_or gs i (Number 0)) field_count e
+line_says fs gs e = fields_same ending ending_low (λ i. get_or fs i (Some 0)) (λ i. get_or gs i (Some 0)) field_count e
 
 -- ---- a delivery's
 
 -- a field's number, one more than it, and 0 where it has none
 abbrev number_in : Field → ℕ
-number_in (Number n) = suc n
-number_in Empty = 0
+number_in (Some n) = suc n
+number_in None = 0
 
-numbers_same : (n m : ℕ) → ◌≡◌ {A = Field} (Number n) (Number m) → n ≡ m
+numbers_same : (n m : ℕ) → ◌≡◌ {A = Field} (Some n) (Some m) → n ≡ m
 numbers_same n m e = let q : suc n ≡ suc m = ap number_in e in omega arith
 
 abbrev delivery : ℕ → ℕ → ℕ → ℕ → ℕ → ℕ → Delivery
@@ -169,7 +169,7 @@ module _ (d : Delivery) where
   not_names : delivery_line d ≢ names
   unfolding delivery_line line concat list_below ending field_text names ascii
   not_names q =
-      let w = parted (decimal d.arrival) (ascii "arrival") (field_plain (Number d.arrival)) (omega arith, (omega arith, (omega arith, (omega arith, (omega arith, (omega arith, (omega arith, tt)))))))
+      let w = parted (decimal d.arrival) (ascii "arrival") (field_plain (Some d.arrival)) (omega arith, (omega arith, (omega arith, (omega arith, (omega arith, (omega arith, (omega arith, tt)))))))
       space (omega arith) _ _ (sym (append_assoc (decimal d.arrival) (space ∷ []) _) ∙ q) in
       let a : Digits (ascii "arrival") = subst Digits w.0 (decimal_says d.arrival).digits in
       omega (arith, a.0.1)

@@ -18,8 +18,8 @@ use Rattle.setup.specs.Setup.{slot_count}
 use Rattle.block.specs.Layout.{site_of, sequence_of}
 use Rattle.run.specs.Run.{Site}
 use Rattle.report.specs.declared.Delivery.{Delivery}
-use Rattle.report.specs.declared.Field.{Field}
-use Rattle.report.specs.declared.Field.TheVariants.{Number}
+use Rattle.report.specs.Text.{Field}
+use Rattle.std.specs.Prelude.{Some}
 use Rattle.report.specs.Text.{refusal_line, refused_line, unread_line, delivery_line, delivery_text}
 use Rattle.report.specs.Arrivals.{Arrival, arrived, unread}
 use Rattle.report.specs.Listing.{delivery, delivery_lines, admission_answer, site_arrived, arrival_refusal, arrival_lines, listing_from}
@@ -131,9 +131,9 @@ module _ (x : Site) (b : Bytes) (verdict arrival : ℕ) where
   unfolding arrival_texts arrival_lines delivery_lines concat
   arrival_joined = by_test (eqb refusal 0) (λ e. rw e (deliveries_joined in_slot slot_count)) (λ e. rw e (append-nil (refused_line arrival refusal)))
 
-pub refusal_is_line : (what : Field) (refusal : ℕ) → is_line (refusal_line what refusal) ≡ true
+pub refusal_is_line : (what : Field) (number : ℕ) → is_line (refusal_line what number) ≡ true
 unfolding refusal_line
-refusal_is_line what refusal = line_is_line _
+refusal_is_line what number = line_is_line _
 
 -- ---- the lines of all
 
@@ -153,11 +153,11 @@ texts_joined arrival x (arrived b verdict ∷ rest) =
 pub texts_lines : (arrival : ℕ) (x : Site) (arrivals : List Arrival) → AllLines (texts_from arrival x arrivals)
 unfolding texts_from arrival_texts
 texts_lines arrival x [] = tt
-texts_lines arrival x (unread ∷ rest) = (refusal_is_line (Number arrival) 3, texts_lines (suc arrival) x rest)
+texts_lines arrival x (unread ∷ rest) = (refusal_is_line (Some arrival) 3, texts_lines (suc arrival) x rest)
 texts_lines arrival x (arrived b verdict ∷ rest) =
     lines_append (arrival_texts x b verdict arrival) (texts_from (suc arrival) (site_arrived sha256 x b verdict) rest)
     (by_test (eqb (refusal x b verdict arrival) 0) (λ e. rw e (deliveries_lines (in_slot x b verdict arrival) slot_count))
-    (λ e. rw e (refusal_is_line (Number arrival) (refusal x b verdict arrival), tt)))
+    (λ e. rw e (refusal_is_line (Some arrival) (refusal x b verdict arrival), tt)))
     (texts_lines (suc arrival) (site_arrived sha256 x b verdict) rest)
 
 -- each is a delivery's or a refusal's
@@ -165,7 +165,7 @@ pub texts_kinds : (arrival : ℕ) (x : Site) (arrivals : List Arrival) (line : B
 unfolding texts_from
 texts_kinds arrival x [] line m = absurd (mathlib.Core.List.Memᴰ.not-nil m)
 texts_kinds arrival x (unread ∷ rest) line m = elim (mathlib.Core.List.Memᴰ.cases_cons m) [
-  | inl q ↦ inr (record { what = Number arrival; refusal = 3; text = q })
+  | inl q ↦ inr (record { what = Some arrival; refusal = 3; text = q })
   | inr n ↦ texts_kinds (suc arrival) x rest line n
 ]
 texts_kinds arrival x (arrived b verdict ∷ rest) line m = elim (mathlib.Core.List.Memᴰ.append_cases (arrival_texts x b verdict arrival) m) [
@@ -174,7 +174,7 @@ texts_kinds arrival x (arrived b verdict ∷ rest) line m = elim (mathlib.Core.L
       let w = deliveries_from (in_slot x b verdict arrival) slot_count line (subst (Memᴰ line) (passed_texts x b verdict arrival (eqb-true _ 0 e)) n) in
       inl (record { made = in_slot x b verdict arrival w.index; low = w.below; text = w.text }))
       (λ e. elim (mathlib.Core.List.Memᴰ.cases_cons (subst (Memᴰ line) (refused_texts x b verdict arrival (eqb-false _ 0 e)) n)) [
-        | inl q ↦ inr (record { what = Number arrival; refusal = refusal x b verdict arrival; text = q })
+        | inl q ↦ inr (record { what = Some arrival; refusal = refusal x b verdict arrival; text = q })
         | inr z ↦ absurd (mathlib.Core.List.Memᴰ.not-nil z)
       ])
   | inr n ↦ texts_kinds (suc arrival) (site_arrived sha256 x b verdict) rest line n
@@ -204,7 +204,7 @@ pub line_shown : (arrival : ℕ) (x : Site) (arrivals : List Arrival) (d : Deliv
 unfolding texts_from
 line_shown arrival x [] d m = absurd (mathlib.Core.List.Memᴰ.not-nil m)
 line_shown arrival x (unread ∷ rest) d m = elim (mathlib.Core.List.Memᴰ.cases_cons m) [
-  | inl q ↦ absurd ((legible d).not_refusal (Number arrival) 3 q)
+  | inl q ↦ absurd ((legible d).not_refusal (Some arrival) 3 q)
   | inr n ↦ past (line_shown (suc arrival) x rest d n)
 ]
 line_shown arrival x (arrived b verdict ∷ rest) d m = elim (mathlib.Core.List.Memᴰ.append_cases (arrival_texts x b verdict arrival) m) [
@@ -215,7 +215,7 @@ line_shown arrival x (arrived b verdict ∷ rest) d m = elim (mathlib.Core.List.
       let same : d ≡ in_slot x b verdict arrival w.index = (legible d).delivery (in_slot x b verdict arrival w.index) w.text in
       subst (λ (y : Delivery). ListingShows x (arrived b verdict ∷ rest) y.slot y.number) (sym same) (here z refl w.some))
       (λ e. elim (mathlib.Core.List.Memᴰ.cases_cons (subst (Memᴰ (delivery_line d)) (refused_texts x b verdict arrival (eqb-false _ 0 e)) n)) [
-        | inl q ↦ absurd ((legible d).not_refusal (Number arrival) (refusal x b verdict arrival) q)
+        | inl q ↦ absurd ((legible d).not_refusal (Some arrival) (refusal x b verdict arrival) q)
         | inr z ↦ absurd (mathlib.Core.List.Memᴰ.not-nil z)
       ])
   | inr n ↦ later (line_shown (suc arrival) (site_arrived sha256 x b verdict) rest d n)

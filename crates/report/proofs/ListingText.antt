@@ -11,8 +11,8 @@ use Rattle.base.proofs.Tests.{by_test}
 use Rattle.setup.specs.Setup.{Setup, lawful, slot_count}
 use Rattle.run.specs.Run.{Site, started}
 use Rattle.report.specs.declared.Delivery.{Delivery}
-use Rattle.report.specs.declared.Field.{Field}
-use Rattle.report.specs.declared.Field.TheVariants.{Empty}
+use Rattle.report.specs.Text.{Field}
+use Rattle.std.specs.Prelude.{None}
 use Rattle.report.specs.Text.{names, refusal_line, setup_line, delivery_line}
 use Rattle.report.specs.Arrivals.{Arrival, setup_size, setup_in, arrivals_in}
 use Rattle.report.specs.Listing.{listing}
@@ -45,7 +45,7 @@ module _ (buffer : List ℕ) (input : Bytes) where
 
   further_lines : AllLines further
   unfolding further
-  further_lines = by_test (lawful setup) (λ y. rw y (texts_lines 0 site all)) (λ n. rw n (refusal_is_line Empty 1, tt))
+  further_lines = by_test (lawful setup) (λ y. rw y (texts_lines 0 site all)) (λ n. rw n (refusal_is_line None 1, tt))
 
   lines_are : lines_in (text buffer input) ≡ names ∷ further
   lines_are = ap lines_in text_joined ∙ split_all (names ∷ further) (names_line, further_lines)
@@ -55,7 +55,7 @@ module _ (buffer : List ℕ) (input : Bytes) where
   further_kinds line =
       by_test (lawful setup)
       (λ y. rw y (texts_kinds 0 site all line))
-      (λ n. rw n (λ m. elim (Memᴰ.cases_cons m) [ inl q ↦ inr (record { what = Empty; refusal = 1; text = q }) | inr z ↦ absurd (Memᴰ.not-nil z) ]))
+      (λ n. rw n (λ m. elim (Memᴰ.cases_cons m) [ inl q ↦ inr (record { what = None; refusal = 1; text = q }) | inr z ↦ absurd (Memᴰ.not-nil z) ]))
 
   kinds : (line : Bytes) → Memᴰ line (lines_in (text buffer input))
       → (line ≡ names) ⊎ (((d : Delivery) × (line ≡ delivery_line d)) ⊎ ((what : Field) × (refusal : ℕ) × (line ≡ refusal_line what refusal)))

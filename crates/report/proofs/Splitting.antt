@@ -10,8 +10,8 @@ use lib.ListN.{length, get_or}
 use Rattle.base.specs.Bytes.{Bytes, concat}
 use Rattle.base.specs.List.{list_below}
 use Rattle.base.proofs.Tests.{true_not_false}
-use Rattle.report.specs.declared.Field.{Field}
-use Rattle.report.specs.declared.Field.TheVariants.{Number}
+use Rattle.report.specs.Text.{Field}
+use Rattle.std.specs.Prelude.{Some}
 use Rattle.report.specs.Text.{ascii, space, line_feed, field_text, ending, line, names}
 use Rattle.report.specs.Lines.{lines_after, lines_in}
 use Rattle.report.proofs.LineFields.{Plain, field_plain}
@@ -64,7 +64,7 @@ more f rest = field_skipped f space rest
 pub line_is_line : (fields : List Field) → is_line (line fields) ≡ true
 unfolding line concat list_below ending is_line
 line_is_line fields =
-    let field : ℕ → Field = λ i. get_or fields i (Number 0) in
+    let field : ℕ → Field = λ i. get_or fields i (Some 0) in
     more (field 0) _ ∙ more (field 1) _ ∙ more (field 2) _ ∙ more (field 3) _ ∙ more (field 4) _ ∙ more (field 5) _ ∙ field_skipped (field 6) line_feed []
 
 pub names_line : is_line names ≡ true

@@ -1,7 +1,7 @@
 -- The listing one step at a time. A step gets a piece of the input: the bytes that the state before it wants, or fewer where the input ends. It gives
 -- the next state and its lines, and a setup or a whole arrival changes what the site holds.
-use Rattle.std.specs.Prelude.{cond, [], ◌++◌, ℕ, zero, suc, ◌+◌, ◌-◌, ◌*◌, ◌^◌, ◌%◌, min, eqb, ltb, leb, length, get_or, take, drop, replicate}
-use Rattle.base.specs.Bytes.{Bytes, splice}
+use Rattle.std.specs.Prelude.{cond, [], ◌++◌, ℕ, zero, suc, ◌+◌, ◌-◌, ◌*◌, ◌^◌, ◌%◌, min, eqb, ltb, leb, length, get_or, take, drop}
+use Rattle.base.specs.Bytes.{Bytes}
 use Rattle.setup.specs.Setup.{slot_count}
 use Rattle.block.specs.Limits.{max_block_size}
 use Rattle.table.specs.Fresh.{fresh_answer, fresh_in}
@@ -12,7 +12,6 @@ use Rattle.report.specs.Listing.{site_arrived, arrival_lines}
 use Rattle.report.specs.declared.Expected.{Expected}
 use Rattle.report.specs.declared.Expected.TheVariants.{Setup, Length, Block, Skip, End}
 use Rattle.report.specs.declared.ListingState.{ListingState}
-use Rattle.report.specs.declared.Lines.{Lines}
 use Rattle.report.specs.declared.Stepped.{Stepped}
 
 -- the length of the longest piece: a verdict and the longest block
@@ -132,9 +131,5 @@ line_size = field_count * field_size
 abbrev pub lines_size : ℕ
 lines_size = slot_count * line_size
 
--- the text at the front of an array of zeros, with its length
-unfoldable pub lines_of : Bytes → Lines
-lines_of text = record { bytes = splice (replicate lines_size 0) 0 text; length = length text }
-
 abbrev pub handed : Outcome → Stepped
-handed o = record { state = o.state; lines = lines_of o.lines }
+handed o = record { state = o.state; lines = o.lines }

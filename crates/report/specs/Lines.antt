@@ -7,7 +7,7 @@ use Rattle.sha256.specs.Sha256.{sha256}
 use Rattle.setup.specs.Setup.{lawful, slot_count}
 use Rattle.run.specs.Run.{started}
 use Rattle.report.specs.declared.Delivery.{Delivery}
-use Rattle.report.specs.declared.Field.{Field}
+use Rattle.report.specs.Text.{Field}
 use Rattle.report.specs.Text.{line_feed, names, refusal_line, delivery_line}
 use Rattle.report.specs.Arrivals.{setup_size, setup_in, arrivals_in}
 use Rattle.report.specs.Listing.{listing}

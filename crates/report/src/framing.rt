@@ -1,26 +1,17 @@
 // A step for each kind of piece that is expected. A piece that is shorter than the state wanted is the last of the input.
-ghost use Rattle.std.specs.Prelude.{◌≡◌, [], ◌<◌};
+ghost use Rattle.std.specs.Prelude.{◌≡◌, []};
 ghost use Rattle.sha256.specs.Sha256.{sha256};
 ghost use Rattle.table.specs.Fresh.{fresh_in};
 ghost use Rattle.report.specs.Arrivals.{setup_in};
-ghost use Rattle.report.specs.Framing.{following, lines_of, setup_step, length_step, skip_step, block_step, site_by, handed};
+ghost use Rattle.report.specs.Framing.{setup_step, length_step, skip_step, block_step, site_by, handed};
 ghost use Rattle.report.specs.declared.Expected.TheVariants.{Block};
 
 use crate::{
     Expected, LENGTH_SIZE, Lines, ListingState, PIECE_SIZE, SETUP_SIZE, Stepped, VERDICT_SIZE,
-    arrival, text,
+    arrival, lines,
 };
+use answer::Refusal;
 use block::MAX_BLOCK_SIZE;
-
-// The number of the arrival after this one; after the greatest number of 64 bits it is 0.
-fn following(arrivals: u64) -> u64
-    ensures { result ≡ following arrivals }
-{
-    if arrivals == u64::MAX {
-        return 0;
-    }
-    arrivals + 1
-}
 
 // A step that goes on to this state and writes these lines.
 fn stepped(expected: Expected, arrivals: u64, lines: Lines) -> Stepped
@@ -34,9 +25,9 @@ fn stepped(expected: Expected, arrivals: u64, lines: Lines) -> Stepped
 
 // A step that goes on to this state and writes no line.
 pub fn quiet(expected: Expected, arrivals: u64) -> Stepped
-    ensures { result ≡ record { state = record { expected = expected; arrivals = arrivals }; lines = lines_of [] } }
+    ensures { result ≡ record { state = record { expected = expected; arrivals = arrivals }; lines = [] } }
 {
-    stepped(expected, arrivals, text::none())
+    stepped(expected, arrivals, Lines::new())
 }
 
 // The step on a setup: makes the table the empty table of the setup, and writes the line of names; or writes the refusal's line too and ends the
@@ -46,31 +37,38 @@ pub fn setup_step(table: &mut [u8], piece: &[u8]) -> Stepped
     ensures table_after { table.new ≡ fresh_in (setup_in piece.now) table.old }
 {
     if piece.len() < SETUP_SIZE {
-        return stepped(Expected::End, 0, text::names_and_refusal(1));
+        return stepped(
+            Expected::End,
+            0,
+            lines::names_and_refusal(Refusal::UnlawfulSetup),
+        );
     }
-    let answer = table::fresh_in(piece[0], &piece[1..SETUP_SIZE], table);
-    if answer.refusal != 0 {
-        return stepped(Expected::End, 0, text::names_and_refusal(answer.refusal));
+    match table::fresh_in(piece[0], &piece[1..SETUP_SIZE], table) {
+        Ok(()) => stepped(Expected::Length, 0, lines::names()),
+        Err(refusal) => stepped(Expected::End, 0, lines::names_and_refusal(refusal)),
     }
-    stepped(Expected::Length, 0, text::names())
 }
 
 // The step on the length of an arrival. Without a byte the listing is at its end; a cut or too long arrival is refused with 3.
 pub fn length_step(arrivals: u64, piece: &[u8]) -> Stepped
     ensures { result ≡ handed (length_step arrivals piece.now) }
 {
-    if piece.len() == 0 {
+    if piece.is_empty() {
         return quiet(Expected::End, arrivals);
     }
     if piece.len() < LENGTH_SIZE {
-        return stepped(Expected::End, arrivals, text::refused(arrivals, 3));
+        return stepped(
+            Expected::End,
+            arrivals,
+            lines::refused(arrivals, Refusal::Misshapen),
+        );
     }
-    let size = base::number_of(piece[0], piece[1]) as usize;
+    let size = usize::from(u16::from_be_bytes([piece[0], piece[1]]));
     if MAX_BLOCK_SIZE < size {
         return stepped(
             Expected::Skip(VERDICT_SIZE + size),
-            following(arrivals),
-            text::refused(arrivals, 3),
+            arrivals.wrapping_add(1),
+            lines::refused(arrivals, Refusal::Misshapen),
         );
     }
     quiet(Expected::Block(size), arrivals)
@@ -89,7 +87,11 @@ pub fn block_step(
     ensures records_after { records.new ≡ (site_by sha256 (Block size) (record { table = table.old; records = records.old }) piece.now).records }
 {
     if piece.len() <= size {
-        return stepped(Expected::End, arrivals, text::refused(arrivals, 3));
+        return stepped(
+            Expected::End,
+            arrivals,
+            lines::refused(arrivals, Refusal::Misshapen),
+        );
     }
     let end = VERDICT_SIZE + size;
     let lines = arrival::arrive(
@@ -99,7 +101,7 @@ pub fn block_step(
         &piece[VERDICT_SIZE..end],
         piece[0],
     );
-    stepped(Expected::Length, following(arrivals), lines)
+    stepped(Expected::Length, arrivals.wrapping_add(1), lines)
 }
 
 // The step on bytes of an arrival that is too long, of which `left` are still to be skipped.

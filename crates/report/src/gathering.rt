@@ -1,5 +1,5 @@
 // All steps that are due on the bytes that came, with their lines one behind the other in the output.
-ghost use Rattle.std.specs.Prelude.{◌≡◌, ◌+◌, ◌-◌, ◌≤◌, min, length};
+ghost use Rattle.std.specs.Prelude.{◌≡◌, ◌+◌, ◌-◌, ◌≤◌, length};
 ghost use Rattle.base.specs.Bytes.{splice};
 ghost use Rattle.sha256.specs.Sha256.{sha256};
 ghost use Rattle.report.specs.Framing.{lines_size};
@@ -17,23 +17,10 @@ fn is_due(done: Gathered, count: usize, is_ended: bool, size: usize) -> bool
     if wanted == 0 {
         return false;
     }
-    if !is_ended {
-        if count - done.used < wanted {
-            return false;
-        }
+    if !is_ended && count - done.used < wanted {
+        return false;
     }
     LINES_SIZE <= size - done.length
-}
-
-// Where the next piece ends: `wanted` bytes behind those that are used, or at the end of all that came.
-fn piece_end(used: usize, wanted: usize, count: usize) -> usize
-    requires { used ≤ count }
-    ensures { result ≡ used + min wanted (count - used) }
-{
-    if wanted <= count - used {
-        return used + wanted;
-    }
-    count
 }
 
 // Makes one step on the bytes that are not used yet, and puts its lines behind those that stand in the output.
@@ -51,21 +38,14 @@ fn advance(
     ensures output_after { output.new ≡ splice output.old done.length (outcome_at sha256 done.state (lent_site table.old records.old) done.used unread.now).lines }
     ensures length_in_bounds { result.length ≤ length output.old }
 {
-    let state = done.state;
-    let used = done.used;
-    let length = done.length;
-    let end = piece_end(used, crate::wanted(state), unread.len());
-    let stepped = crate::step(state, table, records, &unread[used..end]);
-    let next = stepped.state;
-    let lines = stepped.lines;
-    let bytes = lines.bytes;
-    let size = lines.length;
-    base::put(output, length, &bytes[..size]);
-    let filled = length + size;
+    let end = done.used + crate::wanted(done.state).min(unread.len() - done.used);
+    let stepped = crate::step(done.state, table, records, &unread[done.used..end]);
+    let lines = stepped.lines.text();
+    base::put(output, done.length, lines);
     Gathered {
-        state: next,
+        state: stepped.state,
         used: end,
-        length: filled,
+        length: done.length + lines.len(),
     }
 }
 

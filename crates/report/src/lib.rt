@@ -10,7 +10,7 @@
 mod arrival;
 mod framing;
 mod gathering;
-mod text;
+mod lines;
 
 ghost use Rattle.std.specs.Prelude.{◌≡◌, ◌≤◌};
 ghost use Rattle.sha256.specs.Sha256.{sha256};
@@ -18,6 +18,7 @@ ghost use Rattle.report.specs.Framing.{piece_size, wanted, start, stepped, site_
 
 use block::MAX_BLOCK_SIZE;
 pub use gathering::gather;
+pub use lines::Lines;
 use setup::SLOTS;
 
 // Sizes in bytes: the setup, an arrival's length and its verdict, and the longest piece.
@@ -38,15 +39,8 @@ pub const LINE_SIZE: usize = FIELDS * (MAX_DIGITS + 1);
 
 pub const LINES_SIZE: usize = SLOTS * LINE_SIZE;
 
-// A field of a line: a number, or none, which is written as `-`.
-#[derive(Clone, Copy)]
-pub enum Field {
-    Number(u64),
-    Empty,
-}
-
 // What a delivery's line shows.
-#[derive(Clone, Copy)]
+#[derive(Clone, Copy, Debug, PartialEq, Eq)]
 pub struct Delivery {
     pub arrival: u64,
     pub place: usize,
@@ -58,7 +52,7 @@ pub struct Delivery {
 
 // What is expected of the input next: the setup; the length of an arrival; a verdict and a block of this size; so many bytes that are skipped; or
 // nothing, since the listing is at its end.
-#[derive(Clone, Copy)]
+#[derive(Clone, Copy, Debug, PartialEq, Eq)]
 pub enum Expected {
     Setup,
     Length,
@@ -68,17 +62,10 @@ pub enum Expected {
 }
 
 // The state between two steps: what is expected next, and how many arrivals there were.
-#[derive(Clone, Copy)]
+#[derive(Clone, Copy, Debug, PartialEq, Eq)]
 pub struct ListingState {
     pub expected: Expected,
     pub arrivals: u64,
-}
-
-// The lines to write: the first `length` bytes of an array.
-#[derive(Drop)]
-pub struct Lines {
-    pub bytes: [u8; LINES_SIZE],
-    pub length: usize,
 }
 
 // What a step gives: the next state, and the lines to write.
@@ -90,7 +77,7 @@ pub struct Stepped {
 
 // What the steps of one gathering came to: the next state, how many of the unread bytes were used, and how many bytes of lines stand at the front of
 // the output.
-#[derive(Clone, Copy)]
+#[derive(Clone, Copy, Debug, PartialEq, Eq)]
 pub struct Gathered {
     pub state: ListingState,
     pub used: usize,
@@ -111,18 +98,11 @@ pub fn start() -> ListingState
 pub fn wanted(state: ListingState) -> usize
     ensures { (result ≡ wanted state) × (result ≤ piece_size) }
 {
-    let expected = state.expected;
-    match expected {
+    match state.expected {
         Expected::Setup => SETUP_SIZE,
         Expected::Length => LENGTH_SIZE,
-        Expected::Block(size) => {
-            if MAX_BLOCK_SIZE <= size {
-                PIECE_SIZE
-            } else {
-                VERDICT_SIZE + size
-            }
-        }
-        Expected::Skip(left) => { if PIECE_SIZE <= left { PIECE_SIZE } else { left } }
+        Expected::Block(size) => VERDICT_SIZE + size.min(MAX_BLOCK_SIZE),
+        Expected::Skip(left) => left.min(PIECE_SIZE),
         Expected::End => 0,
     }
 }
@@ -134,9 +114,8 @@ pub fn step(state: ListingState, table: &mut [u8], records: &mut [u16], piece: &
     ensures table_after { table.new ≡ (site_stepped sha256 state (record { table = table.old; records = records.old }) piece.now).table }
     ensures records_after { records.new ≡ (site_stepped sha256 state (record { table = table.old; records = records.old }) piece.now).records }
 {
-    let expected = state.expected;
     let arrivals = state.arrivals;
-    match expected {
+    match state.expected {
         Expected::Setup => framing::setup_step(table, piece),
         Expected::Length => framing::length_step(arrivals, piece),
         Expected::Block(size) => framing::block_step(size, arrivals, table, records, piece),

@@ -7,32 +7,32 @@
 mod may;
 
 ghost use Rattle.std.specs.Prelude.{◌≡◌};
+ghost use Rattle.answer.specs.Refusals.{done_of};
 ghost use Rattle.retire.specs.Retiring.{retiring, retired_table, retired_records};
 
-use answer::Answer;
+use answer::Refusal;
 use table::rows;
 
 // Retires place 0. Refuses with 2, 12, 13 or 29, in that order; a refusal changes nothing.
-pub fn retire(table: &mut [u8], records: &mut [u16]) -> Answer
-    ensures value { result ≡ retiring table.old records.old }
+pub fn retire(table: &mut [u8], records: &mut [u16]) -> Result<(), Refusal>
+    ensures value { done_of result ≡ retiring table.old records.old }
     ensures table_after { table.new ≡ retired_table table.old records.old }
     ensures records_after { records.new ≡ retired_records table.old records.old }
 {
-    if !table::in_form(table) {
-        return answer::refused(2, 0);
-    }
-    if records.len() != records::BUFFER_SIZE {
-        return answer::refused(12, 0);
-    }
+    let Some(table) = table::formed_mut(table) else {
+        return Err(Refusal::OutOfForm);
+    };
+    let Some(records) = records.as_mut_array() else {
+        return Err(Refusal::RecordsSize);
+    };
     let count = rows::count_of(table);
-    if count == 0 {
-        return answer::refused(13, 0);
-    }
+    let Some(left) = count.checked_sub(1) else {
+        return Err(Refusal::UnknownPlace);
+    };
     if !may::may_retire(table, count) {
-        return answer::refused(29, 0);
+        return Err(Refusal::NotRetirable);
     }
-    let left = count - 1;
     records::move_parts(records, count);
     table::moving::move_down(table, left);
-    answer::success(0)
+    Ok(())
 }

@@ -1,8 +1,8 @@
 -- The call at the front of an encoded list: when there is one, and that the list is that call and those of the bytes behind it.
 -- Assumes nothing.
 use mathlib.Core.Path.{◌≡◌, refl, sym, ap, ◌∙◌}
-use mathlib.Core.Bool.{true, false, ◌||◌}
-use mathlib.Core.Logic.{◌≢◌, inl, inr}
+use mathlib.Core.Bool.{◌||◌}
+use mathlib.Core.Logic.{◌≢◌}
 use mathlib.Core.List.{List, [], ◌∷◌}
 use Prim.Native.Nat.{ℕ, zero, suc, ◌+◌, ◌-◌, ◌≤◌, ◌<◌}
 use native.Mathlib.Omega.{arith}
@@ -11,10 +11,9 @@ use lib.ListN.{length, get_or, drop, length-drop}
 use borrow.Author.Tests.{eq-eqb, ne_eqb, eqb-true, eqb-false, le-leb, lt-leb, leb-true}
 use Rattle.base.specs.Bytes.{Bytes}
 use Rattle.base.specs.LowFirst.{low_first_at}
-use Rattle.base.proofs.Tests.{by_test, and_left, and_right, and_false, or_cases}
+use Rattle.base.proofs.Tests.{by_test, and_right, and_false}
 use Rattle.run.specs.Ledger.{Call}
 use Rattle.run.specs.Encoding.{admission_byte, interpretation_byte, retiring_byte, taking_back_byte, admission_header, interpretation_size, bare_size, admission_first, interpretation_first, bare_first, first_size, first_call, first_calls, calls_in}
-use Rattle.run.specs.Steps.{WholeCall}
 
 module _ (b : Bytes) where
   -- ---- the ways out of the code that reads it
@@ -83,32 +82,6 @@ module _ (b : Bytes) where
       (λ y. rw y (leb-true (admission_header + low_first_at b 2) (length b) (search (and_right, y))))
       (λ n. by_test (interpretation_first b) (λ y. rw (n, y) (leb-true interpretation_size (length b) (search (and_right, y))))
       (λ m. by_test (bare_first b) (λ y. rw (n, m, y) (leb-true bare_size (length b) (search (and_right, y)))) (λ o. rw (n, m, o) (omega arith))))
-
-  none_first : admission_first b ≡ false → interpretation_first b ≡ false → bare_first b ≡ false → first_size b ≡ 0
-  unfolding first_size
-  none_first n m o = rw (n, m, o)
-
-  bare_byte : (eqb (get_or b 0 0) retiring_byte || eqb (get_or b 0 0) taking_back_byte) ≡ true → (get_or b 0 0 ≢ interpretation_byte) × (get_or b 0 0 ≢ admission_byte)
-  bare_byte y = elim (or_cases (eqb (get_or b 0 0) retiring_byte) _ y) [
-    | inl z ↦ let e = eqb-true (get_or b 0 0) retiring_byte z in (λ q. omega arith, λ q. omega arith)
-    | inr z ↦ let e = eqb-true (get_or b 0 0) taking_back_byte z in (λ q. omega arith, λ q. omega arith)
-  ]
-
-  pub first_whole : first_size b ≢ 0 → WholeCall b
-  first_whole some = by_test (admission_first b)
-      (λ y.
-      let header : admission_header ≤ length b = leb-true admission_header (length b) (search (and_left, and_right, y)) in
-      record { some = omega arith; word = λ _. omega arith; block = λ _. leb-true (admission_header + low_first_at b 2) (length b) (search (and_right, y)) })
-      (λ n. by_test (interpretation_first b)
-      (λ y.
-      let first : get_or b 0 0 ≡ interpretation_byte = eqb-true (get_or b 0 0) interpretation_byte (search (and_left, y)) in
-      let word : interpretation_size ≤ length b = leb-true interpretation_size (length b) (search (and_right, y)) in
-      record { some = omega arith; word = λ _. word; block = λ e. absurd (omega arith) })
-      (λ m. by_test (bare_first b)
-      (λ y.
-      let bare = bare_byte (search (and_left, y)) in
-      record { some = leb-true bare_size (length b) (search (and_right, y)); word = λ e. absurd (bare.0 e); block = λ e. absurd (bare.1 e) })
-      (λ o. absurd (some (none_first n m o)))))
 
 -- ---- the list is the call at the front and the calls behind it
 

@@ -30,7 +30,7 @@ pub mod SiteInvariant
 pub mod Reachability
 -- the call at the front of an encoded list
 mod FrontCall
--- the code runs that call as the run says
-mod FrontCallRun
+-- that call, by the parts that the code splits it into
+mod FrontParts
 -- what holds at each turn of a replay
 mod ReplayInvariant

@@ -3,11 +3,10 @@
 use mathlib.Core.Path.{◌≡◌, refl, sym, ap, ◌∙◌}
 use mathlib.Core.Logic.{◌≢◌}
 use mathlib.Core.List.{List, [], ◌∷◌}
-use Prim.Native.Nat.{ℕ, suc, ◌+◌, ◌≤◌}
+use Prim.Native.Nat.{ℕ, suc, ◌+◌, ◌≤◌, ◌<◌}
 use native.Mathlib.Numerals.{add-one}
 use native.Mathlib.Omega.{arith}
 use lib.ListN.{length, drop, length-drop}
-use lib.Seq.{drop-drop}
 use Rattle.base.specs.Bytes.{Bytes}
 use Rattle.sha256.specs.Sha256.{sha256}
 use Rattle.answer.specs.Buffer.{put_answer, put_answers}
@@ -17,32 +16,27 @@ use Rattle.run.specs.Run.{Site, site_answer, site_step, site_after, site_answers
 use Rattle.run.specs.Encoding.{first_size, first_call, calls_in}
 use Rattle.run.proofs.FrontCall.{size_within, calls_none, calls_more}
 
-pub record ReplayInvariant (calls : Bytes) (x₀ : Site) (answers₀ : List ℕ) (x : Site) (answers : List ℕ) (count at size : ℕ) : Type 0 where
-  pub within : at ≤ length calls
+pub record ReplayInvariant (calls : Bytes) (x₀ : Site) (answers₀ : List ℕ) (x : Site) (answers : List ℕ) (count : ℕ) (left : Bytes) : Type 0 where
   -- each call took a byte at least
-  pub counted : count ≤ at
-  pub first : size ≡ first_size (drop at calls)
-  pub site : site_after sha256 x (calls_in (drop at calls)) ≡ site_after sha256 x₀ (calls_in calls)
-  pub put : put_answers answers count (site_answers sha256 x (calls_in (drop at calls))) ≡ put_answers answers₀ 0 (site_answers sha256 x₀ (calls_in calls))
-  pub number : count + length (calls_in (drop at calls)) ≡ length (calls_in calls)
+  pub counted : count + length left ≤ length calls
+  pub site : site_after sha256 x (calls_in left) ≡ site_after sha256 x₀ (calls_in calls)
+  pub put : put_answers answers count (site_answers sha256 x (calls_in left)) ≡ put_answers answers₀ 0 (site_answers sha256 x₀ (calls_in calls))
+  pub number : count + length (calls_in left) ≡ length (calls_in calls)
   -- what is lent keeps its length
   pub table : length x.table ≡ length x₀.table
   pub records : length x.records ≡ length x₀.records
   pub answered : length answers ≡ length answers₀
 
-pub starts : (calls : Bytes) (x : Site) (answers : List ℕ) (size : ℕ) → size ≡ first_size calls → ReplayInvariant calls x answers x answers 0 0 size
-starts calls x answers size e =
-    record { within = omega arith; counted = omega arith; first = e; site = refl; put = refl; number = omega arith; table = refl; records = refl; answered = refl }
+pub starts : (calls : Bytes) (x : Site) (answers : List ℕ) → ReplayInvariant calls x answers x answers 0 calls
+starts calls x answers =
+    record { counted = omega arith; site = refl; put = refl; number = omega arith; table = refl; records = refl; answered = refl }
 
-module _ (calls : Bytes) (x₀ : Site) (answers₀ : List ℕ) (x : Site) (answers : List ℕ) (count at size : ℕ) (r : ReplayInvariant calls x₀ answers₀ x answers count at size) where
-  abbrev left : Bytes
-  left = drop at calls
-
+module _ (calls : Bytes) (x₀ : Site) (answers₀ : List ℕ) (x : Site) (answers : List ℕ) (count : ℕ) (left : Bytes) (r : ReplayInvariant calls x₀ answers₀ x answers count left) where
   -- no call is left
-  pub finished : size ≡ 0 → (count ≡ length (calls_in calls)) × (x ≡ site_after sha256 x₀ (calls_in calls)) × (answers ≡ put_answers answers₀ 0 (site_answers sha256 x₀ (calls_in calls)))
+  pub finished : first_size left ≡ 0 → (count ≡ length (calls_in calls)) × (x ≡ site_after sha256 x₀ (calls_in calls)) × (answers ≡ put_answers answers₀ 0 (site_answers sha256 x₀ (calls_in calls)))
   unfolding site_after site_answers put_answers
   finished z =
-      let none : calls_in left ≡ [] = calls_none left (sym r.first ∙ z) in
+      let none : calls_in left ≡ [] = calls_none left z in
       let n : length (calls_in left) ≡ 0 = ap length none in (
         omega (arith, r.number),
         sym (ap (site_after sha256 x) none) ∙ r.site,
@@ -50,32 +44,27 @@ module _ (calls : Bytes) (x₀ : Site) (answers₀ : List ℕ) (x : Site) (answe
       )
 
   -- the first of those that are left is run
-  module _ (some : size ≢ 0) where
-    more : calls_in left ≡ first_call left ∷ calls_in (drop (at + size) calls)
-    more = calls_more left (λ z. some (r.first ∙ z))
-        ∙ ap (λ (b : Bytes). first_call left ∷ calls_in b) (ap (λ (n : ℕ). drop n left) (sym r.first) ∙ drop-drop size at calls)
+  module _ (some : first_size left ≢ 0) (call : Call) (behind : Bytes) (ec : call ≡ first_call left) (eb : behind ≡ drop (first_size left) left) where
+    more : calls_in left ≡ call ∷ calls_in behind
+    more = calls_more left some ∙ rw (ec, eb) refl
 
-    pub fits : at + size ≤ length calls
-    fits = omega (arith, r.within, r.first, size_within left, length-drop at calls)
+    -- fewer bytes are left
+    pub fewer : length behind < length left
+    fewer = omega (arith, some, size_within left, ap length eb, length-drop (first_size left) left)
 
-    -- the parts that the code lends are what is left, before the call and after it
-    pub goes_on : (b b' : Bytes) → b ≡ left → b' ≡ drop (at + size) calls → (t' : Bytes) (records' answers' : List ℕ) (answer : Answer) (size' : ℕ)
-        → answer ≡ site_answer sha256 x (first_call b) → t' ≡ (site_step sha256 x (first_call b)).table → records' ≡ (site_step sha256 x (first_call b)).records
-        → answers' ≡ put_answer answers count answer → size' ≡ first_size b'
+    pub goes_on : (t' : Bytes) (records' answers' : List ℕ) (answer : Answer)
+        → answer ≡ site_answer sha256 x call → t' ≡ (site_step sha256 x call).table → records' ≡ (site_step sha256 x call).records
+        → answers' ≡ put_answer answers count answer
         → length t' ≡ length x.table → length records' ≡ length x.records → length answers' ≡ length answers
-        → ReplayInvariant calls x₀ answers₀ (record { table = t'; records = records' }) answers' (count + 1) (at + size) size'
+        → ReplayInvariant calls x₀ answers₀ (record { table = t'; records = records' }) answers' (count + 1) behind
     unfolding site_after site_answers put_answers
-    goes_on b b' here there t' records' answers' answer size' a t s p f lt lr la =
-        let n : length (calls_in left) ≡ suc (length (calls_in (drop (at + size) calls))) = ap length more in
-        let x' : record { table = t'; records = records' } ≡ site_step sha256 x (first_call left) =
-        (λ k. record { table = t k; records = s k }) ∙ ap (λ (z : Bytes). site_step sha256 x (first_call z)) here in
-        let a' : answer ≡ site_answer sha256 x (first_call left) = a ∙ ap (λ (z : Bytes). site_answer sha256 x (first_call z)) here in
+    goes_on t' records' answers' answer a t s p lt lr la =
+        let n : length (calls_in left) ≡ suc (length (calls_in behind)) = ap length more in
+        let x' : record { table = t'; records = records' } ≡ site_step sha256 x call = λ k. record { table = t k; records = s k } in
         record {
-          within = fits;
-          counted = omega (arith, r.counted, some);
-          first = f ∙ ap first_size there;
-          site = ap (λ (y : Site). site_after sha256 y (calls_in (drop (at + size) calls))) x' ∙ sym (ap (site_after sha256 x) more) ∙ r.site;
-          put = rw (add-one count, p, a', x') (sym (ap (λ (cs : List Call). put_answers answers count (site_answers sha256 x cs)) more) ∙ r.put);
+          counted = omega (arith, r.counted, fewer);
+          site = ap (λ (y : Site). site_after sha256 y (calls_in behind)) x' ∙ sym (ap (site_after sha256 x) more) ∙ r.site;
+          put = rw (add-one count, p, a, x') (sym (ap (λ (cs : List Call). put_answers answers count (site_answers sha256 x cs)) more) ∙ r.put);
           number = omega (arith, r.number);
           table = lt ∙ r.table;
           records = lr ∙ r.records;

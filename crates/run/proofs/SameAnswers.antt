@@ -13,7 +13,7 @@ use Rattle.base.proofs.Search.{first_same_lem, any_same}
 use Rattle.answer.specs.Checks.{Check, check, answer_to}
 use Rattle.setup.specs.Setup.{Setup}
 use Rattle.block.specs.Layout.{site_of, reference_count, reference_list, reference_at}
-use Rattle.block.specs.Reading.{well_shaped, reading, answer_of}
+use Rattle.block.specs.Reading.{well_shaped, reading, read_answer}
 use Rattle.table.specs.View.{max_places, interpreted, View, SameBelow}
 use Rattle.table.specs.Rules.{has_digest, place_of, parent_rule, refers_uninterpreted}
 use Rattle.table.proofs.Views.{place_same, rule_reads}
@@ -57,7 +57,7 @@ module _ (v w : View) (n : v.held ≡ w.held) (e : SameBelow v w v.held) (f g : 
         ∷ check 3 (well_shaped b) 0
         ∷ check 4 (ltb (site_of b) s.sites) 0
         ∷ check 5 (eqb verdict 1) 0
-        ∷ check (answer_of (reading b)).refusal (eqb (answer_of (reading b)).refusal 0) (answer_of (reading b)).value
+        ∷ check (read_answer (reading b)).refusal (eqb (read_answer (reading b)).refusal 0) (read_answer (reading b)).value
         ∷ check 8 (not (digest_same (digest b) k)) (place_is k)
         ∷ check 9 (not (any_same (missing v b) (missing w b) (reference_count b) (λ i h. missing_same i) k)) (first_same_lem (missing v b) (missing w b) (reference_count b) (λ i h. missing_same i) k)
         ∷ check 10 (rule_is k) 0

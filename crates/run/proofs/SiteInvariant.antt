@@ -16,7 +16,7 @@ use Rattle.setup.specs.Setup.{Setup, lawful, slot_count}
 use Rattle.block.specs.Limits.{reference_size}
 use Rattle.block.specs.Layout.{site_of, sequence_of, references_of, request_for}
 use Rattle.block.specs.Reading.{reading, fields_of}
-use Rattle.block.specs.declared.Reading.TheVariants.{Block}
+use Rattle.std.specs.Prelude.{Ok}
 use Rattle.block.specs.Promises.{Shaped}
 use Rattle.block.proofs.Acceptance.{reading_accepted}
 use Rattle.table.specs.View.{max_places, SameRow}
@@ -162,7 +162,7 @@ module _ (digest : Bytes → Bytes) (sized : (b : Bytes) → length (digest b) �
     pub unretired : l.retired ≡ []
     pub canonical : Canonical x.table
     pub fixed : Fixed s x.table x.records
-    pub accepted : (p : ℕ) → p < l.held → reading (l.block p) ≡ Block (fields_of (l.block p))
+    pub accepted : (p : ℕ) → p < l.held → reading (l.block p) ≡ Ok (fields_of (l.block p))
 
   module _ (size : ℕ) (l : Ledger) (x : Site) (r : SiteInvariant size l x) where
     abbrev simulated : Simulates digest s size l x
@@ -190,7 +190,7 @@ module _ (digest : Bytes → Bytes) (sized : (b : Bytes) → length (digest b) �
     pass_fixed take_back e o = takes_back_fixed x simulated.formed none simulated.setup r.canonical r.fixed e
 
     pass_accepted : (c : Call) → (site_answer digest x c).refusal ≡ 0 → (taken l c).retired ≡ []
-        → (p : ℕ) → p < (taken l c).held → reading ((taken l c).block p) ≡ Block (fields_of ((taken l c).block p))
+        → (p : ℕ) → p < (taken l c).held → reading ((taken l c).block p) ≡ Ok (fields_of ((taken l c).block p))
     unfolding site_answer taken
     pass_accepted (admit b verdict) e o p h = by_test (eqb p l.held)
         (λ y. rw y (((promises digest sized).causes x.table b verdict).none.0 e).0.linked.is_new.readable.accepted)
@@ -251,7 +251,7 @@ pub record Rows (digest : Bytes → Bytes) (t : Bytes) (block : ℕ → Bytes) :
   pub requests : (p : ℕ) → p < count_of t → (slot : ℕ) → slot < slot_count → counted_request_at t p slot ≡ request_for (block p) slot
   pub refers : (p q : ℕ) → p < count_of t → q < count_of t → (row_at t p).refers_to q ≡ lists (block p) (digest_at t q)
   pub linked : (p : ℕ) → p < count_of t → (r : Bytes) → Memᴰ r (references_of (block p)) → (q : ℕ) × (q < count_of t) × (digest_at t q ≡ r)
-  pub accepted : (p : ℕ) → p < count_of t → reading (block p) ≡ Block (fields_of (block p))
+  pub accepted : (p : ℕ) → p < count_of t → reading (block p) ≡ Ok (fields_of (block p))
 
 module _ (digest : Bytes → Bytes) (sized : (b : Bytes) → length (digest b) ≡ reference_size) (s : Setup) (size : ℕ) (l : Ledger) (x : Site)
     (r : SiteInvariant digest sized s size l x) where

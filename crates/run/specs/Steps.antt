@@ -1,11 +1,11 @@
 -- What the contracts of inner functions cite. Nothing here need be believed.
-use Rattle.std.specs.Prelude.{◌≡◌, ◌+◌, ◌≤◌, length, get_or}
-use Rattle.base.specs.Bytes.{Bytes}
-use Rattle.base.specs.LowFirst.{low_first_at}
-use Rattle.run.specs.Encoding.{admission_byte, interpretation_byte, admission_header, interpretation_size, bare_size}
+use Rattle.run.specs.Ledger.{Call, admit, interpret, retire, take_back}
+use Rattle.run.specs.declared.call.EncodedCall.{EncodedCall}
+use Rattle.run.specs.declared.call.EncodedCall.TheVariants.{Admission, Interpretation, Retiring, TakingBack}
 
--- a whole call stands at the front of the bytes
-pub record WholeCall (b : Bytes) : Type 0 where
-  pub some : bare_size ≤ length b
-  pub word : get_or b 0 0 ≡ interpretation_byte → interpretation_size ≤ length b
-  pub block : get_or b 0 0 ≡ admission_byte → admission_header + low_first_at b 2 ≤ length b
+-- the call that the code has read
+abbrev pub call_of : EncodedCall → Call
+call_of (Admission block verdict) = admit block.now verdict
+call_of (Interpretation place) = interpret place
+call_of Retiring = retire
+call_of TakingBack = take_back

@@ -1,13 +1,14 @@
-// The call at the front of an encoded list: how many bytes it takes, and running it.
-ghost use Rattle.std.specs.Prelude.{◌≡◌, ◌+◌, ◌≤◌, length};
+// A call of an encoded list: reading the first, and running it.
+ghost use Rattle.std.specs.Prelude.{◌≡◌, ◌≢◌, ◌≤◌, ◌<◌, MatchOption, length, drop};
 ghost use Rattle.base.specs.LowFirst.{word_size, low_first_at};
 ghost use Rattle.sha256.specs.Sha256.{sha256};
 ghost use Rattle.run.specs.Run.{site_answer, site_step};
 ghost use Rattle.run.specs.Encoding.{first_size, first_call};
-ghost use Rattle.run.specs.Steps.{WholeCall};
+ghost use Rattle.run.specs.Steps.{call_of};
 
 use answer::Answer;
 
+// The first byte of each kind of call.
 const ADMISSION: u8 = 0;
 
 const INTERPRETATION: u8 = 1;
@@ -16,73 +17,61 @@ const RETIRING: u8 = 2;
 
 const TAKING_BACK: u8 = 3;
 
-const ADMISSION_HEADER: usize = 2 + base::WORD_SIZE;
-
-const INTERPRETATION_SIZE: usize = 1 + base::WORD_SIZE;
-
-// A retiring or a taking back is its first byte alone.
-const BARE_SIZE: usize = 1;
-
-// The number of the eight bytes from an index on.
-fn low_first_at(calls: &[u8], at: usize) -> usize
-    requires { (at ≤ 2) × (at + word_size ≤ length calls.now) }
-    ensures { result ≡ low_first_at calls.now at }
-{
-    base::low_first(&calls[at..at + base::WORD_SIZE]) as usize
+// A call: the block and the verdict of an admission, the place of an interpretation, a retiring, or a taking back.
+#[derive(Clone, Copy, Debug, PartialEq, Eq)]
+pub enum EncodedCall<'a> {
+    Admission(&'a [u8], u8),
+    Interpretation(usize),
+    Retiring,
+    TakingBack,
 }
 
-// How many bytes the call at the front takes, 0 if no whole call stands there.
-pub fn first_size(calls: &[u8]) -> usize
-    ensures { result ≡ first_size calls.now }
+// The number of the first eight bytes, and the bytes behind them.
+fn split_word(bytes: &[u8]) -> Option<(usize, &[u8])>
+    ensures { MatchOption result (length bytes.now < word_size) (λ p. (word_size ≤ length bytes.now) × (p.0 ≡ low_first_at bytes.now 0) × (p.1.now ≡ drop word_size bytes.now)) }
 {
-    if calls.len() < BARE_SIZE {
-        return 0;
-    }
-    if calls[0] == RETIRING {
-        return BARE_SIZE;
-    }
-    if calls[0] == TAKING_BACK {
-        return BARE_SIZE;
-    }
-    if calls.len() < INTERPRETATION_SIZE {
-        return 0;
-    }
-    if calls[0] == INTERPRETATION {
-        return INTERPRETATION_SIZE;
-    }
-    if calls[0] != ADMISSION {
-        return 0;
-    }
-    if calls.len() < ADMISSION_HEADER {
-        return 0;
-    }
-    let length = low_first_at(calls, 2);
-    if calls.len() - ADMISSION_HEADER < length {
-        return 0;
-    }
-    ADMISSION_HEADER + length
+    let (word, rest) = bytes.split_first_chunk()?;
+    Some((u64::from_le_bytes(*word) as usize, rest))
 }
 
-// Runs the call at the front of the list on the table and the records.
-pub fn run_first(table: &mut [u8], records: &mut [u16], calls: &[u8]) -> Answer
-    requires { WholeCall calls.now }
-    ensures value { result ≡ site_answer sha256 (record { table = table.old; records = records.old }) (first_call calls.now) }
-    ensures table_after { table.new ≡ (site_step sha256 (record { table = table.old; records = records.old }) (first_call calls.now)).table }
-    ensures records_after { records.new ≡ (site_step sha256 (record { table = table.old; records = records.old }) (first_call calls.now)).records }
+// The call at the front of a list, and the bytes behind it; none where no whole call stands there.
+pub fn split_first(calls: &[u8]) -> Option<(EncodedCall<'_>, &[u8])>
+    ensures { MatchOption result (first_size calls.now ≡ 0) (λ p. (first_size calls.now ≢ 0) × (call_of p.0 ≡ first_call calls.now) × (p.1.now ≡ drop (first_size calls.now) calls.now)) }
 {
-    if calls[0] == ADMISSION {
-        let length = low_first_at(calls, 2);
-        return admission::admit(
-            table,
-            &calls[ADMISSION_HEADER..ADMISSION_HEADER + length],
-            calls[1],
-        );
+    let (kind, rest) = calls.split_first()?;
+    match *kind {
+        ADMISSION => {
+            let (verdict, rest) = rest.split_first()?;
+            let (length, rest) = split_word(rest)?;
+            let (block, rest) = rest.split_at_checked(length)?;
+            Some((EncodedCall::Admission(block, *verdict), rest))
+        }
+        INTERPRETATION => {
+            let (place, rest) = split_word(rest)?;
+            Some((EncodedCall::Interpretation(place), rest))
+        }
+        RETIRING => Some((EncodedCall::Retiring, rest)),
+        TAKING_BACK => Some((EncodedCall::TakingBack, rest)),
+        _ => None,
     }
-    if calls[0] == INTERPRETATION {
-        return interpret::interpret(table, low_first_at(calls, 1), records);
+}
+
+impl<'a> EncodedCall<'a> {
+    // Runs the call on the table and the records.
+    pub fn run(&self, table: &mut [u8], records: &mut [u16]) -> Answer
+        ensures value { result ≡ site_answer sha256 (record { table = table.old; records = records.old }) (call_of self.now) }
+        ensures table_after { table.new ≡ (site_step sha256 (record { table = table.old; records = records.old }) (call_of self.now)).table }
+        ensures records_after { records.new ≡ (site_step sha256 (record { table = table.old; records = records.old }) (call_of self.now)).records }
+    {
+        match *self {
+            EncodedCall::Admission(block, verdict) => {
+                Answer::from(admission::admit(table, block, verdict))
+            }
+            EncodedCall::Interpretation(place) => {
+                Answer::from(interpret::interpret(table, place, records))
+            }
+            EncodedCall::Retiring => Answer::from(retire::retire(table, records)),
+            EncodedCall::TakingBack => Answer::from(take_back::take_back(table)),
+        }
     }
-    if calls[0] == RETIRING {
-        return retire::retire(table, records);
-    }
-    take_back::take_back(table)
 }

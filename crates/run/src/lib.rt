@@ -21,14 +21,11 @@ pub fn replay(table: &mut [u8], records: &mut [u16], calls: &[u8], answers: &mut
     ensures answers_after { answers.new ≡ put_answers answers.old 0 (site_answers sha256 (record { table = table.old; records = records.old }) (calls_in calls.now)) }
 {
     let mut count = 0;
-    let mut at = 0;
-    let mut size = call::first_size(calls);
-    while size != 0 {
-        let answer = call::run_first(table, records, &calls[at..]);
-        answer::put_answer(answers, count, answer);
+    let mut rest = calls;
+    while let Some((call, behind)) = call::split_first(rest) {
+        answer::put_answer(answers, count, call.run(table, records));
         count += 1;
-        at += size;
-        size = call::first_size(&calls[at..]);
+        rest = behind;
     }
     count
 }

@@ -19,24 +19,14 @@ pub const MAX_SLOT: u8 = (SLOTS - 1) as u8;
 fn lawful_sites(sites: u8) -> bool
     ensures { result ≡ lawful_sites sites }
 {
-    match sites {
-        1 | 4 | 7 | 10 | 13 | 16 => true,
-        _ => false,
-    }
+    matches!(sites, 1 | 4 | 7 | 10 | 13 | 16)
 }
 
 // Whether every owner is a site, that is, below n.
 fn owners_below(owners: &[u8], sites: u8) -> bool
     ensures { result ≡ owners_below owners.now sites }
 {
-    let mut i = 0;
-    while i < owners.len() {
-        if sites <= owners[i] {
-            return false;
-        }
-        i += 1;
-    }
-    true
+    owners.iter().all(|owner| *owner < sites)
 }
 
 // Whether a campaign may have this setup.
@@ -56,10 +46,7 @@ pub fn lawful(sites: u8, owners: &[u8]) -> bool
 pub fn faults(sites: u8) -> u32
     ensures { result ≡ faults sites }
 {
-    if sites == 0 {
-        return 0;
-    }
-    ((sites - 1) / 3) as u32
+    u32::from(sites.saturating_sub(1) / 3)
 }
 
 // How many supporters of an ECHO make a site send READY.

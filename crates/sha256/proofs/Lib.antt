@@ -6,3 +6,5 @@ mod Hashing
 mod PaddedMessage
 -- published digests, the padding of the standard, and 32 bytes
 pub mod Promises
+-- the bytes of a number
+mod Bytes

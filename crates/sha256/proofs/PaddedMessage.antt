@@ -7,7 +7,7 @@ use mathlib.Core.List.{List, ◌∷◌, ◌++◌, append_assoc}
 use lib.ListN.{length, take, drop, replicate, length-append, length-drop, length-replicate, replicate-append-replicate}
 use lib.Seq.{take_at, take-append-add, drop-append-le}
 use Rattle.base.specs.Bytes.{splice}
-use Rattle.base.proofs.Splice.{take_splice, splice_append}
+use Rattle.base.proofs.Splice.{take_splice}
 use Rattle.sha256.specs.declared.rounds.State.{State}
 use Rattle.sha256.specs.Sha256.{bytes_of, zeros, pad, H0, hash, bytes, sha256}
 use Rattle.sha256.specs.Steps.{tail_blocks}
@@ -20,22 +20,6 @@ take_zeros : (n m : ℕ) → n ≤ m → take n (zs m) ≡ zs n
 take_zeros n m h =
     let e : m ≡ n + (m - n) = omega arith in
     ap (λ (k : ℕ). take n (zs k)) e ∙ ap (take n) (sym (replicate-append-replicate n (m - n) 0)) ∙ take_at (zs n) (zs (m - n)) n (length-replicate n 0)
-
--- the bytes of a word are those of the number that it is cut from, and eight bytes are two words
-low_digits : (x : ℕ)
-    → (x % 2 ^ 32 / 2 ^ 24 % 2 ^ 8 ≡ x / 2 ^ 24 % 2 ^ 8) × (x % 2 ^ 32 / 2 ^ 16 % 2 ^ 8 ≡ x / 2 ^ 16 % 2 ^ 8)
-    × (x % 2 ^ 32 / 2 ^ 8 % 2 ^ 8 ≡ x / 2 ^ 8 % 2 ^ 8) × (x % 2 ^ 32 / 2 ^ 0 % 2 ^ 8 ≡ x / 2 ^ 0 % 2 ^ 8)
-low_digits x = (omega arith, omega arith, omega arith, omega arith)
-
-low_bytes : (x : ℕ) → bytes_of 4 (x % 2 ^ 32) ≡ bytes_of 4 x
-low_bytes x = rw ((low_digits x).0, (low_digits x).1, (low_digits x).2, (low_digits x).3)
-
-high_digits : (x : ℕ)
-    → (x / 2 ^ 32 / 2 ^ 24 ≡ x / 2 ^ 56) × (x / 2 ^ 32 / 2 ^ 16 ≡ x / 2 ^ 48) × (x / 2 ^ 32 / 2 ^ 8 ≡ x / 2 ^ 40) × (x / 2 ^ 32 / 2 ^ 0 ≡ x / 2 ^ 32)
-high_digits x = (omega arith, omega arith, omega arith, omega arith)
-
-two_words : (x : ℕ) → bytes_of 4 (x / 2 ^ 32 % 2 ^ 32) ++ bytes_of 4 (x % 2 ^ 32) ≡ bytes_of 8 x
-two_words x = ap₂ ◌++◌ (low_bytes (x / 2 ^ 32)) (low_bytes x) ∙ rw ((high_digits x).0, (high_digits x).1, (high_digits x).2, (high_digits x).3)
 
 module _ (m : List ℕ) where
   abbrev pub len : ℕ
@@ -54,7 +38,7 @@ module _ (m : List ℕ) where
   abbrev pub rest : List ℕ
   rest = drop whole m ++ (0x80 ∷ zs (127 - (len - whole)))
 
-  -- ---- the tail: the rest, with the length's two words put at the end of the first block or the second
+  -- ---- the tail: the rest, with the length put at the end of the first block or the second
 
   dropped_length : length (drop whole m) ≡ len - whole
   dropped_length = length-drop whole m
@@ -70,23 +54,17 @@ module _ (m : List ℕ) where
       ap (λ (n : ℕ). take n rest) e ∙ take-append-add (drop whole m) (0x80 ∷ zs (127 - (len - whole))) (suc (zeros len))
       ∙ ap (λ (l : List ℕ). drop whole m ++ (0x80 ∷ l)) (take_zeros (zeros len) (127 - (len - whole)) z)
 
-  length_spliced : splice (splice rest (end - 8) (bytes_of 4 (bits / 2 ^ 32 % 2 ^ 32))) (end - 4) (bytes_of 4 (bits % 2 ^ 32)) ≡ splice rest (end - 8) (bytes_of 8 bits)
-  length_spliced =
-      let e : end - 4 ≡ end - 8 + 4 = omega arith in
-      rw e (splice_append rest (end - 8) (bytes_of 4 (bits / 2 ^ 32 % 2 ^ 32)) room (bytes_of 4 (bits % 2 ^ 32)))
-      ∙ ap (splice rest (end - 8)) (two_words bits)
-
   pad_after : drop whole (pad m) ≡ (drop whole m ++ (0x80 ∷ zs (zeros len))) ++ bytes_of 8 bits
   unfolding pad
   pad_after =
       drop-append-le whole m (0x80 ∷ (zs (zeros len) ++ bytes_of 8 bits)) (omega arith)
       ∙ sym (append_assoc (drop whole m) (0x80 ∷ zs (zeros len)) (bytes_of 8 bits))
 
-  pub tail_is : take end (splice (splice rest (end - 8) (bytes_of 4 (bits / 2 ^ 32 % 2 ^ 32))) (end - 4) (bytes_of 4 (bits % 2 ^ 32)))
-      ≡ drop whole (pad m)
+  pub tail_is : take end (splice rest (end - 8) (bytes_of 8 bits)) ≡ drop whole (pad m)
   tail_is =
       let e : end ≡ end - 8 + 8 = omega arith in
-      ap₂ take e length_spliced ∙ take_splice rest (end - 8) (bytes_of 8 bits) room ∙ ap (λ (x : List ℕ). x ++ bytes_of 8 bits) rest_taken ∙ sym pad_after
+      ap (λ (n : ℕ). take n (splice rest (end - 8) (bytes_of 8 bits))) e ∙ take_splice rest (end - 8) (bytes_of 8 bits) room
+      ∙ ap (λ (x : List ℕ). x ++ bytes_of 8 bits) rest_taken ∙ sym pad_after
 
   -- ---- the hash value
 

@@ -4,7 +4,6 @@ ghost use Rattle.sha256.specs.Sha256.{H0, plus, compress, hash};
 
 use crate::rounds::{State, rounds_of};
 use crate::schedule::schedule_of;
-use crate::words::add;
 
 // H(0), the initial hash value.
 pub fn initial() -> State
@@ -28,10 +27,8 @@ pub fn hash_of(s: State, m: &[u8], n: usize) -> State
     ensures { result ≡ hash s m.now n }
 {
     let mut v = s;
-    let mut i = 0;
-    while i < n {
+    for i in 0..n {
         v = compress_of(v, m, 64 * i);
-        i += 1;
     }
     v
 }
@@ -50,13 +47,13 @@ fn plus_of(s: State, t: State) -> State
     ensures { result ≡ plus s t }
 {
     State {
-        a: add(s.a, t.a),
-        b: add(s.b, t.b),
-        c: add(s.c, t.c),
-        d: add(s.d, t.d),
-        e: add(s.e, t.e),
-        f: add(s.f, t.f),
-        g: add(s.g, t.g),
-        h: add(s.h, t.h),
+        a: s.a.wrapping_add(t.a),
+        b: s.b.wrapping_add(t.b),
+        c: s.c.wrapping_add(t.c),
+        d: s.d.wrapping_add(t.d),
+        e: s.e.wrapping_add(t.e),
+        f: s.f.wrapping_add(t.f),
+        g: s.g.wrapping_add(t.g),
+        h: s.h.wrapping_add(t.h),
     }
 }

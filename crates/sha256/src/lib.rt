@@ -17,7 +17,6 @@ ghost use Rattle.sha256.specs.Sha256.{bytes, sha256};
 use hash::{hash_of, initial};
 use padding::{put_tail, tail_blocks};
 use rounds::State;
-use words::put_word;
 
 // The digest of the message, which is read in place: first its whole blocks, then one or two blocks with the message's rest and the padding.
 pub fn digest(message: &[u8]) -> [u8; 32]
@@ -35,10 +34,8 @@ fn bytes_of(s: State) -> [u8; 32]
 {
     let words = [s.a, s.b, s.c, s.d, s.e, s.f, s.g, s.h];
     let mut out = [0u8; 32];
-    let mut i = 0;
-    while i < 8 {
-        put_word(&mut out, 4 * i, words[i]);
-        i += 1;
+    for (i, word) in words.iter().enumerate() {
+        base::put(&mut out, 4 * i, &word.to_be_bytes());
     }
     out
 }

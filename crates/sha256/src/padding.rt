@@ -3,8 +3,6 @@ ghost use Rattle.std.specs.Prelude.{◌≡◌, ◌+◌, ◌-◌, ◌*◌, ◌/�
 ghost use Rattle.sha256.specs.Sha256.{pad};
 ghost use Rattle.sha256.specs.Steps.{tail_blocks};
 
-use crate::words::{low, put_word};
-
 // How many blocks follow the message's whole blocks: as many as its rest, the byte with the one bit and the eight bytes of the length need.
 pub fn tail_blocks(len: usize) -> usize
     ensures { result ≡ tail_blocks len }
@@ -20,9 +18,7 @@ pub fn put_tail(message: &[u8], tail: &mut [u8])
     let len = message.len();
     put_rest(message, 64 * (len / 64), tail);
     let end = 64 * tail_blocks(len);
-    let bits = bit_count(len);
-    put_word(tail, end - 8, low(bits >> 32));
-    put_word(tail, end - 4, low(bits));
+    base::put(tail, end - 8, &bit_count(len).to_be_bytes());
 }
 
 // Puts the message from byte `at` on, then the byte with the one bit. The bytes behind it stay zeros.
@@ -35,9 +31,9 @@ fn put_rest(message: &[u8], at: usize, tail: &mut [u8])
     tail[n] = 0x80;
 }
 
-// The message's length in bits, modulo 2 ^ 64. The length in bytes is cut before it is multiplied, so that the product fits.
+// The message's length in bits, modulo 2 ^ 64.
 fn bit_count(len: usize) -> u64
     ensures { result ≡ 8 * len % 2 ^ 64 }
 {
-    8 * (len as u64 % 0x2000_0000_0000_0000)
+    (len as u64).wrapping_mul(8)
 }

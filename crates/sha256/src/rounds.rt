@@ -1,11 +1,11 @@
 // The 64 rounds on the working variables: 6.2.2 of FIPS 180-4, steps 2 and 3.
-ghost use Rattle.std.specs.Prelude.{◌≡◌, ◌<◌, get_or};
+ghost use Rattle.std.specs.Prelude.{◌≡◌};
 ghost use Rattle.sha256.specs.Sha256.{T1, T2, round, rounds};
 
-use crate::words::{add, big_sigma0, big_sigma1, ch, low, maj};
+use crate::words::{big_sigma0, big_sigma1, ch, maj};
 
 // The eight working variables, and the hash value between two blocks.
-#[derive(Clone, Copy)]
+#[derive(Clone, Copy, Debug, PartialEq, Eq)]
 pub struct State {
     pub a: u32,
     pub b: u32,
@@ -92,23 +92,14 @@ pub fn rounds_of(s: State, w: &[u32; 64]) -> State
 {
     let k = K;
     let mut v = s;
-    let mut t = 0;
-    while t < 64 {
-        v = round_at(v, &k, w, t);
-        v = round_at(v, &k, w, t + 1);
-        v = round_at(v, &k, w, t + 2);
-        v = round_at(v, &k, w, t + 3);
-        t += 4;
+    for turn in 0..16 {
+        let t = 4 * turn;
+        v = round_of(v, k[t], w[t]);
+        v = round_of(v, k[t + 1], w[t + 1]);
+        v = round_of(v, k[t + 2], w[t + 2]);
+        v = round_of(v, k[t + 3], w[t + 3]);
     }
     v
-}
-
-// Round t, with word t of the constants and word t of the schedule.
-fn round_at(s: State, k: &[u32; 64], w: &[u32; 64], t: usize) -> State
-    requires { t < 64 }
-    ensures { result ≡ round s (get_or k.now t 0) (get_or w.now t 0) }
-{
-    round_of(s, k[t], w[t])
 }
 
 fn round_of(s: State, k: u32, w: u32) -> State
@@ -119,22 +110,25 @@ fn round_of(s: State, k: u32, w: u32) -> State
         h: s.g,
         g: s.f,
         f: s.e,
-        e: add(s.d, t1),
+        e: s.d.wrapping_add(t1),
         d: s.c,
         c: s.b,
         b: s.a,
-        a: add(t1, t2_of(s)),
+        a: t1.wrapping_add(t2_of(s)),
     }
 }
 
 fn t1_of(s: State, k: u32, w: u32) -> u32
     ensures { result ≡ T1 s k w }
 {
-    low(s.h as u64 + big_sigma1(s.e) as u64 + ch(s.e, s.f, s.g) as u64 + k as u64 + w as u64)
+    s.h.wrapping_add(big_sigma1(s.e))
+        .wrapping_add(ch(s.e, s.f, s.g))
+        .wrapping_add(k)
+        .wrapping_add(w)
 }
 
 fn t2_of(s: State) -> u32
     ensures { result ≡ T2 s }
 {
-    add(big_sigma0(s.a), maj(s.a, s.b, s.c))
+    big_sigma0(s.a).wrapping_add(maj(s.a, s.b, s.c))
 }

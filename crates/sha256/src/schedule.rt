@@ -2,7 +2,7 @@
 ghost use Rattle.std.specs.Prelude.{◌≡◌, ◌+◌, ◌%◌, ◌^◌, ◌≤◌, length, take};
 ghost use Rattle.sha256.specs.Sha256.{σ0, σ1, words, schedule};
 
-use crate::words::{low, small_sigma0, small_sigma1, word_at};
+use crate::words::{small_sigma0, small_sigma1, word_at};
 
 // The schedule of the block that starts at byte `at` of m.
 pub fn schedule_of(m: &[u8], at: usize) -> [u32; 64]
@@ -18,10 +18,8 @@ fn load(m: &[u8], at: usize) -> [u32; 64]
     ensures { take 16 result ≡ words m.now at 16 }
 {
     let mut w = [0u32; 64];
-    let mut t = 0;
-    while t < 16 {
+    for t in 0..16 {
         w[t] = word_at(m, at + 4 * t);
-        t += 1;
     }
     w
 }
@@ -33,13 +31,11 @@ fn extend(block: [u32; 64]) -> [u32; 64]
     let mut w = block;
     let mut a = w[14];
     let mut b = w[15];
-    let mut t = 16;
-    while t < 64 {
+    for t in 16..64 {
         let c = next_of(a, w[t - 7], w[t - 15], w[t - 16]);
         w[t] = c;
         a = b;
         b = c;
-        t += 1;
     }
     w
 }
@@ -48,5 +44,8 @@ fn extend(block: [u32; 64]) -> [u32; 64]
 fn next_of(w2: u32, w7: u32, w15: u32, w16: u32) -> u32
     ensures { result ≡ (σ1 w2 + w7 + σ0 w15 + w16) % 2 ^ 32 }
 {
-    low(small_sigma1(w2) as u64 + w7 as u64 + small_sigma0(w15) as u64 + w16 as u64)
+    small_sigma1(w2)
+        .wrapping_add(w7)
+        .wrapping_add(small_sigma0(w15))
+        .wrapping_add(w16)
 }

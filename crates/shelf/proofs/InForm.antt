@@ -1,19 +1,22 @@
 -- A shelf in form as a record of what holds of it, and the other way round. Assumes nothing.
 use mathlib.Core.Path.{◌≡◌}
-use mathlib.Core.Bool.{true, ◌&&◌}
+use mathlib.Core.Logic.{◌≢◌}
+use mathlib.Core.Bool.{true, false, ◌&&◌}
 use mathlib.Core.List.{List}
 use Prim.Native.Nat.{◌≤◌}
 use lib.Dec.{leb}
 use lib.ListN.{length}
+use Rattle.std.specs.Prelude.{Option, Some, None, MatchOption}
+use Rattle.std.specs.Array.{IsWholeChunk}
 use borrow.Author.Tests.{leb-true, le-leb}
 use Rattle.base.specs.Bytes.{Bytes, same_bytes}
 use Rattle.base.proofs.Tests.{and_left, and_right}
 use Rattle.base.proofs.Bytes.{same_equal, same_refl}
-use Rattle.shelf.specs.Layout.{max_waiting, Waiting, waiting_in, shelf_bytes}
+use Rattle.shelf.specs.Layout.{max_waiting, shelf_size, Waiting, waiting_in, shelf_bytes}
 use Rattle.shelf.specs.Rules.{each_sound, shared, rules_hold}
 use Rattle.shelf.specs.Form.{shelf_in_form}
 use Rattle.shelf.specs.Steps.{AllFit, Laid}
-use Rattle.shelf.proofs.ShelfLayout.{waiting_laid}
+use Rattle.shelf.proofs.ShelfLayout.{waiting_laid, laid_size}
 use Rattle.shelf.proofs.Turns.{shown_fit}
 
 pub record RulesHold (ws : List Waiting) : Type 0 where
@@ -54,3 +57,9 @@ shelf_form_lem s e =
 pub formed_bytes : (ws : List Waiting) → AllFit ws → rules_hold ws ≡ true → shelf_in_form (shelf_bytes ws) ≡ true
 unfolding shelf_in_form
 formed_bytes ws f e = rw (waiting_laid ws (ruled_of ws e).few f, e, same_refl (shelf_bytes ws))
+
+-- where a buffer in form is taken for a shelf, it is one
+pub whole_shelf : {B : Type 0} (s : Bytes) (now : B → Bytes) (r : Option B) → shelf_in_form s ≡ true
+    → MatchOption r (length s ≢ shelf_size) (λ y. IsWholeChunk s (now y) shelf_size) → MatchOption r (shelf_in_form s ≡ false) (λ y. (now y ≡ s) × (shelf_in_form s ≡ true))
+whole_shelf s now (Some y) f w = (w.same, f)
+whole_shelf s now None f w = absurd (w (laid_size s (waiting_in s) (shelf_form_lem s f).laid))

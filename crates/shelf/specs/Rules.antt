@@ -4,7 +4,7 @@ use Rattle.base.specs.Search.{all_below}
 use Rattle.base.specs.Count.{sum_below}
 use Rattle.base.specs.List.{some_in, count_in}
 use Rattle.base.specs.Bytes.{Bytes, same_bytes}
-use Rattle.block.specs.Reading.{reading, answer_of}
+use Rattle.block.specs.Reading.{reading, read_answer}
 use Rattle.shelf.specs.Layout.{max_waiting, Waiting}
 
 -- "up to four campaigns"
@@ -58,7 +58,7 @@ waits c b ws = some_in (is_same c b) ws
 
 -- "one that the reader accepts"
 abbrev pub accepts : Bytes → Bool
-accepts b = eqb (answer_of (reading b)).refusal 0
+accepts b = eqb (read_answer (reading b)).refusal 0
 
 -- "each waiting block is one that the reader accepts, for a campaign up to 3, no campaign has the same bytes waiting twice"
 unfoldable pub each_sound : List Waiting → Bool

@@ -3,7 +3,7 @@
 use mathlib.Core.Path.{◌≡◌, refl, sym, ap, ap₂, ◌∙◌}
 use mathlib.Core.Bool.{true}
 use mathlib.Core.List.{[], ◌∷◌, ◌++◌}
-use Prim.Native.Nat.{ℕ, ◌+◌, ◌-◌, ◌*◌, ◌≤◌, ◌<◌}
+use Prim.Native.Nat.{suc, ℕ, ◌+◌, ◌-◌, ◌*◌, ◌≤◌, ◌<◌}
 use native.Mathlib.Omega.{arith}
 use lib.ListN.{length, get_or, take, drop, replicate, length-replicate, length-drop}
 use lib.Seq.{drop_at, drop-cons, length-take-le}
@@ -16,7 +16,6 @@ use Rattle.table.specs.View.{max_places, Row}
 use Rattle.table.specs.Layout.{owners_offset, retired_offset, count_offset, rows_offset, row_size, row_start, table_size, setup_of, count_of, row_at, view_of, row_bytes, with_row}
 use Rattle.table.specs.Writing.{without_last, without_row}
 use Rattle.table.specs.Promises.{Shows}
-use Rattle.table.specs.Steps.{LastPlace}
 use Rattle.table.proofs.RowBytes.{row_part, part_same, length_row, row_bytes_same}
 use Rattle.table.proofs.AddedRow.{grown}
 use Rattle.table.proofs.Canonical.{Canonical}
@@ -129,9 +128,9 @@ module _ (t : Bytes) (r : Row) (size : length t ≡ table_size) (room : count_of
 
 -- ---- the code's steps: zeros, then the count
 
-pub cleared_is : (t : Bytes) (last : ℕ) → LastPlace t last → (t₁ t₂ : Bytes) → t₁ ≡ splice t (row_start last) none
+pub cleared_is : (t : Bytes) (last : ℕ) → count_of t ≡ suc last → (t₁ t₂ : Bytes) → t₁ ≡ splice t (row_start last) none
     → t₂ ≡ splice t₁ count_offset (last ∷ []) → t₂ ≡ without_row t
 unfolding without_row
 cleared_is t last l t₁ t₂ e f =
-    let k : last ≡ count_of t - 1 = omega (arith, l.count) in
+    let k : last ≡ count_of t - 1 = omega (arith, l) in
     f ∙ ap (λ (x : Bytes). splice x count_offset (last ∷ [])) e ∙ ap (λ (m : ℕ). splice (splice t (row_start m) none) count_offset (m ∷ [])) k

@@ -1,20 +1,22 @@
 -- What a table in form has. Assumes nothing.
 use mathlib.Core.Path.{◌≡◌, sym, ap, ◌∙◌}
-use mathlib.Core.Bool.{true}
-use Prim.Native.Nat.{ℕ, suc, ◌<◌}
+use mathlib.Core.Logic.{◌≢◌}
+use mathlib.Core.Bool.{true, false}
+use Prim.Native.Nat.{ℕ, ◌≤◌, ◌<◌}
 use native.Mathlib.Omega.{arith}
 use lib.Dec.{ltb}
 use lib.ListN.{length, drop}
+use Rattle.std.specs.Prelude.{Option, Some, None, MatchOption}
+use Rattle.std.specs.Array.{IsWholeChunk}
 use borrow.Author.Tests.{eq-eqb, eqb-true, ltb-true, ltb-false}
 use Rattle.base.specs.Bytes.{Bytes, all_zero}
 use Rattle.base.proofs.Tests.{by_test, and_left, and_right}
 use Rattle.setup.specs.Setup.{Setup}
-use Rattle.table.specs.View.{View}
+use Rattle.table.specs.View.{max_places, View}
 use Rattle.table.specs.Layout.{table_size, row_start, setup_of, retired_of, count_of, digest_at, row_at, view_of}
 use Rattle.table.specs.Rules.{parent_rule, held_in_form}
 use Rattle.table.specs.Form.{in_form}
 use Rattle.table.specs.Promises.{Shows}
-use Rattle.table.specs.Steps.{Places, LastPlace}
 use Rattle.table.proofs.Views.{same_sym, held_same, form_rule, RowForm, row_form, ViewInForm, held_of, held_in}
 
 pub record TableForm (t : Bytes) : Type 0 where
@@ -32,11 +34,14 @@ table_form t e =
       zeros = search and_right;
     }
 
-pub formed_places : (t : Bytes) → in_form t ≡ true → Places t (count_of t)
-formed_places t e = let f = table_form t e in record { size = f.size; bound = f.held.fits }
+pub formed_places : (t : Bytes) → in_form t ≡ true → count_of t ≤ max_places
+formed_places t e = (table_form t e).held.fits
 
-pub last_place : (t : Bytes) → in_form t ≡ true → (last : ℕ) → count_of t ≡ suc last → LastPlace t last
-last_place t e last c = let f = table_form t e in record { size = f.size; count = c; few = omega (arith, f.held.fits) }
+-- where a buffer in form is taken for a table, it is one
+pub whole_table : {B : Type 0} (t : Bytes) (now : B → Bytes) (r : Option B) → in_form t ≡ true
+    → MatchOption r (length t ≢ table_size) (λ y. IsWholeChunk t (now y) table_size) → MatchOption r (in_form t ≡ false) (λ y. (now y ≡ t) × (in_form t ≡ true))
+whole_table t now (Some y) f w = (w.same, f)
+whole_table t now None f w = absurd (w (table_form t f).size)
 
 pub formed_row : (t : Bytes) → in_form t ≡ true → (i : ℕ) → i < count_of t → RowForm (setup_of t) (view_of t) i
 formed_row t f i h = row_form (setup_of t) (view_of t) i ((table_form t f).held.rows i h)

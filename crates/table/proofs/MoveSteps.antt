@@ -23,7 +23,6 @@ use Rattle.base.proofs.Splice.{drop_splice, splice_append, splice_before}
 use Rattle.table.specs.View.{max_places}
 use Rattle.table.specs.Layout.{retired_offset, rows_offset, references_offset, row_size, row_start, table_size, count_of, references_at, row_at}
 use Rattle.table.specs.Writing.{moved_row, moved_bytes, moved_rows, move_down}
-use Rattle.table.specs.Steps.{LastPlace}
 use Rattle.table.proofs.RowBytes.{row_part, part_same}
 use Rattle.table.proofs.LoweredRows.{rows_length}
 
@@ -84,16 +83,16 @@ none_moved t = sym (take-append-drop rows_offset t)
 
 -- ---- the table
 
-pub down_is : (t : Bytes) (left : ℕ) → LastPlace t left → (t₁ t₂ t₃ : Bytes) → t₁ ≡ splice t rows_offset (moved_rows t left) → t₂ ≡ splice t₁ (row_start left) (replicate row_size 0)
+pub down_is : (t : Bytes) (left : ℕ) → length t ≡ table_size → count_of t ≡ suc left → left < max_places → (t₁ t₂ t₃ : Bytes) → t₁ ≡ splice t rows_offset (moved_rows t left) → t₂ ≡ splice t₁ (row_start left) (replicate row_size 0)
     → t₃ ≡ splice t₂ retired_offset (1 ∷ (left ∷ [])) → t₃ ≡ move_down t
 unfolding move_down
-down_is t left l t₁ t₂ t₃ e f g =
-    let n : length (moved_rows t left) ≡ row_size * left = rows_length t l.size left l.few in
+down_is t left size count few t₁ t₂ t₃ e f g =
+    let n : length (moved_rows t left) ≡ row_size * left = rows_length t size left few in
     let start : row_start left ≡ rows_offset + length (moved_rows t left) = omega arith in
-    let k : left ≡ count_of t - 1 = omega (arith, l.count) in
+    let k : left ≡ count_of t - 1 = omega (arith, count) in
     g ∙ ap (λ (x : Bytes). splice x retired_offset (1 ∷ (left ∷ [])))
     (f ∙ ap (λ (x : Bytes). splice x (row_start left) (replicate row_size 0)) e
     ∙ ap (λ (m : ℕ). splice (splice t rows_offset (moved_rows t left)) m (replicate row_size 0)) start
-    ∙ splice_append t rows_offset (moved_rows t left) (omega (arith, l.size)) (replicate row_size 0))
-    ∙ splice_before t retired_offset (1 ∷ (left ∷ [])) (moved_rows t left ++ replicate row_size 0) (omega (arith, l.size))
+    ∙ splice_append t rows_offset (moved_rows t left) (omega (arith, size)) (replicate row_size 0))
+    ∙ splice_before t retired_offset (1 ∷ (left ∷ [])) (moved_rows t left ++ replicate row_size 0) (omega (arith, size))
     ∙ ap (λ (m : ℕ). splice t retired_offset (1 ∷ (m ∷ (moved_rows t m ++ replicate row_size 0)))) k

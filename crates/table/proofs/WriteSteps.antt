@@ -18,8 +18,8 @@ use Rattle.setup.specs.Setup.{slot_count}
 use Rattle.block.specs.Limits.{reference_size}
 use Rattle.block.specs.Layout.{requests_in, counted_request}
 use Rattle.table.specs.View.{max_places, Row}
-use Rattle.table.specs.Layout.{count_offset, site_offset, references_offset, requests_offset, mark_offset, row_size, row_start, count_of, row_at, row_bytes, with_row}
-use Rattle.table.specs.Steps.{Place, row_with, counted_request_bytes, new_row, with_references}
+use Rattle.table.specs.Layout.{table_size, count_offset, site_offset, sequence_offset, references_offset, requests_offset, mark_offset, row_size, row_start, count_of, row_at, row_bytes, with_row}
+use Rattle.table.specs.Steps.{row_with, counted_request_bytes, new_row, with_references}
 use Rattle.table.proofs.RowBytes.{row_part, references_put}
 use Rattle.table.proofs.TableLayout.{row_laid}
 
@@ -27,8 +27,8 @@ use Rattle.table.proofs.TableLayout.{row_laid}
 
 module _ (t : Bytes) (at : ℕ) (d : Bytes) (site sequence references : ℕ) (requests : Bytes)
     (fits : at + row_size ≤ length t) (whole : length d ≡ reference_size) (wide : references < 2 ^ max_places) where
-  abbrev head : Bytes
-  head = site ∷ pair sequence
+  abbrev front : Bytes
+  front = d ++ (site ∷ [])
 
   abbrev mask : Bytes
   mask = low_first_bytes word_size references
@@ -37,25 +37,28 @@ module _ (t : Bytes) (at : ℕ) (d : Bytes) (site sequence references : ℕ) (re
   requests_length = length_joined_list 2 (λ slot. pair (counted_request (requests_in requests) slot)) slot_count (λ i. refl)
 
   -- the bytes of the row, in its order
-  row : (((d ++ head) ++ mask) ++ counted_request_bytes requests) ++ (0 ∷ []) ≡ row_bytes (new_row d site sequence references requests)
+  row : (((front ++ pair sequence) ++ mask) ++ counted_request_bytes requests) ++ (0 ∷ []) ≡ row_bytes (new_row d site sequence references requests)
   unfolding row_bytes
   row =
-      let flat : (((d ++ head) ++ mask) ++ counted_request_bytes requests) ++ (0 ∷ []) ≡ d ++ (head ++ (mask ++ (counted_request_bytes requests ++ (0 ∷ [])))) = simp append_assoc in
-      flat ∙ ap (λ (m : ℕ). d ++ (head ++ (low_first_bytes word_size m ++ (counted_request_bytes requests ++ (0 ∷ []))))) (sym (mask_members max_places references wide))
+      let flat : (((front ++ pair sequence) ++ mask) ++ counted_request_bytes requests) ++ (0 ∷ []) ≡ d ++ ((site ∷ pair sequence) ++ (mask ++ (counted_request_bytes requests ++ (0 ∷ [])))) = simp append_assoc in
+      flat ∙ ap (λ (m : ℕ). d ++ ((site ∷ pair sequence) ++ (low_first_bytes word_size m ++ (counted_request_bytes requests ++ (0 ∷ []))))) (sym (mask_members max_places references wide))
 
-  pub row_written_lem : (t₁ t₂ t₃ t₄ t₅ w : Bytes) → t₁ ≡ splice t at d → t₂ ≡ splice t₁ (at + site_offset) head → w ≡ mask → t₃ ≡ splice t₂ (at + references_offset) w
-      → t₄ ≡ splice t₃ (at + requests_offset) (counted_request_bytes requests) → t₅ ≡ splice t₄ (at + mark_offset) (0 ∷ [])
-      → t₅ ≡ splice t at (row_bytes (new_row d site sequence references requests))
-  row_written_lem t₁ t₂ t₃ t₄ t₅ w e₁ e₂ ew e₃ e₄ e₅ =
+  pub row_written_lem : (t₁ t₂ t₃ t₄ t₅ t₆ p w : Bytes) → t₁ ≡ splice t at d → t₂ ≡ splice t₁ (at + site_offset) (site ∷ []) → p ≡ pair sequence → t₃ ≡ splice t₂ (at + sequence_offset) p
+      → w ≡ mask → t₄ ≡ splice t₃ (at + references_offset) w
+      → t₅ ≡ splice t₄ (at + requests_offset) (counted_request_bytes requests) → t₆ ≡ splice t₅ (at + mark_offset) (0 ∷ [])
+      → t₆ ≡ splice t at (row_bytes (new_row d site sequence references requests))
+  row_written_lem t₁ t₂ t₃ t₄ t₅ t₆ p w e₁ e₂ ep e₃ ew e₄ e₅ e₆ =
       let h : at ≤ length t = omega arith in
-      let l₂ : length (d ++ head) ≡ references_offset = length-append d head ∙ omega arith in
-      let l₃ : length ((d ++ head) ++ mask) ≡ requests_offset = length-append (d ++ head) mask ∙ omega (arith, length_low_first word_size references) in
-      let l₄ : length (((d ++ head) ++ mask) ++ counted_request_bytes requests) ≡ mark_offset = length-append ((d ++ head) ++ mask) (counted_request_bytes requests) ∙ omega (arith, requests_length) in
-      let f₂ = stored_behind t t₁ t₂ d head at (at + site_offset) h e₁ (omega arith) e₂ in
-      let f₃ = stored_behind t t₂ t₃ (d ++ head) mask at (at + references_offset) h f₂ (omega arith) (e₃ ∙ ap (splice t₂ (at + references_offset)) ew) in
-      let f₄ = stored_behind t t₃ t₄ ((d ++ head) ++ mask) (counted_request_bytes requests) at (at + requests_offset) h f₃ (omega arith) e₄ in
-      let f₅ = stored_behind t t₄ t₅ (((d ++ head) ++ mask) ++ counted_request_bytes requests) (0 ∷ []) at (at + mark_offset) h f₄ (omega arith) e₅ in
-      f₅ ∙ ap (splice t at) row
+      let l₂ : length front ≡ sequence_offset = length-append d (site ∷ []) ∙ omega arith in
+      let l₃ : length (front ++ pair sequence) ≡ references_offset = length-append front (pair sequence) ∙ omega arith in
+      let l₄ : length ((front ++ pair sequence) ++ mask) ≡ requests_offset = length-append (front ++ pair sequence) mask ∙ omega (arith, length_low_first word_size references) in
+      let l₅ : length (((front ++ pair sequence) ++ mask) ++ counted_request_bytes requests) ≡ mark_offset = length-append ((front ++ pair sequence) ++ mask) (counted_request_bytes requests) ∙ omega (arith, requests_length) in
+      let f₂ = stored_behind t t₁ t₂ d (site ∷ []) at (at + site_offset) h e₁ (omega arith) e₂ in
+      let f₃ = stored_behind t t₂ t₃ front (pair sequence) at (at + sequence_offset) h f₂ (omega arith) (e₃ ∙ ap (splice t₂ (at + sequence_offset)) ep) in
+      let f₄ = stored_behind t t₃ t₄ (front ++ pair sequence) mask at (at + references_offset) h f₃ (omega arith) (e₄ ∙ ap (splice t₃ (at + references_offset)) ew) in
+      let f₅ = stored_behind t t₄ t₅ ((front ++ pair sequence) ++ mask) (counted_request_bytes requests) at (at + requests_offset) h f₄ (omega arith) e₅ in
+      let f₆ = stored_behind t t₅ t₆ (((front ++ pair sequence) ++ mask) ++ counted_request_bytes requests) (0 ∷ []) at (at + mark_offset) h f₅ (omega arith) e₆ in
+      f₆ ∙ ap (splice t at) row
 
 -- ---- the row of another table
 
@@ -73,9 +76,9 @@ carried_written t t₁ t₂ t₃ row front mask rest at references h size ef e�
     stored_behind t t₂ t₃ (a ++ m) (drop requests_offset row) at (at + requests_offset) h f₂ (omega arith) (e₃ ∙ ap (splice t₂ (at + requests_offset)) er)
     ∙ ap (splice t at) (append_assoc a m (drop requests_offset row))
 
-module _ (other : Bytes) (j : ℕ) (all : AllBytes other) (place : Place other j) (references : ℕ) (wide : references < 2 ^ max_places) where
+module _ (other : Bytes) (j : ℕ) (all : AllBytes other) (size : length other ≡ table_size) (place : j < max_places) (references : ℕ) (wide : references < 2 ^ max_places) where
   digest_whole : length (row_at other j).digest ≡ reference_size
-  digest_whole = length-take-le reference_size (drop (row_start j) other) (omega (arith, length-drop (row_start j) other, place.size, place.place))
+  digest_whole = length-take-le reference_size (drop (row_start j) other) (omega (arith, length-drop (row_start j) other, size, place))
 
   -- the mask put into the row's bytes
   put_is : (b : Bytes) → with_references b references ≡ splice b references_offset (low_first_bytes word_size references)
@@ -85,7 +88,7 @@ module _ (other : Bytes) (j : ℕ) (all : AllBytes other) (place : Place other j
   pub carried_bytes : with_references (row_part other j) references ≡ row_bytes (row_with other j references)
   carried_bytes =
       put_is (row_part other j)
-      ∙ ap₂ (λ (b : Bytes) (m : ℕ). splice b references_offset (low_first_bytes word_size m)) (sym (row_laid other all j (omega (arith, place.size, place.place))))
+      ∙ ap₂ (λ (b : Bytes) (m : ℕ). splice b references_offset (low_first_bytes word_size m)) (sym (row_laid other all j (omega (arith, size, place))))
       (sym (mask_members max_places references wide))
       ∙ references_put (row_at other j) digest_whole (in_mask references)
 

@@ -1,5 +1,5 @@
 -- What the contracts of inner functions cite: what an entry point has tested. Nothing here need be believed.
-use Rattle.std.specs.Prelude.{◌≡◌, Bool, true, cond, not, ◌&&◌, List, [], ◌++◌, ℕ, zero, suc, ◌+◌, ◌/◌, ◌%◌, ◌^◌, ◌≤◌, ◌<◌, eqb, length, get_or, take, drop}
+use Rattle.std.specs.Prelude.{◌≡◌, Bool, true, cond, not, ◌&&◌, List, [], ◌++◌, ℕ, zero, suc, ◌+◌, ◌/◌, ◌%◌, ◌^◌, ◌<◌, eqb, get_or, take, drop}
 use Rattle.base.specs.Bytes.{Bytes, concat}
 use Rattle.base.specs.Search.{any_below}
 use Rattle.base.specs.List.{list_below}
@@ -9,26 +9,10 @@ use Rattle.base.specs.LowFirst.{word_size, low_first_bytes}
 use Rattle.base.specs.Steps.{print_count, prints_below}
 use Rattle.setup.specs.Setup.{max_sites, slot_count}
 use Rattle.block.specs.Layout.{requests_in, counted_request}
-use Rattle.table.specs.View.{max_places, Row}
-use Rattle.table.specs.Layout.{references_offset, requests_offset, table_size, row_start, setup_of, count_of, digest_at, site_at, sequence_at, mark_at, row_at, view_of}
+use Rattle.table.specs.View.{Row}
+use Rattle.table.specs.Layout.{references_offset, requests_offset, row_start, setup_of, count_of, digest_at, site_at, sequence_at, mark_at, row_at, view_of}
 use Rattle.table.specs.Rules.{is_parent, refers_uninterpreted}
 use Rattle.table.specs.Form.{in_form}
-
--- a table of the right length, and a place of it
-pub record Place (t : Bytes) (i : ℕ) : Type 0 where
-  pub size : length t ≡ table_size
-  pub place : i < max_places
-
--- a table of the right length, and a bound up to which places are looked at
-pub record Places (t : Bytes) (k : ℕ) : Type 0 where
-  pub size : length t ≡ table_size
-  pub bound : k ≤ max_places
-
--- a table of the right length, and its last place
-pub record LastPlace (t : Bytes) (last : ℕ) : Type 0 where
-  pub size : length t ≡ table_size
-  pub count : count_of t ≡ suc last
-  pub few : suc last ≤ max_places
 
 -- a row of this site and sequence number with these references; the rules on references read none of its other fields
 abbrev pub row_of : ℕ → ℕ → ℕ → Row

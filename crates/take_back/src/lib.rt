@@ -5,27 +5,26 @@
 #![tactic(auto)]
 
 ghost use Rattle.std.specs.Prelude.{◌≡◌};
+ghost use Rattle.answer.specs.Refusals.{done_of};
 ghost use Rattle.take_back.specs.TakingBack.{taking_back, taken_back};
 
-use answer::Answer;
+use answer::Refusal;
 use table::rows;
 
 // Takes the block at the last place out of the table. Refuses with 2, 32 or 33, in that order; a refusal changes nothing.
-pub fn take_back(table: &mut [u8]) -> Answer
-    ensures value { result ≡ taking_back table.old }
+pub fn take_back(table: &mut [u8]) -> Result<(), Refusal>
+    ensures value { done_of result ≡ taking_back table.old }
     ensures table_after { table.new ≡ taken_back table.old }
 {
-    if !table::in_form(table) {
-        return answer::refused(2, 0);
-    }
-    let count = rows::count_of(table);
-    if count == 0 {
-        return answer::refused(32, 0);
-    }
-    let last = count - 1;
+    let Some(table) = table::formed_mut(table) else {
+        return Err(Refusal::OutOfForm);
+    };
+    let Some(last) = rows::count_of(table).checked_sub(1) else {
+        return Err(Refusal::NothingHeld);
+    };
     if rows::mark_at(table, last) == 1 {
-        return answer::refused(33, 0);
+        return Err(Refusal::LastInterpreted);
     }
     table::writing::clear_last(table, last);
-    answer::success(0)
+    Ok(())
 }

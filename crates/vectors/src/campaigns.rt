@@ -1,362 +1,235 @@
 // Campaigns written down as text, run through the calls with SHA-256: what each call is answered, and what each block makes in slot 0.
-ghost use Rattle.std.specs.Prelude.{◌+◌, ◌^◌, ◌≤◌, ◌<◌};
+ghost use Rattle.std.specs.Prelude.{◌≡◌, ◌*◌, ◌/◌, ◌≤◌, length};
+ghost use Rattle.block.specs.Limits.{request_size};
 
-use crate::line::{Line, show_answer};
+use crate::show::{Hex, show_answer};
+use crate::site::TestSite;
 use crate::watching;
 use block::{HEADER_SIZE, MAX_BLOCK_SIZE, MAX_REFERENCES, REFERENCE_SIZE, REQUEST_SIZE};
-use records::BUFFER_SIZE;
 use setup::SLOTS;
-use std::io::Stdout;
 use table::MAX_PLACES;
 
-// Room for the digests of the blocks that a campaign names.
-const DIGESTS_SIZE: usize = REFERENCE_SIZE * MAX_PLACES;
+// What is done in a step of a campaign.
+#[derive(Clone, Copy)]
+enum Action {
+    // the block is admitted, and interpreted at its place
+    Arrive,
+    // the block is admitted, and not interpreted
+    Admit,
+    // the watch is asked for the ancestors of the place whose number stands for the site
+    Ancestors,
+    // the watch is asked for the sites that forked
+    Forks,
+    // the site builds its next block with these requests, and the block arrives where it was built
+    Build,
+}
+
+impl Action {
+    // The step that a letter stands for.
+    fn of_letter(letter: u8) -> Option<Action> {
+        match letter {
+            b'a' => Some(Action::Arrive),
+            b'd' => Some(Action::Admit),
+            b'p' => Some(Action::Ancestors),
+            b'f' => Some(Action::Forks),
+            b'b' => Some(Action::Build),
+            _ => None,
+        }
+    }
+}
 
 // A campaign is written down as text, an entry for each step: a letter for what is done, then of a block its site and its sequence number,
 // the numbers that it requests in slots 0 and 1 (`.` if none, else the number's own character: `*` is 42, `+` is 43), how many blocks
 // it refers to, and which: they count from 0 as they are named, and after 9 come `:`, `;`, `<` and so on. A space ends an entry.
-const ENTRY_SIZE: usize = 6;
-
-// The block is admitted, and interpreted at its place.
-const ARRIVES: u8 = b'a';
-
-// The block is admitted, and not interpreted.
-const ADMITTED: u8 = b'd';
-
-// The watch is asked for the ancestors of the place whose number stands for the site.
-const ASKED: u8 = b'p';
-
-// The watch is asked for the sites that forked.
-const WATCHED: u8 = b'f';
-
-// The site builds its next block with these requests, and the block arrives where it was built.
-const BUILT: u8 = b'b';
+#[derive(Clone, Copy)]
+struct Entry<'a> {
+    step: Action,
+    site: u8,
+    sequence: u8,
+    numbers: [u8; 2],
+    named: &'a [u8],
+}
 
 fn digit(character: u8) -> u8 {
-    if character < b'0' {
-        0
-    } else {
-        character - b'0'
-    }
+    character.saturating_sub(b'0')
 }
 
 fn number(character: u8) -> u8 {
     if character == b'.' { 0 } else { character }
 }
 
-// Puts the digest of block `named` of the campaign as reference i.
-fn put_reference(block: &mut [u8], i: usize, digests: &[u8], named: usize) {
-    if block.len() != MAX_BLOCK_SIZE {
-        return;
+impl<'a> Entry<'a> {
+    fn read(text: &'a [u8]) -> Option<Entry<'a>> {
+        let [letter, site, sequence, first, second, count, named @ ..] = text else {
+            return None;
+        };
+        Some(Entry {
+            step: Action::of_letter(*letter)?,
+            site: digit(*site),
+            sequence: digit(*sequence),
+            numbers: [number(*first), number(*second)],
+            named: named.get(..usize::from(digit(*count)))?,
+        })
     }
-    if digests.len() != DIGESTS_SIZE {
-        return;
+
+    // Puts the list of the requests to the front of the room, and hands out that front. Number 0 is no request.
+    fn requests<'b>(&self, room: &'b mut [u8; 2 * REQUEST_SIZE]) -> &'b [u8]
+        ensures { (length result.now ≤ 2 * request_size) × (length result.now ≡ request_size * (length result.now / request_size)) }
+    {
+        let [first, second] = self.numbers;
+        *room = [0, 0, first, 1, 0, second];
+        match (first, second) {
+            (0, 0) => &[],
+            (0, _) => &room[REQUEST_SIZE..],
+            (_, 0) => &room[..REQUEST_SIZE],
+            _ => room,
+        }
     }
-    if MAX_REFERENCES <= i {
-        return;
-    }
-    if MAX_PLACES <= named {
-        return;
-    }
-    let at = REFERENCE_SIZE * named;
-    base::put(
-        block,
-        HEADER_SIZE + REFERENCE_SIZE * i,
-        &digests[at..at + REFERENCE_SIZE],
-    );
 }
 
-fn put_references(block: &mut [u8], digests: &[u8], named: &[u8]) {
-    let mut i = 0;
-    while i < named.len() {
-        put_reference(block, i, digests, base::wide(digit(named[i])));
-        i += 1;
-    }
+// A campaign that runs: its site, and the digests of the blocks that it has named so far.
+#[derive(Drop)]
+struct CampaignRun<'a, R> {
+    rt: &'a R,
+    site: TestSite,
+    digests: [[u8; REFERENCE_SIZE]; MAX_PLACES],
+    named: usize,
 }
 
-// Puts a request of a number in a slot, and gives where it ends. Number 0 is no request.
-fn put_request(block: &mut [u8], at: usize, slot: u8, number: u8) -> usize {
-    if number == 0 {
-        return at;
+impl<R: Print> CampaignRun<'_, R> {
+    // The digests of the blocks with these numbers, one for each character, and zeros behind them.
+    fn digests_of(&self, named: &[u8]) -> [[u8; REFERENCE_SIZE]; MAX_REFERENCES] {
+        let mut list = [[0; REFERENCE_SIZE]; MAX_REFERENCES];
+        for (reference, character) in list.iter_mut().zip(named) {
+            if let Some(digest) = self.digests.get(usize::from(digit(*character))) {
+                *reference = *digest;
+            }
+        }
+        list
     }
-    if MAX_BLOCK_SIZE - REQUEST_SIZE < at {
-        return at;
-    }
-    if block.len() != MAX_BLOCK_SIZE {
-        return at;
-    }
-    base::put(block, at, &[slot, 0, number]);
-    at + REQUEST_SIZE
-}
 
-fn request_count(first: u8, second: u8) -> u8 {
-    if first == 0 {
-        return if second == 0 { 0 } else { 1 };
-    }
-    if second == 0 { 1 } else { 2 }
-}
-
-fn write_header(block: &mut [u8], site: u8, sequence: u8, references: u8, requests: u8) {
-    if block.len() == MAX_BLOCK_SIZE {
-        base::put(
-            block,
-            0,
-            &[digit(site), 0, digit(sequence), digit(references), requests],
+    // Writes the block of the entry to the front of the room, and hands out that front.
+    fn write_block<'b>(
+        &self,
+        entry: &Entry,
+        room: &'b mut [u8; MAX_BLOCK_SIZE],
+    ) -> Option<&'b [u8]> {
+        let list = self.digests_of(entry.named);
+        let references = list.get(..entry.named.len())?.as_flattened();
+        let mut request_room = [0; 2 * REQUEST_SIZE];
+        let requests = entry.requests(&mut request_room);
+        block::writing::write_block(
+            entry.site,
+            u16::from(entry.sequence),
+            references,
+            requests,
+            room,
         );
+        room.get(..HEADER_SIZE + references.len() + requests.len())
     }
-}
 
-// Writes the block of the entry at the front, and gives its length.
-fn write_block(block: &mut [u8], digests: &[u8], entry: &[u8]) -> usize {
-    if block.len() != MAX_BLOCK_SIZE {
-        return 0;
+    // Writes the block of the entry as `write_block` does, and gives it the next number, by which later blocks refer to it.
+    fn name_block<'b>(
+        &mut self,
+        entry: &Entry,
+        room: &'b mut [u8; MAX_BLOCK_SIZE],
+    ) -> Option<&'b [u8]> {
+        let block = self.write_block(entry, room)?;
+        if let Some(digest) = self.digests.get_mut(self.named) {
+            *digest = sha256::digest(block);
+            self.named += 1;
+        }
+        Some(block)
     }
-    if entry.len() < ENTRY_SIZE {
-        return 0;
-    }
-    let count = base::wide(digit(entry[5]));
-    if MAX_REFERENCES < count {
-        return 0;
-    }
-    if entry.len() - ENTRY_SIZE < count {
-        return 0;
-    }
-    let first = number(entry[3]);
-    let second = number(entry[4]);
-    write_header(
-        block,
-        entry[1],
-        entry[2],
-        entry[5],
-        request_count(first, second),
-    );
-    put_references(block, digests, &entry[ENTRY_SIZE..ENTRY_SIZE + count]);
-    let end = put_request(block, HEADER_SIZE + REFERENCE_SIZE * count, 0, first);
-    put_request(block, end, 1, second)
-}
 
-fn keep_digest(digests: &mut [u8], named: usize, block: &[u8]) {
-    if digests.len() != DIGESTS_SIZE {
-        return;
+    fn admit(&mut self, block: &[u8]) {
+        show_answer(self.rt, "admit", self.site.admit(block).into());
     }
-    if MAX_PLACES <= named {
-        return;
-    }
-    base::put(digests, REFERENCE_SIZE * named, &sha256::digest(block));
-}
 
-pub fn wide(x: u16) -> usize {
-    x as usize
-}
+    // Admits the block, interprets it at its place, and shows what it made in slot 0.
+    fn arrive(&mut self, block: &[u8]) {
+        match self.site.admit(block) {
+            Ok(place) => self.interpret(place),
+            refused => show_answer(self.rt, "admit", refused.into()),
+        }
+    }
 
-// What the block at a place made in slot 0.
-fn show_made(stdout: Stdout, place: usize, records: &[u16]) {
-    if records.len() != BUFFER_SIZE {
-        return;
+    fn interpret(&mut self, place: usize) {
+        match self.site.interpret(place) {
+            Ok(()) => self.show_made(place),
+            refused => show_answer(self.rt, "interpret", refused.into()),
+        }
     }
-    if MAX_PLACES <= place {
-        return;
-    }
-    let made = records::made_in(records, place, 0);
-    Line::new()
-        .text(b"place ")
-        .number(place)
-        .text(b": SEND ")
-        .number(wide(made.send))
-        .text(b" ECHO ")
-        .number(wide(made.echo))
-        .text(b" READY ")
-        .number(wide(made.ready))
-        .text(b" delivery ")
-        .number(wide(made.delivered))
-        .show(stdout);
-}
 
-fn show_interpreted(stdout: Stdout, table: &mut [u8], records: &mut [u16], place: usize) {
-    let answer = interpret::interpret(table, place, records);
-    if answer.refusal != 0 {
-        show_answer(stdout, b"interpret", answer);
-        return;
+    // What the block at a place made in slot 0.
+    fn show_made(&self, place: usize) {
+        if place < MAX_PLACES {
+            let made = records::made_in(&self.site.records, place, 0);
+            let _ = println!(self.rt;
+                "place {place}: SEND {} ECHO {} READY {} delivery {}",
+                made.send, made.echo, made.ready, made.delivered
+            );
+        }
     }
-    show_made(stdout, place, records);
-}
 
-// Admits the block, and interprets it at its place if that is asked for.
-fn settle(stdout: Stdout, table: &mut [u8], records: &mut [u16], step: u8, block: &[u8]) {
-    let answer = admission::admit(table, block, 1);
-    if step == ADMITTED {
-        show_answer(stdout, b"admit", answer);
-        return;
+    // The site of the entry builds its next block, which is shown and comes to the table that it was built from.
+    fn build(&mut self, entry: &Entry) {
+        let mut request_room = [0; 2 * REQUEST_SIZE];
+        let requests = entry.requests(&mut request_room);
+        let mut room = [0; MAX_BLOCK_SIZE];
+        let built = self.site.build(entry.site, requests, &mut room);
+        show_answer(self.rt, "build", built.map(|block| block.len()).into());
+        if let Ok(block) = built {
+            self.show_block(block);
+            self.arrive(block);
+        }
     }
-    if answer.refusal != 0 {
-        show_answer(stdout, b"admit", answer);
-        return;
-    }
-    show_interpreted(stdout, table, records, answer.value);
-}
 
-// Brings the block of the entry at the front.
-fn bring(
-    stdout: Stdout,
-    table: &mut [u8],
-    records: &mut [u16],
-    digests: &mut [u8],
-    named: usize,
-    step: u8,
-    entry: &[u8],
-) {
-    let mut room = [0u8; MAX_BLOCK_SIZE];
-    let length = write_block(&mut room, digests, entry);
-    bring_front(stdout, table, records, digests, named, step, &room, length);
-}
+    fn show_block(&self, block: &[u8]) {
+        if let Ok(fields) = block::read_block(block) {
+            let _ = println!(self.rt;
+                "site {} sequence {} references {} requests {}",
+                fields.site, fields.sequence, fields.references, fields.requests
+            );
+        }
+        let _ = println!(self.rt; "digest {}", Hex(&sha256::digest(block)));
+    }
 
-fn bring_front(
-    stdout: Stdout,
-    table: &mut [u8],
-    records: &mut [u16],
-    digests: &mut [u8],
-    named: usize,
-    step: u8,
-    room: &[u8],
-    length: usize,
-) {
-    if room.len() < length {
-        return;
-    }
-    let block = &room[0..length];
-    keep_digest(digests, named, block);
-    settle(stdout, table, records, step, block);
-}
-
-// How many bytes the entry at the front takes.
-fn entry_size(entry: &[u8]) -> usize
-    ensures { (6 ≤ result) × (result ≤ 23) }
-{
-    if entry.len() < ENTRY_SIZE {
-        return ENTRY_SIZE;
-    }
-    let count = base::wide(digit(entry[5]));
-    if MAX_REFERENCES < count {
-        return ENTRY_SIZE;
-    }
-    ENTRY_SIZE + count + 1
-}
-
-// The site of the entry at the front builds its next block.
-fn build(stdout: Stdout, table: &mut [u8], records: &mut [u16], entry: &[u8]) {
-    if entry.len() < ENTRY_SIZE {
-        return;
-    }
-    let mut requests = [0u8; MAX_BLOCK_SIZE];
-    let first = put_request(&mut requests, 0, 0, number(entry[3]));
-    let end = put_request(&mut requests, first, 1, number(entry[4]));
-    build_front(stdout, table, records, digit(entry[1]), &requests, end);
-}
-
-fn build_front(
-    stdout: Stdout,
-    table: &mut [u8],
-    records: &mut [u16],
-    site: u8,
-    requests: &[u8],
-    end: usize,
-) {
-    if requests.len() < end {
-        return;
-    }
-    let mut room = [0u8; MAX_BLOCK_SIZE];
-    let answer = build::build(table, site, &requests[0..end], &mut room);
-    show_answer(stdout, b"build", answer);
-    if answer.refusal != 0 {
-        return;
-    }
-    settle_front(stdout, table, records, &room, answer.value);
-}
-
-// Shows the built block at the front of `room`, and brings it to the table that it was built from.
-fn settle_front(stdout: Stdout, table: &mut [u8], records: &mut [u16], room: &[u8], length: usize) {
-    if room.len() < length {
-        return;
-    }
-    let block = &room[0..length];
-    show_block(stdout, block);
-    settle(stdout, table, records, ARRIVES, block);
-}
-
-fn show_block(stdout: Stdout, block: &[u8]) {
-    if block.len() < HEADER_SIZE {
-        return;
-    }
-    let site = base::wide(block[0]);
-    let sequence = wide(base::number_of(block[1], block[2]));
-    let references = base::wide(block[3]);
-    let requests = base::wide(block[4]);
-    Line::new()
-        .text(b"site ")
-        .number(site)
-        .text(b" sequence ")
-        .number(sequence)
-        .text(b" references ")
-        .number(references)
-        .text(b" requests ")
-        .number(requests)
-        .show(stdout);
-    show_digest(stdout, block);
-}
-
-fn show_digest(stdout: Stdout, block: &[u8]) {
-    Line::new()
-        .text(b"digest ")
-        .hexadecimal(&sha256::digest(block))
-        .show(stdout);
-}
-
-// Does what the entry at the front says, and gives how many blocks the campaign has named by then.
-fn take_step(
-    stdout: Stdout,
-    table: &mut [u8],
-    records: &mut [u16],
-    digests: &mut [u8],
-    named: usize,
-    entry: &[u8],
-) -> usize
-    requires { named < 2 ^ 63 }
-    ensures { result ≤ named + 1 }
-{
-    if entry.len() < ENTRY_SIZE {
-        return named;
-    }
-    if entry[0] == ASKED {
-        watching::show_ancestors(stdout, table, base::wide(digit(entry[1])));
-        return named;
-    }
-    if entry[0] == WATCHED {
-        watching::show_forks(stdout, table);
-        return named;
-    }
-    if entry[0] == BUILT {
-        build(stdout, table, records, entry);
-        return named;
-    }
-    bring(stdout, table, records, digests, named, entry[0], entry);
-    named + 1
-}
-
-fn run(stdout: Stdout, table: &mut [u8], records: &mut [u16], digests: &mut [u8], campaign: &[u8]) {
-    let mut at = 0;
-    let mut named = 0;
-    while at < campaign.len() {
-        named = take_step(stdout, table, records, digests, named, &campaign[at..]);
-        at += entry_size(&campaign[at..]);
+    // Does what the entry says.
+    fn take_step(&mut self, entry: &Entry) {
+        let mut room = [0; MAX_BLOCK_SIZE];
+        match entry.step {
+            Action::Arrive => {
+                if let Some(block) = self.name_block(entry, &mut room) {
+                    self.arrive(block);
+                }
+            }
+            Action::Admit => {
+                if let Some(block) = self.name_block(entry, &mut room) {
+                    self.admit(block);
+                }
+            }
+            Action::Ancestors => {
+                watching::show_ancestors(self.rt, &self.site.table, usize::from(entry.site));
+            }
+            Action::Forks => watching::show_forks(self.rt, &self.site.table),
+            Action::Build => self.build(entry),
+        }
     }
 }
 
 // Runs a campaign of n sites in which site 0 owns every slot.
-pub fn show(stdout: Stdout, name: &[u8], sites: u8, campaign: &[u8]) {
-    Line::new().text(name).show(stdout);
-    let fresh = table::fresh(sites, [0; SLOTS]);
-    let mut table = fresh.table;
-    let mut records = [0u16; BUFFER_SIZE];
-    let mut digests = [0u8; DIGESTS_SIZE];
-    run(stdout, &mut table, &mut records, &mut digests, campaign);
+pub fn show<R: Print>(rt: &R, name: &str, sites: u8, text: &str) {
+    let _ = println!(rt; "{name}");
+    let mut campaign = CampaignRun {
+        rt,
+        site: TestSite::new(sites, [0; SLOTS]),
+        digests: [[0; REFERENCE_SIZE]; MAX_PLACES],
+        named: 0,
+    };
+    for entry in text.split(' ') {
+        if let Some(entry) = Entry::read(entry.as_bytes()) {
+            campaign.take_step(&entry);
+        }
+    }
 }

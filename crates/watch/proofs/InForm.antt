@@ -8,8 +8,7 @@ use Rattle.setup.proofs.Thresholds.{sites_lawful, sites_few}
 use Rattle.table.specs.View.{max_places}
 use Rattle.table.specs.Layout.{setup_of, count_of, view_of}
 use Rattle.table.specs.Form.{in_form}
-use Rattle.table.specs.Steps.{Place}
-use Rattle.table.proofs.InForm.{table_form, formed_places, formed_row}
+use Rattle.table.proofs.InForm.{table_form, formed_row}
 use Rattle.watch.specs.Steps.{Watchable}
 use Rattle.watch.proofs.AncestorTest.{RefersLower}
 
@@ -24,10 +23,10 @@ module _ (t : Bytes) (e : in_form t ≡ true) where
   ready =
       let f = table_form t e in
       record {
-        sized = formed_places t e;
+        held = places_fit;
         few = sites_few (setup_of t).sites (sites_lawful (setup_of t) f.held.lawful);
         sites = λ i h. (formed_row t e i h).site;
       }
 
-  pub held_place : (i : ℕ) → i < count_of t → Place t i
-  held_place i h = record { size = (table_form t e).size; place = omega (arith, places_fit) }
+  pub held_place : (i : ℕ) → i < count_of t → i < max_places
+  held_place i h = omega (arith, places_fit)

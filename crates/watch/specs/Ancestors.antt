@@ -1,14 +1,17 @@
 -- Document 01, "Watch for forks": "for a place, the mask and count of all its ancestors, itself left out".
-use Rattle.std.specs.Prelude.{Bool, true, false, cond, ◌&&◌, ◌||◌, ◌≡◌, List, [], ◌∷◌, ℕ, zero, suc, ◌<◌, eqb, ltb}
+use Rattle.std.specs.Prelude.{Bool, true, false, cond, ◌&&◌, ◌||◌, ◌≡◌, List, [], ◌∷◌, ℕ, zero, suc, ◌<◌, eqb, ltb, Result, Ok, Err}
 use Rattle.std.specs.Int.Count.{ones}
 use Rattle.base.specs.Search.{any_below}
 use Rattle.base.specs.Mask.{mask_below}
 use Rattle.base.specs.Bytes.{Bytes}
 use Rattle.answer.specs.declared.Answer.{Answer}
+use Rattle.answer.specs.declared.Refusal.{Refusal}
+use Rattle.answer.specs.Refusals.{refusal_number}
 use Rattle.answer.specs.Checks.{Check, check, answer_to}
 use Rattle.table.specs.View.{View}
 use Rattle.table.specs.Layout.{view_of}
 use Rattle.table.specs.Form.{in_form}
+use Rattle.watch.specs.declared.AncestorReport.{AncestorReport}
 use Rattle.watch.specs.declared.AncestorPlaces.{AncestorPlaces}
 
 module _ (v : View) where
@@ -44,3 +47,8 @@ ancestors t i =
     cond (eqb (ancestor_answer t i).refusal 0)
     (record { refusal = 0; places = ancestor_mask (view_of t) i; count = ones (ancestor_mask (view_of t) i) })
     (record { refusal = (ancestor_answer t i).refusal; places = 0; count = 0 })
+
+-- what programs in C get: a refusal by its number, beside which both are 0
+abbrev pub ancestor_places : Result AncestorReport Refusal → AncestorPlaces
+ancestor_places (Ok r) = record { refusal = 0; places = r.places; count = r.count }
+ancestor_places (Err refusal) = record { refusal = refusal_number refusal; places = 0; count = 0 }

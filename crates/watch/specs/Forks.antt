@@ -1,14 +1,17 @@
 -- Document 01, "Watch for forks": the sites with two held blocks of one sequence number. `seen` says which places are looked at: the watch looks at
 -- every place, and so does a site that builds its next block.
-use Rattle.std.specs.Prelude.{Bool, false, cond, ◌&&◌, ℕ, eqb, leb, ltb}
+use Rattle.std.specs.Prelude.{Bool, false, cond, ◌&&◌, ℕ, eqb, leb, ltb, Result, Ok, Err}
 use Rattle.std.specs.Int.Count.{ones}
 use Rattle.base.specs.Search.{any_below}
 use Rattle.base.specs.Mask.{mask_below}
 use Rattle.base.specs.Bytes.{Bytes}
+use Rattle.answer.specs.declared.Refusal.{Refusal}
+use Rattle.answer.specs.Refusals.{refusal_number}
 use Rattle.setup.specs.Setup.{Setup, faults}
 use Rattle.table.specs.View.{max_places, View}
 use Rattle.table.specs.Layout.{setup_of, view_of}
 use Rattle.table.specs.Form.{in_form}
+use Rattle.watch.specs.declared.ForkReport.{ForkReport}
 use Rattle.watch.specs.declared.ForkedSites.{ForkedSites}
 
 -- every place is looked at
@@ -46,3 +49,8 @@ forks t =
     cond (in_form t)
     (reported (setup_of t) (forked_mask (setup_of t) (view_of t)))
     (record { refusal = 2; sites = 0; count = 0; at_most_f = false })
+
+-- what programs in C get: a refusal by its number, beside which all else is 0 and false
+abbrev pub forked_sites : Result ForkReport Refusal → ForkedSites
+forked_sites (Ok r) = record { refusal = 0; sites = r.sites; count = r.count; at_most_f = r.at_most_f }
+forked_sites (Err refusal) = record { refusal = refusal_number refusal; sites = 0; count = 0; at_most_f = false }

@@ -5,12 +5,12 @@ use Rattle.base.specs.Mask.{in_mask}
 use Rattle.base.specs.Steps.{print_count, prints_below}
 use Rattle.base.specs.Bytes.{Bytes}
 use Rattle.setup.specs.Setup.{max_sites}
+use Rattle.table.specs.View.{max_places}
 use Rattle.table.specs.Layout.{setup_of, count_of, site_at, sequence_at, references_at}
-use Rattle.table.specs.Steps.{Places}
 
--- a table of the right length and count whose blocks are of sites below n, and n is at most 16, so that a mask of sixteen bits has room
+-- a table with a count up to 64, whose blocks are of sites below n, and n is at most 16, so that a mask of sixteen bits has room
 pub record Watchable (t : Bytes) : Type 0 where
-  pub sized : Places t (count_of t)
+  pub held : count_of t ≤ max_places
   pub few : (setup_of t).sites ≤ max_sites
   pub sites : (i : ℕ) → i < count_of t → site_at t i < (setup_of t).sites
 

@@ -1,12 +1,9 @@
 -- `read_block` meets its contract: check 3, then the rest. Assumes nothing.
-use mathlib.Core.Path.{sym, ◌∙◌}
-use Rattle.block.specs.Reading.{reading}
-use Rattle.block.proofs.Shape.{shaped}
+use mathlib.Core.Path.{◌≡◌}
+use mathlib.Core.Bool.{false}
+use Rattle.block.specs.Reading.{well_shaped, reading}
 use Rattle.block.proofs.read_block.Goals as goal
 
-pub returns-then-not-well_shaped : goal.returns-then-not-well_shaped
+pub returns-in_default : goal.returns-in_default
 unfolding reading
-returns-then-not-well_shaped c = rw (sym c.well_shaped.ensures ∙ c.if-not-well_shaped.true)
-
-pub read_shaped-requires : goal.read_shaped-requires
-read_shaped-requires c = shaped _ (sym c.well_shaped.ensures ∙ c.if-not-well_shaped.false)
+returns-in_default c = let f : well_shaped c.args.block.now ≡ false = c.in_default.ensures in rw f

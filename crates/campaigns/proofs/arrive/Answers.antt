@@ -7,26 +7,31 @@ use Prim.Native.Nat.{ℕ, ◌≤◌, ◌<◌}
 use native.Mathlib.Omega.{arith}
 use lib.Dec.{leb}
 use lib.ListN.{length}
-use borrow.Author.Tests.{eq-eqb, ne_eqb, le-leb, lt-leb}
+use borrow.Author.Rules.{rules}
+use borrow.Author.Tests.{eqb-true, eqb-false, eq-eqb, ne_eqb, le-leb, lt-leb}
+use Rattle.std.specs.Prelude.{Result, Err}
 use Rattle.base.specs.Bytes.{Bytes}
 use Rattle.sha256.specs.Sha256.{sha256}
 use Rattle.answer.proofs.Checks.{number_of}
 use Rattle.answer.specs.Buffer.{put_answers}
 use Rattle.answer.specs.declared.Answer.{Answer}
-use Rattle.answer.specs.Checks.{refused, answer_to}
+use Rattle.answer.specs.declared.Refusal.{Refusal}
+use Rattle.answer.specs.Checks.{success, refused, answer_to}
+use Rattle.answer.proofs.Refusals.{numbered}
+use Rattle.answer.specs.Refusals.{answer_of}
 use Rattle.shelf.specs.Layout.{Waiting, waiting_in, shelf_bytes}
 use Rattle.shelf.specs.Rules.{campaign_count, max_campaign, has_place}
 use Rattle.shelf.specs.Form.{shelf_in_form}
 use Rattle.shelf.proofs.InForm.{shelf_form_lem}
 use Rattle.admission.specs.Admission.{admission, admitted}
 use Rattle.admission.proofs.Effect.{refused_table}
-use Rattle.campaigns.specs.Passes.{Try, outcomes_of, settled}
-use Rattle.campaigns.specs.Arriving.{Arrived, Called, outcomes_size, listed, arrived, arrival}
-use Rattle.campaigns.specs.Steps.{shelved_at}
+use Rattle.campaigns.specs.Passes.{outcomes_of, settled}
+use Rattle.campaigns.specs.Arriving.{arrival_answer, Arrived, Called, outcomes_size, listed, arrived, arrival}
+use Rattle.campaigns.specs.Steps.{shelving, waiting_then}
 use Rattle.campaigns.specs.declared.ArrivalAnswer.{ArrivalAnswer}
-use Rattle.campaigns.proofs.MissingReference.{with_table, shelved_any, shelved_tries, nine_short}
+use Rattle.campaigns.proofs.MissingReference.{after_shelving, shelved_as, nine_short}
 use Rattle.campaigns.proofs.arrive.Goals as goal
-use Rattle.campaigns.proofs.arrive.Goals.{Else-not-in_form}
+use Rattle.campaigns.proofs.arrive.Goals.{In-Some, Joined-waits_on, then-waits_on+in_ok-shelve, else-waits_on}
 
 -- an answer by which nothing has ended
 abbrev plain : Answer → ArrivalAnswer
@@ -96,17 +101,15 @@ module _ (t s : Bytes) (c : ℕ) (b : Bytes) (verdict : ℕ) (o : List ℕ) wher
             promised (record { answer = x.answer; table = x.table; shelf = shelf_bytes x.waiting; tries = x.tries })
             (rw (up_to, room, formed) (ap (λ (y : Arrived). record { answer = y.answer; table = y.table; shelf = shelf_bytes y.waiting; tries = y.tries }) e))
 
-        way_shelved : a.refusal ≡ 9 → (x : Answer) (r : ArrivalAnswer) (s' : Bytes) → r ≡ plain x → x ≡ (shelved_at a s c b).answer
-            → s' ≡ shelf_bytes (shelved_at a s c b).waiting → Promised r t' s' o
+        way_shelved : a.refusal ≡ 9 → (q : Result Unit Refusal) → q ≡ shelving s c b → (r : ArrivalAnswer) → r ≡ plain (after_shelving a q) → (s' : Bytes)
+            → s' ≡ shelf_bytes (waiting_then s c b) → Promised r t' s' o
         unfolding arrived outcomes_of put_answers
-        way_shelved z x r s' er ex es =
+        way_shelved z q eq r er s' es =
             let n : (admission sha256 t b verdict).refusal ≡ 9 = number_of (sym ea) ∙ z in
-            let e : all ≡ with_table t (shelved_at a s c b) =
-            rw (eq-eqb (admission sha256 t b verdict).refusal 9 n, ← ea) (shelved_any (has_place c ws) a t ws c b) in
-            let none : (shelved_at a s c b).tries ≡ [] = shelved_tries (has_place c ws) a [] ws c b in
-            by_list (with_table t (shelved_at a s c b)) e r t' s' o (ap (λ (x : ArrivalAnswer). x.answer) er ∙ ex)
-            (ap (λ (x : ArrivalAnswer). x.ended) er ∙ sym (ap (λ (ys : List Try). length (outcomes_of ys)) none))
-            (et ∙ refused_table sha256 t b verdict (λ q. omega arith)) es (sym (ap (λ (ys : List Try). put_answers o 0 (outcomes_of ys)) none))
+            let x : Arrived = record { answer = after_shelving a (shelving s c b); table = t; waiting = waiting_then s c b; tries = [] } in
+            let e : all ≡ x = rw (eq-eqb (admission sha256 t b verdict).refusal 9 n, ← ea) (shelved_as a t s c b) in
+            by_list x e r t' s' o (ap (λ (y : ArrivalAnswer). y.answer) er ∙ ap (after_shelving a) eq) (ap (λ (y : ArrivalAnswer). y.ended) er)
+            (et ∙ refused_table sha256 t b verdict (λ k. omega arith)) es refl
 
         way_refused : a.refusal ≢ 9 → a.refusal ≢ 0 → (r : ArrivalAnswer) → r ≡ plain a → Promised r t' s o
         unfolding arrived outcomes_of put_answers
@@ -127,13 +130,9 @@ module _ (t s : Bytes) (c : ℕ) (b : Bytes) (verdict : ℕ) (o : List ℕ) wher
 
 -- ---- the places of the walk
 
--- the shelf is in form
-formed : (c : Else-not-in_form) → shelf_in_form c.args.shelf.now ≡ true
-formed c = sym c.in_form.ensures ∙ c.if-not-in_form.false
-
-pub returns-then-campaign : goal.returns-then-campaign
-returns-then-campaign c = let q = c.args in
-    let w = way21 q.table.now q.shelf.now q.campaign q.block.now q.verdict q.outcomes.now c.if-campaign.true _ c.plain.ensures in record {
+pub returns-then-from-ge-CAMPAIGNS : goal.returns-then-from-ge-CAMPAIGNS
+returns-then-from-ge-CAMPAIGNS c = let q = c.args in
+    let w = way21 q.table.now q.shelf.now q.campaign q.block.now q.verdict q.outcomes.now (omega (arith, c.from.ensures, c.if-from-ge-CAMPAIGNS.true)) _ refl in record {
       answer_value = w.0;
       ended_value = w.1.0;
       table_after = w.1.1.0;
@@ -143,7 +142,7 @@ returns-then-campaign c = let q = c.args in
 
 pub returns-then-outcomes-lt-OUTCOMES_SIZE : goal.returns-then-outcomes-lt-OUTCOMES_SIZE
 returns-then-outcomes-lt-OUTCOMES_SIZE c = let q = c.args in
-    let w = way17 q.table.now q.shelf.now q.campaign q.block.now q.verdict q.outcomes.now c.if-campaign.false c.if-outcomes-lt-OUTCOMES_SIZE.true _ c.plain-then-outcomes-lt-OUTCOMES_SIZE.ensures in record {
+    let w = way17 q.table.now q.shelf.now q.campaign q.block.now q.verdict q.outcomes.now (omega (arith, c.from.ensures, c.if-from-ge-CAMPAIGNS.false)) c.if-outcomes-lt-OUTCOMES_SIZE.true _ refl in record {
       answer_value = w.0;
       ended_value = w.1.0;
       table_after = w.1.1.0;
@@ -151,10 +150,10 @@ returns-then-outcomes-lt-OUTCOMES_SIZE c = let q = c.args in
       outcomes_after = w.1.1.1.1;
     }
 
-pub returns-then-not-in_form : goal.returns-then-not-in_form
-returns-then-not-in_form c = let q = c.args in
-    let w = way2 q.table.now q.shelf.now q.campaign q.block.now q.verdict q.outcomes.now c.if-campaign.false c.if-outcomes-lt-OUTCOMES_SIZE.false
-    (sym c.in_form.ensures ∙ c.if-not-in_form.true) _ c.plain-then-not-in_form.ensures in record {
+pub returns-in_default : goal.returns-in_default
+returns-in_default c = let q = c.args in
+    let w = way2 q.table.now q.shelf.now q.campaign q.block.now q.verdict q.outcomes.now (omega (arith, c.from.ensures, c.if-from-ge-CAMPAIGNS.false)) c.if-outcomes-lt-OUTCOMES_SIZE.false
+    c.in_default.ensures.shelf _ refl in record {
       answer_value = w.0;
       ended_value = w.1.0;
       table_after = w.1.1.0;
@@ -162,18 +161,26 @@ returns-then-not-in_form c = let q = c.args in
       outcomes_after = w.1.1.1.1;
     }
 
-pub shelve-shelved-requires : goal.shelve-shelved-requires
-shelve-shelved-requires c =
+low : (c : In-Some) → c.args.campaign < campaign_count
+low c = omega (arith, c.from.ensures, c.if-from-ge-CAMPAIGNS.false)
+
+pub shelve-requires : goal.shelve-requires
+shelve-requires c =
     let q = c.args in
     record {
-      laid = (shelf_form_lem _ (formed (goal.at.shelve-shelved-requires c).Else-not-in_form)).laid;
-      short = nine_short sha256 q.table.now q.block.now q.verdict (number_of (sym c.admit-answer.ensures.value) ∙ c.if-answer-eq9.true);
+      laid = rw c.in-Some.ensures.shelf.0 (shelf_form_lem _ c.in-Some.ensures.shelf.1).laid;
+      short = nine_short sha256 q.table.now q.block.now q.verdict (number_of (sym c.admit-tried.ensures.value) ∙ eqb-true _ _ (sym c.waits_on.ensures ∙ c.if-waits_on.true));
     }
 
-pub returns-then-answer-eq9 : goal.returns-then-answer-eq9
-returns-then-answer-eq9 c = let q = c.args in
-    let w = way_shelved q.table.now q.shelf.now q.campaign q.block.now q.verdict q.outcomes.now c.if-campaign.false c.if-outcomes-lt-OUTCOMES_SIZE.false
-    (formed (goal.at.returns-then-answer-eq9 c).Else-not-in_form) _ _ c.admit-answer.ensures.value c.admit-answer.ensures.table_after c.if-answer-eq9.true _ _ _ c.plain-then-answer-eq9.ensures c.shelve-shelved.ensures.value c.shelve-shelved.ensures.shelf_after in record {
+pub returns-in_err-shelve : goal.returns-in_err-shelve
+returns-in_err-shelve c = let q = c.args in
+    let k = (goal.at.returns-in_err-shelve c).In-Some in
+    let handed : c.from_residual.result ≡ Err c.in_err-shelve.field-0.0 = search rules in
+    let w = way_shelved q.table.now q.shelf.now q.campaign q.block.now q.verdict q.outcomes.now (low k) c.if-outcomes-lt-OUTCOMES_SIZE.false c.in-Some.ensures.shelf.1
+    _ _ c.admit-tried.ensures.value c.admit-tried.ensures.table_after (eqb-true _ _ (sym c.waits_on.ensures ∙ c.if-waits_on.true))
+    c.shelve.result (rw c.in-Some.ensures.shelf.0 at c.shelve.ensures.value) (arrival_answer c.from_residual.result)
+    (ap arrival_answer handed ∙ sym (ap (λ (x : Result Unit Refusal). plain (after_shelving (answer_of c.admit-tried.result) x)) c.in_err-shelve.was))
+    c.shelve.new.shelf (rw c.in-Some.ensures.shelf.0 at c.shelve.ensures.shelf_after) in record {
       answer_value = w.0;
       ended_value = w.1.0;
       table_after = w.1.1.0;
@@ -181,22 +188,57 @@ returns-then-answer-eq9 c = let q = c.args in
       outcomes_after = w.1.1.1.1;
     }
 
-pub returns-then-answer-ne0 : goal.returns-then-answer-ne0
-returns-then-answer-ne0 c = let q = c.args in
-    let w = way_refused q.table.now q.shelf.now q.campaign q.block.now q.verdict q.outcomes.now c.if-campaign.false c.if-outcomes-lt-OUTCOMES_SIZE.false
-    (formed (goal.at.returns-then-answer-ne0 c).Else-not-in_form) _ _ c.admit-answer.ensures.value c.admit-answer.ensures.table_after c.if-answer-eq9.false c.if-answer-ne0.true _ c.plain-then-answer-ne0.ensures in record {
+-- the shelf stays where a block was let in
+stays : (c : Joined-waits_on) → (answer_of c.admit-tried.result).refusal ≡ 0 → c.if-waits_on.shelf ≡ c.args.shelf.now
+stays c z = elim c.if-waits_on.branch [
+  | then-waits_on+in_ok-shelve w ↦ absurd (omega (arith, z, eqb-true _ _ (sym c.waits_on.ensures ∙ w.if-waits_on.true)))
+  | else-waits_on w ↦ w.shelf-is ∙ c.in-Some.ensures.shelf.0
+]
+
+-- a refusal by admission: the block waits now, or nothing is changed
+refused_there : (c : Joined-waits_on) (e : Refusal) → c.admit-tried.result ≡ Err e → let q = c.args in
+    Promised q.table.now q.shelf.now q.campaign q.block.now q.verdict q.outcomes.now (plain (answer_of (Err e))) c.admit-tried.new.table c.if-waits_on.shelf q.outcomes.now
+refused_there c e was =
+    let q = c.args in
+    let k = (goal.at.Joined-waits_on c).In-Some in
+    let same : plain (answer_of (Err e)) ≡ plain (answer_of c.admit-tried.result) = ap (λ (x : Result ℕ Refusal). plain (answer_of x)) (sym was) in
+    elim c.if-waits_on.branch [
+      | then-waits_on+in_ok-shelve w ↦
+          way_shelved q.table.now q.shelf.now q.campaign q.block.now q.verdict q.outcomes.now (low k) c.if-outcomes-lt-OUTCOMES_SIZE.false c.in-Some.ensures.shelf.1
+          _ _ c.admit-tried.ensures.value c.admit-tried.ensures.table_after (eqb-true _ _ (sym c.waits_on.ensures ∙ w.if-waits_on.true))
+          w.shelve.result (rw c.in-Some.ensures.shelf.0 at w.shelve.ensures.value) _
+          (same ∙ sym (ap (λ (x : Result Unit Refusal). plain (after_shelving (answer_of c.admit-tried.result) x)) w.in_ok-shelve.was))
+          c.if-waits_on.shelf (w.shelf-is ∙ (rw c.in-Some.ensures.shelf.0 at w.shelve.ensures.shelf_after))
+      | else-waits_on w ↦
+          let some : (answer_of c.admit-tried.result).refusal ≢ 0 = λ z. absurd (omega (arith, numbered e, ap (λ (x : Result ℕ Refusal). (answer_of x).refusal) was)) in
+          rw (w.shelf-is, c.in-Some.ensures.shelf.0) (way_refused q.table.now q.shelf.now q.campaign q.block.now q.verdict q.outcomes.now (low k) c.if-outcomes-lt-OUTCOMES_SIZE.false c.in-Some.ensures.shelf.1
+          _ _ c.admit-tried.ensures.value c.admit-tried.ensures.table_after (eqb-false _ _ (sym c.waits_on.ensures ∙ w.if-waits_on.false)) some _ same)
+    ]
+
+pub returns-in_err-place : goal.returns-in_err-place
+returns-in_err-place c =
+    let handed : c.from_residual-in_err-place.result ≡ Err c.in_err-place.field-0.0 = search rules in
+    let w = refused_there (goal.at.returns-in_err-place c).Joined-waits_on _ c.in_err-place.was in
+    rw handed (record {
       answer_value = w.0;
       ended_value = w.1.0;
       table_after = w.1.1.0;
       shelf_after = w.1.1.1.0;
       outcomes_after = w.1.1.1.1;
-    }
+    })
 
 pub returns : goal.returns
 returns c = let q = c.args in
-    let w = way_settled q.table.now q.shelf.now q.campaign q.block.now q.verdict q.outcomes.now c.if-campaign.false c.if-outcomes-lt-OUTCOMES_SIZE.false
-    (formed (goal.at.returns c).Else-not-in_form) _ _ c.admit-answer.ensures.value c.admit-answer.ensures.table_after c.if-answer-ne0.false _ _ _ _ c.settle-ended.ensures.value c.settle-ended.ensures.table_after c.settle-ended.ensures.shelf_after
-    c.settle-ended.ensures.outcomes_after in record {
+    let k = (goal.at.returns c).In-Some in
+    let same = stays (goal.at.returns c).Joined-waits_on (ap (λ (x : Result ℕ Refusal). (answer_of x).refusal) c.in_ok-place.was) in
+    let u = c.settle-ended in
+    let t = c.admit-tried.new.table in
+    let w = way_settled q.table.now q.shelf.now q.campaign q.block.now q.verdict q.outcomes.now (low k) c.if-outcomes-lt-OUTCOMES_SIZE.false c.in-Some.ensures.shelf.1
+    (success c.in_ok-place.place) t c.in_ok-place.ensures.value c.admit-tried.ensures.table_after refl u.result u.new.table u.new.shelf u.new.outcomes
+    (u.ensures.value ∙ ap (λ (x : Bytes). length (outcomes_of (settled sha256 t q.campaign (waiting_in x)).tries)) same)
+    (u.ensures.table_after ∙ ap (λ (x : Bytes). (settled sha256 t q.campaign (waiting_in x)).table) same)
+    (u.ensures.shelf_after ∙ ap (λ (x : Bytes). shelf_bytes (settled sha256 t q.campaign (waiting_in x)).waiting) same)
+    (u.ensures.outcomes_after ∙ ap (λ (x : Bytes). put_answers q.outcomes.now 0 (outcomes_of (settled sha256 t q.campaign (waiting_in x)).tries)) same) in record {
       answer_value = w.0;
       ended_value = w.1.0;
       table_after = w.1.1.0;
@@ -205,4 +247,6 @@ returns c = let q = c.args in
     }
 
 pub settle-ended-requires : goal.settle-ended-requires
-settle-ended-requires c = (shelf_form_lem _ (formed (goal.at.settle-ended-requires c).Else-not-in_form)).laid
+settle-ended-requires c =
+    rw (stays (goal.at.settle-ended-requires c).Joined-waits_on (ap (λ (x : Result ℕ Refusal). (answer_of x).refusal) c.in_ok-place.was))
+    (shelf_form_lem _ c.in-Some.ensures.shelf.1).laid

@@ -1,10 +1,12 @@
 -- `settle` meets its contract: each pass keeps what the passes come to. Assumes nothing.
+use mathlib.Core.Bool.{true}
+use lib.ListN.{length}
 use Rattle.shelf.specs.Layout.{waiting_in}
-use Rattle.campaigns.proofs.LoopInvariants.{PassesInvariant, ahead}
+use Rattle.campaigns.proofs.LoopInvariants.{PassesInvariant}
 use Rattle.campaigns.proofs.settle.Given as goal
 
-abbrev pub invariant-loop-again : goal.invariant-loop-again
-invariant-loop-again l = PassesInvariant l.campaign l.initial.table l.initial.shelf l.initial.outcomes l.table l.shelf l.outcomes l.ended l.again
+abbrev pub invariant-loop-campaign : goal.invariant-loop-campaign
+invariant-loop-campaign l = PassesInvariant l.campaign l.initial.table l.initial.shelf l.initial.outcomes l.table l.shelf l.outcomes l.ended true
 
-abbrev pub decreases-loop-again : goal.decreases-loop-again
-decreases-loop-again l = ahead l.again (waiting_in l.shelf)
+abbrev pub decreases-loop-campaign : goal.decreases-loop-campaign
+decreases-loop-campaign l = length (waiting_in l.shelf)

@@ -1,11 +1,7 @@
 -- `list_places` meets its contract. The loop's invariant: the places passed that are in the mask are listed. Assumes nothing.
-use Prim.Native.Nat.{◌-◌, ◌≤◌}
 use Rattle.base.specs.Mask.{in_mask}
 use Rattle.interpret.proofs.Places.{ListedBelow}
 use Rattle.interpret.proofs.list_places.Given as goal
 
 abbrev pub invariant-loop-j : goal.invariant-loop-j
-invariant-loop-j l = (l.j ≤ l.place) × ListedBelow (in_mask l.references) l.j l.list l.count
-
-abbrev pub decreases-loop-j : goal.decreases-loop-j
-decreases-loop-j l = l.place - l.j
+invariant-loop-j l = ListedBelow (in_mask l.references) l.j l.list l.count

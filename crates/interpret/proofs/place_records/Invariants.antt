@@ -1,11 +1,10 @@
 -- `place_records` meets its contract. The loop's invariant: the records of the slots passed are put one behind the other. Assumes nothing.
 use mathlib.Core.Path.{◌≡◌}
 use mathlib.Core.List.{List}
-use Prim.Native.Nat.{ℕ, ◌*◌, ◌-◌, ◌≤◌}
+use Prim.Native.Nat.{ℕ, ◌*◌}
 use lib.ListN.{length, take}
 use Rattle.base.specs.List.{list_below}
 use Rattle.base.specs.Bytes.{Bytes, concat}
-use Rattle.setup.specs.Setup.{slot_count}
 use Rattle.table.specs.Layout.{setup_of, view_of}
 use Rattle.records.specs.Layout.{record_size, flatten, part_size}
 use Rattle.interpret.specs.Interpretation.{record_for}
@@ -17,7 +16,4 @@ numbers_in t i buffer slot = flatten (record_for (setup_of t) (view_of t) buffer
 
 abbrev pub invariant-loop-slot : goal.invariant-loop-slot
 invariant-loop-slot l =
-    (l.slot ≤ slot_count) × (length l.out ≡ part_size) × (take (record_size * l.slot) l.out ≡ concat (list_below (numbers_in l.table l.place l.records) l.slot))
-
-abbrev pub decreases-loop-slot : goal.decreases-loop-slot
-decreases-loop-slot l = slot_count - l.slot
+    (length l.out ≡ part_size) × (take (record_size * l.slot) l.out ≡ concat (list_below (numbers_in l.table l.place l.records) l.slot))

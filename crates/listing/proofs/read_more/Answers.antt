@@ -1,4 +1,4 @@
-use Rattle.std.proofs.Common.{◌≡◌, ℕ, ◌+◌, ◌≤◌, List, ◌++◌, length, take, drop, sym, ap, subst, ◌∙◌, arith, drop_at, length-take-le}
+use Rattle.std.proofs.Common.{ℕ, ◌+◌, ◌≤◌, List, ◌++◌, ◌≡◌, length, take, drop, sym, ap, subst, ◌∙◌, arith, drop_at, length-take-le}
 use Rattle.std.proofs.lemmas.List.{drop-take, take-append-le}
 use Rattle.std.specs.Io.KnownBytes.{Consumes}
 use Rattle.std.specs.declared.option.Option.{Option}
@@ -12,4 +12,6 @@ read_behind a b front part rest at n long fits read =
 
 pub returns-in-Ok-clause-bytes_read : goal.returns-in-Ok-clause-bytes_read
 returns-in-Ok-clause-bytes_read g c =
-    read_behind _ _ _ c.read.new.buf _ c.args.count c.in-Ok.more (length-take-le _ c.args.input.now (omega arith)) (c.in-Ok.ensures.bound.0) (c.in-Ok.ensures.bytes.0)
+    let e = c.in-Ok.ensures in
+    let long = length-take-le c.args.count c.args.input.now (omega arith) in
+    read_behind _ _ _ c.read.new.buf _ _ c.in-Ok.more long e.bound.0 e.bytes.0

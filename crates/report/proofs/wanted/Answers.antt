@@ -12,21 +12,13 @@ pub returns-in-Length : goal.returns-in-Length
 unfolding wanted_by
 returns-in-Length c = rw c.in-Length.is (refl, omega arith)
 
-pub returns-then-size-ge-MAX_BLOCK_SIZE : goal.returns-then-size-ge-MAX_BLOCK_SIZE
+pub returns-in-Block : goal.returns-in-Block
 unfolding wanted_by
-returns-then-size-ge-MAX_BLOCK_SIZE c = rw c.in-Block.is (omega arith, omega arith)
+returns-in-Block c = rw c.in-Block.is (omega (arith, c.min.ensures), omega (arith, c.min.ensures))
 
-pub returns-else-size-ge-MAX_BLOCK_SIZE : goal.returns-else-size-ge-MAX_BLOCK_SIZE
+pub returns-in-Skip : goal.returns-in-Skip
 unfolding wanted_by
-returns-else-size-ge-MAX_BLOCK_SIZE c = rw c.in-Block.is (omega arith, omega arith)
-
-pub returns-then-left-ge-PIECE_SIZE : goal.returns-then-left-ge-PIECE_SIZE
-unfolding wanted_by
-returns-then-left-ge-PIECE_SIZE c = rw c.in-Skip.is (omega arith, omega arith)
-
-pub returns-else-left-ge-PIECE_SIZE : goal.returns-else-left-ge-PIECE_SIZE
-unfolding wanted_by
-returns-else-left-ge-PIECE_SIZE c = rw c.in-Skip.is (omega arith, omega arith)
+returns-in-Skip c = rw c.in-Skip.is (omega (arith, c.min-in-Skip.ensures), omega (arith, c.min-in-Skip.ensures))
 
 pub returns-in-End : goal.returns-in-End
 unfolding wanted_by

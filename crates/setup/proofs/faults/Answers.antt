@@ -1,12 +1,9 @@
 -- `faults` meets its contract. Assumes nothing.
-use native.Mathlib.Omega.{arith}
+use mathlib.Core.Path.{◌∙◌, ap}
+use Prim.Native.Nat.{ℕ, ◌/◌}
 use Rattle.setup.specs.Setup.{faults}
 use Rattle.setup.proofs.faults.Goals as goal
 
-pub returns-then-sites-eq0 : goal.returns-then-sites-eq0
-unfolding faults
-returns-then-sites-eq0 c = omega arith
-
 pub returns : goal.returns
 unfolding faults
-returns c = omega arith
+returns c = c.from.ensures ∙ ap (λ (n : ℕ). n / 3) c.saturating_sub.ensures

@@ -1,12 +1,13 @@
 use native.Mathlib.Omega.{arith}
 use native.Mathlib.Numerals.{add-one}
 use Prim.Native.Nat.{ℕ, ◌+◌, ◌*◌, ◌≤◌, ◌<◌}
-use mathlib.Core.Path.{◌≡◌, refl, sym, ◌∙◌}
+use mathlib.Core.Path.{◌≡◌, refl, sym, ap, ◌∙◌}
 use mathlib.Core.List.{List, [], ◌∷◌, ◌++◌}
 use lib.ListN.{length, get_or, take}
 use lib.Seq.{take-suc, take_all}
 use Rattle.base.specs.Bytes.{splice}
 use Rattle.base.proofs.Splice.{take_splice}
+use Rattle.sha256.proofs.Bytes.{four_bytes}
 use Rattle.sha256.specs.Sha256.{bytes_of, word_bytes, bytes}
 use borrow.Author.Rules.{rules}
 use Rattle.sha256.proofs.bytes_of.Goals as goal
@@ -24,16 +25,16 @@ step ws out out' i h l e p =
 
 pub loop-i-init : goal.loop-i-init
 unfolding word_bytes
-loop-i-init c = (omega arith, refl, refl)
+loop-i-init c = (refl, refl)
 
 pub loop-i-preserved : goal.loop-i-preserved
 loop-i-preserved c =
     let l = c.loop-i in
-    (omega arith, search rules, step _ l.out _ l.i (omega arith) (omega arith) l.invariant.2 c.put_word.ensures)
+    (search rules, step _ l.out _ l.i (omega arith) (omega arith) l.invariant.1 (c.put.ensures ∙ ap (splice l.out (4 * l.i)) (c.to_be_bytes.ensures ∙ four_bytes _)))
 
 pub returns : goal.returns
 unfolding bytes
 returns c =
     let l = c.loop-i in
     let e : l.i ≡ 8 = omega arith in
-    sym (take_all 32 l.out (omega arith)) ∙ rw e at l.invariant.2
+    sym (take_all 32 l.out (omega arith)) ∙ rw e at l.invariant.1

@@ -35,22 +35,22 @@ is_lawful c = sym c.lawful.ensures ∙ c.if-not-lawful.false
 
 pub returns-then-not-lawful : goal.returns-then-not-lawful
 returns-then-not-lawful c = let w = way1 (setup (goal.at.returns-then-not-lawful c).After-lawful) _ (sym c.lawful.ensures ∙ c.if-not-lawful.true) in record {
-  value = rw c.refused.ensures w.0;
+  value = w.0;
   table_after = w.1;
 }
 
-pub returns-then-table-ne-TABLE_SIZE : goal.returns-then-table-ne-TABLE_SIZE
-returns-then-table-ne-TABLE_SIZE c = let w = way2 (setup (goal.at.returns-then-table-ne-TABLE_SIZE c).After-lawful) _ (is_lawful (goal.at.returns-then-table-ne-TABLE_SIZE c).Else-not-lawful) c.if-table-ne-TABLE_SIZE.true in record {
-  value = rw c.refused-then-table-ne-TABLE_SIZE.ensures w.0;
+pub returns-in_default : goal.returns-in_default
+returns-in_default c = let w = way2 (setup (goal.at.returns-in_default c).After-lawful) _ (is_lawful (goal.at.returns-in_default c).Else-not-lawful) c.in_default.ensures.cases in record {
+  value = w.0;
   table_after = w.1;
 }
 
 pub put_setup-requires : goal.put_setup-requires
 put_setup-requires c =
-    (eight_owners (setup (goal.at.put_setup-requires c).After-lawful) (is_lawful (goal.at.put_setup-requires c).Else-not-lawful), c.clear.ensures ∙ ap (λ (n : ℕ). replicate n 0) c.if-table-ne-TABLE_SIZE.false)
+    (eight_owners (setup (goal.at.put_setup-requires c).After-lawful) (is_lawful (goal.at.put_setup-requires c).Else-not-lawful), c.fill.ensures.after (λ y e. e) ∙ ap (λ (n : ℕ). replicate n 0) (ap length c.in-Some.ensures.cases.same ∙ c.in-Some.ensures.cases.long))
 
 pub returns : goal.returns
-returns c = let w = way0 (setup (goal.at.returns c).After-lawful) _ _ (is_lawful (goal.at.returns c).Else-not-lawful) c.if-table-ne-TABLE_SIZE.false c.put_setup.ensures in record {
-  value = rw c.success.ensures w.0;
+returns c = let w = way0 (setup (goal.at.returns c).After-lawful) _ _ (is_lawful (goal.at.returns c).Else-not-lawful) c.in-Some.ensures.cases.long c.put_setup.ensures in record {
+  value = w.0;
   table_after = w.1;
 }

@@ -3,23 +3,16 @@ use mathlib.Core.Path.{◌≡◌, ap, ◌∙◌}
 use mathlib.Core.List.{[], ◌∷◌, ◌++◌}
 use Prim.Native.Nat.{ℕ, suc, ◌+◌}
 use native.Mathlib.Omega.{arith}
-use lib.ListN.{length, drop, replicate, length-replicate}
-use borrow.Author.Rules.{rules}
+use lib.ListN.{length, drop, replicate}
 use Rattle.base.specs.List.{list_below}
 use Rattle.base.specs.Bytes.{Bytes, concat, splice}
-use Rattle.base.proofs.Splice.{splice_append, length_splice}
+use Rattle.base.proofs.Splice.{splice_append}
 use Rattle.setup.specs.Setup.{slot_count}
 use Rattle.table.specs.Layout.{owners_offset, table_size, layout}
 use Rattle.table.specs.Fresh.{empty_table}
 use Rattle.table.proofs.put_setup.Goals as goal
 
-size : (t : Bytes) → t ≡ replicate table_size 0 → length t ≡ table_size
-size t e = ap length e ∙ length-replicate {A = ℕ} table_size 0
-
 module _ (sites : ℕ) (owners t₀ t₁ : Bytes) (eight : length owners ≡ slot_count) (e₀ : t₀ ≡ replicate table_size 0) (e₁ : t₁ ≡ splice t₀ 0 (sites ∷ [])) where
-  first_size_lem : length t₁ ≡ table_size
-  first_size_lem = ap length e₁ ∙ length_splice t₀ 0 (sites ∷ []) (omega (arith, size t₀ e₀)) ∙ size t₀ e₀
-
   empty : (t₂ : Bytes) → t₂ ≡ splice t₁ owners_offset owners → t₂ ≡ empty_table (record { sites = sites; owners = owners })
   unfolding empty_table layout concat list_below splice
   empty t₂ e₂ =
@@ -28,13 +21,6 @@ module _ (sites : ℕ) (owners t₀ t₁ : Bytes) (eight : length owners ≡ slo
       ∙ splice_append (replicate table_size 0) 0 (sites ∷ []) (omega arith) owners
       ∙ ap (λ (n : ℕ). (sites ∷ owners) ++ drop n (replicate table_size 0)) nine
 
-pub put-requires-2 : goal.put-requires-2
-put-requires-2 c =
-    let l = first_size_lem c.args.sites c.args.owners.now _ _ c.requires.0 c.requires.1 c.put.ensures in search rules
-
 pub returns : goal.returns
 returns c =
     empty c.args.sites c.args.owners.now _ _ c.requires.0 c.requires.1 c.put.ensures _ c.put-2.ensures
-
-pub put-requires : goal.put-requires
-put-requires c = let l = size _ c.requires.1 in search rules

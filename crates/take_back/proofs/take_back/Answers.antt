@@ -1,55 +1,57 @@
 -- `take_back` meets its contract: one law for each way out. Assumes nothing.
 use mathlib.Core.Path.{◌≡◌, sym, ◌∙◌}
 use mathlib.Core.Bool.{true}
-use Prim.Native.Nat.{suc, ◌-◌}
+use Prim.Native.Nat.{suc, ◌<◌}
 use native.Mathlib.Omega.{arith}
+use Rattle.table.specs.View.{max_places}
 use Rattle.table.specs.Layout.{count_of}
 use Rattle.table.specs.Form.{in_form}
-use Rattle.table.specs.Steps.{LastPlace}
-use Rattle.table.proofs.InForm.{table_form, last_place}
+use Rattle.table.proofs.InForm.{formed_places}
 use Rattle.take_back.proofs.Ways.{out2, out32, out33, out0}
 use Rattle.take_back.proofs.take_back.Goals as goal
-use Rattle.take_back.proofs.take_back.Goals.{Else-count-eq0, Else-not-in_form}
+use Rattle.take_back.proofs.take_back.Goals.{In-Some, In-Some-checked_sub}
 
 -- what each test shows
-formed : (c : Else-not-in_form) → in_form c.args.table.now ≡ true
-formed c = sym c.in_form.ensures ∙ c.if-not-in_form.false
+formed : (c : In-Some) → in_form c.in-Some.table.now ≡ true
+formed c = rw c.in-Some.ensures.table.0 c.in-Some.ensures.table.1
 
-counted : (c : Else-count-eq0) → count_of c.args.table.now ≡ suc (c.count_of-count.result - 1)
-counted c = omega (arith, c.count_of-count.ensures, c.if-count-eq0.false)
+counted : (c : In-Some-checked_sub) → count_of c.in-Some.table.now ≡ suc c.in-Some-checked_sub.last
+counted c = let h = c.in-Some-checked_sub.ensures in omega (arith, h.0, h.1, c.count_of.ensures)
 
-place : (c : Else-count-eq0) → LastPlace c.args.table.now (c.count_of-count.result - 1)
-place c = last_place _ (formed (goal.at.Else-count-eq0 c).Else-not-in_form) _ (counted c)
+place : (c : In-Some-checked_sub) → c.in-Some-checked_sub.last < max_places
+place c = omega (arith, counted c, formed_places _ (formed (goal.at.In-Some-checked_sub c).In-Some))
 
-pub returns-then-not-in_form : goal.returns-then-not-in_form
-returns-then-not-in_form c = let w = out2 _ (sym c.in_form.ensures ∙ c.if-not-in_form.true) in record {
-  value = rw c.refused.ensures w.0;
+pub returns-in_default : goal.returns-in_default
+returns-in_default c = let w = out2 _ c.in_default.ensures.table in record {
+  value = w.0;
   table_after = w.1;
 }
 
-pub returns-then-count-eq0 : goal.returns-then-count-eq0
-returns-then-count-eq0 c = let w = out32 _ (formed (goal.at.returns-then-count-eq0 c).Else-not-in_form) (sym c.count_of-count.ensures ∙ c.if-count-eq0.true) in record {
-  value = rw c.refused-then-count-eq0.ensures w.0;
-  table_after = w.1;
-}
+pub returns-in_default-checked_sub : goal.returns-in_default-checked_sub
+returns-in_default-checked_sub c =
+    let w = out32 _ (formed (goal.at.returns-in_default-checked_sub c).In-Some) (omega (arith, c.in_default-checked_sub.ensures, c.count_of.ensures)) in record {
+      value = rw (← c.in-Some.ensures.table.0) w.0;
+      table_after = rw (← c.in-Some.ensures.table.0) w.1;
+    }
 
 pub returns-then-mark_at-eq1 : goal.returns-then-mark_at-eq1
-returns-then-mark_at-eq1 c = let w = out33 _ (formed (goal.at.returns-then-mark_at-eq1 c).Else-not-in_form) _ (counted (goal.at.returns-then-mark_at-eq1 c).Else-count-eq0) (sym c.mark_at.ensures ∙ c.if-mark_at-eq1.true) in record {
-  value = rw c.refused-then-mark_at-eq1.ensures w.0;
-  table_after = w.1;
-}
+returns-then-mark_at-eq1 c =
+    let at = goal.at.returns-then-mark_at-eq1 c in
+    let w = out33 _ (formed at.In-Some) _ (counted at.In-Some-checked_sub) (sym c.mark_at.ensures ∙ c.if-mark_at-eq1.true) in record {
+      value = rw (← c.in-Some.ensures.table.0) w.0;
+      table_after = rw (← c.in-Some.ensures.table.0) w.1;
+    }
 
 pub returns : goal.returns
-returns c = let w = out0 _ (formed (goal.at.returns c).Else-not-in_form) _ (counted (goal.at.returns c).Else-count-eq0) (λ q. c.if-mark_at-eq1.false (c.mark_at.ensures ∙ q)) _ c.clear_last.ensures in record {
-  value = rw c.success.ensures w.0;
-  table_after = w.1;
-}
-
-pub count_of-count-requires : goal.count_of-count-requires
-count_of-count-requires c = (table_form _ (formed (goal.at.count_of-count-requires c).Else-not-in_form)).size
+returns c =
+    let at = goal.at.returns c in
+    let w = out0 _ (formed at.In-Some) _ (counted at.In-Some-checked_sub) (λ q. c.if-mark_at-eq1.false (c.mark_at.ensures ∙ q)) _ c.clear_last.ensures in record {
+      value = rw (← c.in-Some.ensures.table.0) w.0;
+      table_after = rw (← c.in-Some.ensures.table.0) w.1;
+    }
 
 pub mark_at-requires : goal.mark_at-requires
-mark_at-requires c = let p = place (goal.at.mark_at-requires c).Else-count-eq0 in record { size = p.size; place = p.few }
+mark_at-requires c = place (goal.at.mark_at-requires c).In-Some-checked_sub
 
 pub clear_last-requires : goal.clear_last-requires
-clear_last-requires c = place (goal.at.clear_last-requires c).Else-count-eq0
+clear_last-requires c = let at = goal.at.clear_last-requires c in (counted at.In-Some-checked_sub, place at.In-Some-checked_sub)

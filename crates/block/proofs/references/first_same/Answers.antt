@@ -1,28 +1,7 @@
-use native.Mathlib.Omega.{arith}
-use mathlib.Core.Path.{sym, ap, ◌∙◌}
+-- `first_same` meets its contract: the search is the definition's. Assumes nothing.
 use borrow.Author.Rules.{rules}
-use Rattle.base.specs.Bytes.{Bytes, same_bytes}
-use Rattle.base.proofs.Search.{first_none, first_past, first_hit, first_end}
-use Rattle.block.proofs.references.first_same.Invariants.{is}
+use Rattle.base.proofs.Ranges.{find_over}
 use Rattle.block.proofs.references.first_same.Goals as goal
 
-pub loop-j-init : goal.loop-j-init
-loop-j-init c = (omega arith, search rules, first_none _)
-
-pub returns-then-same : goal.returns-then-same
-returns-then-same c =
-    let a = c.args in
-    sym (first_hit (is a.list.now a.key.now) c.loop-j.j a.k (omega arith) c.loop-j.invariant.2
-    (ap (λ (x : Bytes). same_bytes x a.key.now) (sym c.reference.ensures) ∙ sym c.same.ensures ∙ c.if-same.true))
-
-pub loop-j-preserved : goal.loop-j-preserved
-loop-j-preserved c =
-    let a = c.args in (
-      omega arith,
-      search rules,
-      first_past (is a.list.now a.key.now) c.loop-j.j c.loop-j.invariant.2
-          (ap (λ (x : Bytes). same_bytes x a.key.now) (sym c.reference.ensures) ∙ sym c.same.ensures ∙ c.if-same.false),
-    )
-
 pub returns : goal.returns
-returns c = let l = c.loop-j in first_end _ l.j _ (omega arith) l.invariant.2
+returns c = find_over _ _ _ c.find.ensures.ran (λ x b q e. search rules)

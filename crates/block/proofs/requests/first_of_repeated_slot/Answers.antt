@@ -4,11 +4,10 @@ use Prim.Native.Nat.{ℕ, ◌+◌, ◌*◌, ◌%◌, ◌^◌, ◌<◌, ◌/◌}
 use lib.Bits.{bit_or}
 use lib.Dec.{eqb}
 use lib.ListN.{length}
-use borrow.Author.Rules.{rules}
 use Rattle.base.specs.Search.{any_below}
 use Rattle.base.specs.Mask.{in_mask}
 use Rattle.base.specs.Bytes.{Bytes}
-use Rattle.base.proofs.Search.{first_none, first_past, first_hit, first_end, first_before}
+use Rattle.base.proofs.Search.{first_none, first_past, first_before, found_first, found_none}
 use Rattle.base.proofs.Sets.{mask_has, some_none, some_put}
 use Rattle.setup.specs.Setup.{slot_count}
 use Rattle.block.specs.Limits.{request_size}
@@ -18,7 +17,7 @@ use Rattle.block.specs.Steps.{NoneBad, slots_met}
 use Rattle.block.specs.declared.Request.{Request}
 use Rattle.block.proofs.RequestCheck.{slot_within}
 use Rattle.block.proofs.requests.first_of_repeated_slot.Goals as goal
-use Rattle.block.proofs.requests.first_of_repeated_slot.Goals.{After-in_mask, After-wide-slot}
+use Rattle.block.proofs.requests.first_of_repeated_slot.Goals.{After-in_mask, After-from-slot}
 
 -- request i, and the mask of the slots before it; the code has the request in q and its slot in s
 module _ (list : Bytes) (n : NoneBad list) (i : ℕ) (h : i < length list / request_size) (q : Request) (e : q ≡ request_at list i) (s : ℕ) (es : s ≡ q.slot) where
@@ -35,38 +34,38 @@ module _ (list : Bytes) (n : NoneBad list) (i : ℕ) (h : i < length list / requ
   one_more_lem = some_put (λ slot j. eqb (request_at list j).slot slot) 64 slot_count i s (omega arith) below (λ slot l. ap (λ (x : ℕ). eqb x slot) is_slot)
 
 pub loop-i-init : goal.loop-i-init
-loop-i-init c = (omega arith, search rules, c.requires, some_none _ slot_count, first_none _)
+loop-i-init c = (c.requires, some_none _ slot_count, first_none _)
 
-within : (c : After-wide-slot) → c.wide-slot.result < slot_count
-within c = let l = c.loop-i in below _ l.invariant.2 l.i (omega arith) _ c.request.ensures _ c.wide-slot.ensures
+within : (c : After-from-slot) → c.from-slot.result < slot_count
+within c = let l = c.loop-i in below _ l.invariant.0 l.i (omega arith) _ c.request.ensures _ c.from-slot.ensures
 
 -- what the test of a turn shows
 tested : (c : After-in_mask) → slot_repeated_at c.args.list.now c.loop-i.i ≡ c.in_mask.result
 tested c =
     let l = c.loop-i in
-    sym (met_before _ l.invariant.2 l.i (omega arith) _ c.request.ensures _ c.wide-slot.ensures)
-    ∙ ap (λ (m : ℕ). in_mask m c.wide-slot.result) (sym l.invariant.3) ∙ sym c.in_mask.ensures
+    sym (met_before _ l.invariant.0 l.i (omega arith) _ c.request.ensures _ c.from-slot.ensures)
+    ∙ ap (λ (m : ℕ). in_mask m c.from-slot.result) (sym l.invariant.1) ∙ sym c.in_mask.ensures
 
 pub returns-then-in_mask : goal.returns-then-in_mask
 returns-then-in_mask c =
     let l = c.loop-i in
-    sym (first_hit _ l.i _ (omega arith) l.invariant.4 (tested (goal.at.returns-then-in_mask c).After-in_mask ∙ c.if-in_mask.true))
+    found_first _ _ l.i (omega arith) l.invariant.2 (tested (goal.at.returns-then-in_mask c).After-in_mask ∙ c.if-in_mask.true)
 
 pub loop-i-preserved : goal.loop-i-preserved
 loop-i-preserved c =
     let l = c.loop-i in (
-      omega arith,
-      search rules,
-      l.invariant.2,
-      rw l.invariant.3 (one_more_lem _ l.invariant.2 l.i (omega arith) _ c.request.ensures _ c.wide-slot.ensures),
-      first_past _ l.i l.invariant.4 (tested (goal.at.loop-i-preserved c).After-in_mask ∙ c.if-in_mask.false),
+      l.invariant.0,
+      rw l.invariant.1 (one_more_lem _ l.invariant.0 l.i (omega arith) _ c.request.ensures _ c.from-slot.ensures),
+      first_past _ l.i l.invariant.2 (tested (goal.at.loop-i-preserved c).After-in_mask ∙ c.if-in_mask.false),
     )
 
 pub in_mask-requires : goal.in_mask-requires
-in_mask-requires c = omega (arith, within (goal.at.in_mask-requires c).After-wide-slot)
+in_mask-requires c = omega (arith, within (goal.at.in_mask-requires c).After-from-slot)
 
 pub overflow_shl-met : goal.overflow_shl-met
-overflow_shl-met c = omega (arith, within (goal.at.overflow_shl-met c).After-wide-slot)
+overflow_shl-met c = omega (arith, within (goal.at.overflow_shl-met c).After-from-slot)
 
 pub returns : goal.returns
-returns c = let l = c.loop-i in first_end _ l.i _ (omega arith) l.invariant.4
+returns c =
+    let e : c.loop-i.i ≡ length c.args.list.now / request_size = omega arith in
+    found_none _ _ (rw e at c.loop-i.invariant.2)

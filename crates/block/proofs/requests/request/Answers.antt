@@ -22,4 +22,4 @@ made list i n e =
     rw (e, s, byte list i 1 (omega arith), byte list i 2 (omega arith))
 
 pub returns : goal.returns
-returns c = let a = c.args in made a.list.now a.i _ c.number_of.ensures
+returns c = let a = c.args in made a.list.now a.i _ c.from_be_bytes.ensures

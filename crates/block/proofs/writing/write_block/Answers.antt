@@ -3,9 +3,10 @@ use mathlib.Core.Path.{◌≡◌, sym, ap, ◌∙◌}
 use mathlib.Core.List.{[], ◌∷◌, ◌++◌}
 use Prim.Native.Nat.{ℕ, ◌+◌, ◌/◌, ◌%◌}
 use native.Mathlib.Omega.{arith}
-use lib.ListN.{length, length-append}
+use lib.ListN.{length, get_or, length-append}
 use Rattle.base.specs.Bytes.{Bytes, AllBytes, splice}
 use Rattle.base.proofs.Splice.{splice_append}
+use Rattle.base.proofs.Words.{pair_of_number}
 use Rattle.block.specs.Limits.{header_size, reference_size, request_size}
 use Rattle.block.specs.Layout.{content, encode}
 use Rattle.block.specs.Steps.{Writable}
@@ -29,4 +30,4 @@ pub returns : goal.returns
 returns c =
     let a = c.args in
     put_all a.site a.sequence a.references.now a.requests.now a.output.now c.requires (λ i. (c.shared_slice_known-2-1.given i).fits)
-    _ _ _ c.put.ensures c.put-2.ensures c.put-3.ensures
+    _ _ _ (c.put.ensures ∙ ap (λ (p : Bytes). splice a.output.now 0 (a.site ∷ get_or p 0 0 ∷ get_or p 1 0 ∷ length a.references.now / reference_size ∷ length a.requests.now / request_size ∷ [])) (c.to_be_bytes.ensures ∙ pair_of_number a.sequence c.ranges.sequence.fits)) c.put-2.ensures c.put-3.ensures

@@ -11,7 +11,7 @@ use Rattle.build.proofs.picking.put_place.Goals as goal
 pub put-requires : goal.put-requires
 put-requires c =
     let size : length c.digest_at.result.now ≡ reference_size =
-    ap length c.digest_at.ensures ∙ digest_size c.args.table.now c.requires.0.size c.args.i c.requires.0.place in
+    ap length c.digest_at.ensures ∙ digest_size c.args.table.now c.told-table c.args.i c.requires.0 in
     omega (arith, c.requires.1.size)
 
 pub returns : goal.returns
@@ -20,10 +20,12 @@ returns c = let a = c.args in
     record {
       value = one.0;
       list_after = c.put.ensures ∙ ap (splice a.list.now (reference_size * a.count)) c.digest_at.ensures ∙ one.1;
+      sized = c.told-table;
     }
 
 pub returns-then-count-ge-MAX_REFERENCES : goal.returns-then-count-ge-MAX_REFERENCES
 returns-then-count-ge-MAX_REFERENCES c = let a = c.args in let w = put_none a.table.now a.i a.count a.list.now c.if-count-ge-MAX_REFERENCES.true in record {
   value = w.0;
   list_after = w.1;
+  sized = c.told-table;
 }

@@ -3,29 +3,29 @@ use mathlib.Core.Path.{◌≡◌, sym, ap, ◌∙◌}
 use mathlib.Core.Bool.{Bool, true, false, ◌||◌}
 use mathlib.Core.Logic.{◌≢◌}
 use mathlib.Core.List.{List}
-use Prim.Native.Nat.{ℕ, ◌+◌, ◌≤◌}
+use Prim.Native.Nat.{ℕ, ◌+◌}
 use native.Mathlib.Omega.{arith}
 use lib.Dec.{eqb}
 use lib.ListN.{get_or}
 use borrow.Author.Rules.{rules}
-use borrow.Author.Tests.{eq-eqb, ne_eqb}
+use borrow.Author.Tests.{eq-eqb, ne_eqb, eqb-true, eqb-false}
 use Rattle.base.specs.Bytes.{Bytes}
-use Rattle.base.proofs.Tests.{or_true, or_false}
 use Rattle.sha256.specs.Sha256.{sha256}
 use Rattle.answer.proofs.Checks.{number_of}
 use Rattle.answer.specs.Buffer.{put_answer}
+use Rattle.answer.specs.Refusals.{answer_of}
 use Rattle.answer.specs.declared.Answer.{Answer}
 use Rattle.shelf.specs.Layout.{Waiting, campaign_at, block_at, waiting_at, waiting_in, shelf_bytes}
 use Rattle.shelf.specs.Rules.{is_for}
 use Rattle.shelf.specs.Steps.{no_waiting, without}
-use Rattle.shelf.proofs.ShelfLayout.{laid_size, laid_entry, laid_entry_of}
+use Rattle.shelf.proofs.ShelfLayout.{laid_entry, laid_entry_of}
 use Rattle.admission.specs.Admission.{admission, admitted}
 use Rattle.admission.proofs.Effect.{refused_table}
 use Rattle.campaigns.specs.Passes.{outcome}
 use Rattle.campaigns.specs.Steps.{AtEntry, turned}
 use Rattle.campaigns.specs.declared.Pass.{Pass}
 use Rattle.campaigns.proofs.passing.turn.Goals as goal
-use Rattle.campaigns.proofs.passing.turn.Goals.{After-struct_known-2-1}
+use Rattle.campaigns.proofs.passing.turn.Goals.{Joined-p, then-p, else-p}
 
 module _ (t s : Bytes) (o : List ℕ) (c : ℕ) (p : Pass) (h : AtEntry s p) where
   abbrev ws : List Waiting
@@ -87,21 +87,14 @@ module _ (t s : Bytes) (o : List ℕ) (c : ℕ) (p : Pass) (h : AtEntry s p) whe
           let er = eo ∙ ap (λ (v : Answer). put_answer o p.ended (outcome v)) tried in
           (rw (mine, z) (λ i. record { at = p.at; admitted = yr i; ended = p.ended + 1 }), (rw (mine, z) left, (rw (mine, z) es, rw (mine, z) er)))
 
-      -- the block was let in, or dropped
-      module _ (n : a.refusal ≢ 9) (s' : Bytes) (es : s' ≡ shelf_bytes (without p.at ws)) (x : Answer) (ex : x ≡ outcome a) (o' : List ℕ) (eo : o' ≡ put_answer o p.ended x) where
-        noted : o' ≡ put_answer o p.ended (outcome a)
-        noted = eo ∙ ap (put_answer o p.ended) ex
-
-        way_let_in : a.refusal ≡ 0 → Promised (record { at = p.at; admitted = true; ended = p.ended + 1 }) t' s' o'
-        way_let_in z = way_goes n s' es o' noted true (sym (or_true p.admitted) ∙ ap (λ (v : Bool). p.admitted || v) (sym (eq-eqb a.refusal 0 z)))
-
-        way_dropped : a.refusal ≢ 0 → Promised (record { at = p.at; admitted = p.admitted; ended = p.ended + 1 }) t' s' o'
-        way_dropped z = way_goes n s' es o' noted p.admitted (sym (or_false p.admitted) ∙ ap (λ (v : Bool). p.admitted || v) (sym (ne_eqb a.refusal 0 z)))
-
 -- ---- the places of the walk
 
-add_ended : (c : After-struct_known-2-1) → c.args.p.ended ≤ 16
-add_ended c = omega (arith, c.requires.passable.few)
+-- whether the pass has let a block in
+let_in : (c : Joined-p) → c.if-p.result ≡ (c.args.p.admitted || eqb (answer_of c.admit-tried.result).refusal 0)
+let_in c = elim c.if-p.branch [
+  | then-p w ↦ rw w.if-p.true (w.result-is ∙ w.if-p.true)
+  | else-p w ↦ rw w.if-p.false (w.result-is ∙ search rules)
+]
 
 pub returns-then-campaign_at-campaign : goal.returns-then-campaign_at-campaign
 returns-then-campaign_at-campaign c = let w = way_other c.args.table.now c.args.shelf.now c.args.outcomes.now c.args.campaign c.args.p c.requires _ c.campaign_at.ensures c.if-campaign_at-campaign.true in record {
@@ -111,19 +104,9 @@ returns-then-campaign_at-campaign c = let w = way_other c.args.table.now c.args.
   outcomes_after = w.1.1.1;
 }
 
-pub returns-then-answer-eq9 : goal.returns-then-answer-eq9
-returns-then-answer-eq9 c = let w = way_stays c.args.table.now c.args.shelf.now c.args.outcomes.now c.args.campaign c.args.p c.requires _ c.campaign_at.ensures c.if-campaign_at-campaign.false
-    _ c.block_at.ensures _ _ c.admit-answer.ensures.value c.admit-answer.ensures.table_after c.if-answer-eq9.true in record {
-      value = w.0;
-      table_after = w.1.0;
-      shelf_after = w.1.1.0;
-      outcomes_after = w.1.1.1;
-    }
-
-pub returns-then-answer-eq0 : goal.returns-then-answer-eq0
-returns-then-answer-eq0 c = let w = way_let_in c.args.table.now c.args.shelf.now c.args.outcomes.now c.args.campaign c.args.p c.requires _ c.campaign_at.ensures c.if-campaign_at-campaign.false
-    _ c.block_at.ensures _ _ c.admit-answer.ensures.value c.admit-answer.ensures.table_after c.if-answer-eq9.false
-    _ c.take_out.ensures _ c.outcome_of.ensures _ c.put_answer.ensures c.if-answer-eq0.true in record {
+pub returns-then-waits_on : goal.returns-then-waits_on
+returns-then-waits_on c = let w = way_stays c.args.table.now c.args.shelf.now c.args.outcomes.now c.args.campaign c.args.p c.requires _ c.campaign_at.ensures c.if-campaign_at-campaign.false
+    _ c.block_at.ensures _ _ c.admit-tried.ensures.value c.admit-tried.ensures.table_after (eqb-true _ _ (sym c.waits_on.ensures ∙ c.if-waits_on.true)) in record {
       value = w.0;
       table_after = w.1.0;
       shelf_after = w.1.1.0;
@@ -131,26 +114,14 @@ returns-then-answer-eq0 c = let w = way_let_in c.args.table.now c.args.shelf.now
     }
 
 pub returns : goal.returns
-returns c = let w = way_dropped c.args.table.now c.args.shelf.now c.args.outcomes.now c.args.campaign c.args.p c.requires _ c.campaign_at.ensures c.if-campaign_at-campaign.false
-    _ c.block_at.ensures _ _ c.admit-answer.ensures.value c.admit-answer.ensures.table_after c.if-answer-eq9.false
-    _ c.take_out.ensures _ c.outcome_of.ensures _ c.put_answer.ensures c.if-answer-eq0.false in record {
+returns c = let w = way_goes c.args.table.now c.args.shelf.now c.args.outcomes.now c.args.campaign c.args.p c.requires _ c.campaign_at.ensures c.if-campaign_at-campaign.false
+    _ c.block_at.ensures _ _ c.admit-tried.ensures.value c.admit-tried.ensures.table_after (eqb-false _ _ (sym c.waits_on.ensures ∙ c.if-waits_on.false))
+    _ c.take_out.ensures _ (c.put_answer.ensures ∙ ap (put_answer c.args.outcomes.now c.args.p.ended) c.outcome_of.ensures) _ (let_in (goal.at.returns c).Joined-p) in record {
       value = w.0;
       table_after = w.1.0;
       shelf_after = w.1.1.0;
       outcomes_after = w.1.1.1;
     }
 
-pub campaign_at-requires : goal.campaign_at-requires
-campaign_at-requires c = let q = c.requires in record { size = laid_size _ _ q.passable.laid; place = omega (arith, q.below, q.passable.laid.few) }
-
 pub block_at-requires : goal.block_at-requires
 block_at-requires c = let q = c.requires in laid_entry_of _ _ q.passable.laid _ q.below
-
-pub take_out-requires : goal.take_out-requires
-take_out-requires c = let q = c.requires in (q.passable.laid, q.below)
-
-pub overflow_add-result-then-answer-eq0 : goal.overflow_add-result-then-answer-eq0
-overflow_add-result-then-answer-eq0 c = let l = add_ended (goal.at.overflow_add-result-then-answer-eq0 c).After-struct_known-2-1 in search rules
-
-pub overflow_add-result-2 : goal.overflow_add-result-2
-overflow_add-result-2 c = let l = add_ended (goal.at.overflow_add-result-2 c).After-struct_known-2-1 in search rules

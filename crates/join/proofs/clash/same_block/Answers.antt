@@ -8,28 +8,27 @@ use Rattle.base.specs.Search.{all_below}
 use Rattle.setup.specs.Setup.{slot_count}
 use Rattle.table.specs.View.{max_places}
 use Rattle.table.specs.Layout.{site_at, sequence_at, references_at, counted_request_at, view_of}
-use Rattle.table.specs.Steps.{Place}
-use Rattle.table.proofs.InForm.{table_form}
+use Rattle.table.proofs.InForm.{formed_places}
 use Rattle.join.specs.Join.{refers_within}
 use Rattle.join.specs.Steps.{within_by}
 use Rattle.join.proofs.ClashByPlaces.{within_is, other_site_lem, other_sequence, other_request, other_reference, last_test}
 use Rattle.join.proofs.clash.same_block.Goals as goal
 use Rattle.join.proofs.clash.same_block.Goals.{After-refers_within, Else-not-same_requests, Else-sequence_at, Else-site_at, Start}
 
-left_place : (s : Start) → Place s.args.left.now s.args.i
-left_place s = let f = table_form _ s.requires.formed.left_formed in record { size = f.size; place = omega (arith, f.held.fits, s.requires.first) }
+left_place : (s : Start) → s.args.i < max_places
+left_place s = omega (arith, formed_places _ s.requires.found.formed.left_formed, s.requires.first)
 
-right_place : (s : Start) → Place s.args.right.now s.args.j
-right_place s = let f = table_form _ s.requires.formed.right_formed in record { size = f.size; place = omega (arith, f.held.fits, s.requires.second) }
+right_place : (s : Start) → s.args.j < max_places
+right_place s = omega (arith, formed_places _ s.requires.found.formed.right_formed, s.requires.second)
 
 -- ---- sites
 
 pub returns-then-site_at : goal.returns-then-site_at
 returns-then-site_at c =
     let a = c.args in
-    other_site_lem a.left.now a.i a.right.now a.j (λ e. c.if-site_at.true (c.site_at.ensures ∙ e ∙ sym c.site_at-2.ensures))
+    other_site_lem a.left.now.table.now a.i a.right.now.table.now a.j (λ e. c.if-site_at.true (c.site_at.ensures ∙ e ∙ sym c.site_at-2.ensures))
 
-one_site : (c : Else-site_at) → let a = c.args in site_at a.left.now a.i ≡ site_at a.right.now a.j
+one_site : (c : Else-site_at) → let a = c.args in site_at a.left.now.table.now a.i ≡ site_at a.right.now.table.now a.j
 one_site c = sym c.site_at.ensures ∙ c.if-site_at.false ∙ c.site_at-2.ensures
 
 -- ---- sequence numbers
@@ -43,10 +42,10 @@ sequence_at-requires-2 c = right_place (goal.at.sequence_at-requires-2 c).Start
 pub returns-then-sequence_at : goal.returns-then-sequence_at
 returns-then-sequence_at c =
     let a = c.args in
-    other_sequence a.left.now a.i a.right.now a.j (one_site (goal.at.returns-then-sequence_at c).Else-site_at)
+    other_sequence a.left.now.table.now a.i a.right.now.table.now a.j (one_site (goal.at.returns-then-sequence_at c).Else-site_at)
     (λ e. c.if-sequence_at.true (c.sequence_at.ensures ∙ e ∙ sym c.sequence_at-2.ensures))
 
-one_sequence : (c : Else-sequence_at) → let a = c.args in sequence_at a.left.now a.i ≡ sequence_at a.right.now a.j
+one_sequence : (c : Else-sequence_at) → let a = c.args in sequence_at a.left.now.table.now a.i ≡ sequence_at a.right.now.table.now a.j
 one_sequence c = sym c.sequence_at.ensures ∙ c.if-sequence_at.false ∙ c.sequence_at-2.ensures
 
 -- ---- requests
@@ -57,11 +56,11 @@ same_requests-requires c = (left_place (goal.at.same_requests-requires c).Start,
 pub returns-then-not-same_requests : goal.returns-then-not-same_requests
 returns-then-not-same_requests c =
     let a = c.args in
-    other_request a.left.now a.i a.right.now a.j (one_site (goal.at.returns-then-not-same_requests c).Else-site_at) (one_sequence (goal.at.returns-then-not-same_requests c).Else-sequence_at)
+    other_request a.left.now.table.now a.i a.right.now.table.now a.j (one_site (goal.at.returns-then-not-same_requests c).Else-site_at) (one_sequence (goal.at.returns-then-not-same_requests c).Else-sequence_at)
     (sym c.same_requests.ensures ∙ c.if-not-same_requests.true)
 
 same_requests : (c : Else-not-same_requests) → let a = c.args in
-    all_below (λ slot. eqb (counted_request_at a.left.now a.i slot) (counted_request_at a.right.now a.j slot)) slot_count ≡ true
+    all_below (λ slot. eqb (counted_request_at a.left.now.table.now a.i slot) (counted_request_at a.right.now.table.now a.j slot)) slot_count ≡ true
 same_requests c = sym c.same_requests.ensures ∙ c.if-not-same_requests.false
 
 -- ---- references
@@ -73,41 +72,35 @@ pub references_at-others-requires : goal.references_at-others-requires
 references_at-others-requires c = right_place (goal.at.references_at-others-requires c).Start
 
 -- what was read
-referred : (c : After-refers_within) → let a = c.args in c.references_at-referred.result ≡ references_at a.left.now a.i
+referred : (c : After-refers_within) → let a = c.args in c.references_at-referred.result ≡ references_at a.left.now.table.now a.i
 referred c = c.references_at-referred.ensures
 
-others : (c : After-refers_within) → let a = c.args in c.references_at-others.result ≡ references_at a.right.now a.j
+others : (c : After-refers_within) → let a = c.args in c.references_at-others.result ≡ references_at a.right.now.table.now a.j
 others c = c.references_at-others.ensures
 
-there : (c : After-refers_within) → let a = c.args in c.refers_within.result ≡ refers_within (view_of a.left.now) a.i (view_of a.right.now) a.j
+there : (c : After-refers_within) → let a = c.args in c.refers_within.result ≡ refers_within (view_of a.left.now.table.now) a.i (view_of a.right.now.table.now) a.j
 there c =
     let a = c.args in
-    let wide : references_at a.right.now a.j < 2 ^ max_places = (let w : c.references_at-others.result < 2 ^ max_places = c.references_at-others.type_inv in omega (arith, others c)) in
-    c.refers_within.ensures ∙ ap₂ (λ (x y : ℕ). within_by x a.in_right.now y) (referred c) (others c)
-    ∙ within_is a.left.now a.right.now c.requires.formed.left_formed c.requires.formed.right_formed a.i a.j c.requires.first c.requires.second wide a.in_right.now c.requires.there
+    let wide : references_at a.right.now.table.now a.j < 2 ^ max_places = (let w : c.references_at-others.result < 2 ^ max_places = c.references_at-others.type_inv in omega (arith, others c)) in
+    c.refers_within.ensures ∙ ap₂ (λ (x y : ℕ). within_by x a.left.now.there.now y) (referred c) (others c)
+    ∙ within_is a.left.now.table.now a.right.now.table.now c.requires.found.formed.left_formed c.requires.found.formed.right_formed a.i a.j c.requires.first c.requires.second wide a.left.now.there.now c.requires.found.there
 
 pub returns-then-not-refers_within : goal.returns-then-not-refers_within
 returns-then-not-refers_within c =
     let a = c.args in
-    other_reference a.left.now a.i a.right.now a.j (one_site (goal.at.returns-then-not-refers_within c).Else-site_at) (one_sequence (goal.at.returns-then-not-refers_within c).Else-sequence_at) (same_requests (goal.at.returns-then-not-refers_within c).Else-not-same_requests)
+    other_reference a.left.now.table.now a.i a.right.now.table.now a.j (one_site (goal.at.returns-then-not-refers_within c).Else-site_at) (one_sequence (goal.at.returns-then-not-refers_within c).Else-sequence_at) (same_requests (goal.at.returns-then-not-refers_within c).Else-not-same_requests)
     (sym (there (goal.at.returns-then-not-refers_within c).After-refers_within) ∙ c.if-not-refers_within.true)
-
-pub refers_within-requires-2 : goal.refers_within-requires-2
-refers_within-requires-2 c = c.requires.back.size
 
 pub returns : goal.returns
 returns c =
     let a = c.args in
-    let wide : references_at a.left.now a.i < 2 ^ max_places = (let w : c.references_at-referred.result < 2 ^ max_places = c.references_at-referred.type_inv in omega (arith, referred (goal.at.returns c).After-refers_within)) in
-    c.refers_within-2.ensures ∙ ap₂ (λ (x y : ℕ). within_by x a.in_left.now y) (others (goal.at.returns c).After-refers_within) (referred (goal.at.returns c).After-refers_within)
-    ∙ within_is a.right.now a.left.now c.requires.formed.right_formed c.requires.formed.left_formed a.j a.i c.requires.second c.requires.first wide a.in_left.now c.requires.back
-    ∙ last_test a.left.now a.i a.right.now a.j (one_site (goal.at.returns c).Else-site_at) (one_sequence (goal.at.returns c).Else-sequence_at) (same_requests (goal.at.returns c).Else-not-same_requests) (sym (there (goal.at.returns c).After-refers_within) ∙ c.if-not-refers_within.false)
+    let wide : references_at a.left.now.table.now a.i < 2 ^ max_places = (let w : c.references_at-referred.result < 2 ^ max_places = c.references_at-referred.type_inv in omega (arith, referred (goal.at.returns c).After-refers_within)) in
+    c.refers_within-2.ensures ∙ ap₂ (λ (x y : ℕ). within_by x a.right.now.there.now y) (others (goal.at.returns c).After-refers_within) (referred (goal.at.returns c).After-refers_within)
+    ∙ within_is a.right.now.table.now a.left.now.table.now c.requires.found.formed.right_formed c.requires.found.formed.left_formed a.j a.i c.requires.second c.requires.first wide a.right.now.there.now c.requires.found.back
+    ∙ last_test a.left.now.table.now a.i a.right.now.table.now a.j (one_site (goal.at.returns c).Else-site_at) (one_sequence (goal.at.returns c).Else-sequence_at) (same_requests (goal.at.returns c).Else-not-same_requests) (sym (there (goal.at.returns c).After-refers_within) ∙ c.if-not-refers_within.false)
 
 pub site_at-requires : goal.site_at-requires
 site_at-requires c = left_place (goal.at.site_at-requires c).Start
 
 pub site_at-requires-2 : goal.site_at-requires-2
 site_at-requires-2 c = right_place (goal.at.site_at-requires-2 c).Start
-
-pub refers_within-requires : goal.refers_within-requires
-refers_within-requires c = c.requires.there.size

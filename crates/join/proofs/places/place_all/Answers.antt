@@ -1,63 +1,44 @@
-use mathlib.Core.Path.{ap, ◌∙◌}
-use Prim.Native.Nat.{◌≤◌}
+use mathlib.Core.Path.{◌≡◌, refl, ap₂, ◌∙◌}
+use Prim.Native.Nat.{ℕ, ◌≤◌}
+use lib.Dec.{ltb}
 use native.Mathlib.Omega.{arith}
 use borrow.Author.Rules.{rules}
-use Rattle.table.specs.Layout.{count_of, view_of}
-use Rattle.table.specs.Rules.{place_of}
+use borrow.Author.Tests.{ltb-false}
+use Rattle.std.specs.Option.{unwrap_or}
+use Rattle.base.specs.Search.{below}
+use Rattle.base.proofs.Tests.{by_test}
+use Rattle.base.proofs.Search.{first_le}
+use Rattle.table.specs.Layout.{count_of, digest_at, view_of}
+use Rattle.table.specs.Rules.{has_digest}
+use Rattle.join.specs.Join.{place_in}
 use Rattle.table.proofs.InForm.{table_form}
-use Rattle.join.proofs.PlaceLists.{held_next, found_few}
+use Rattle.join.proofs.PlaceLists.{held_next}
 use Rattle.join.proofs.places.place_all.Goals as goal
-use Rattle.join.proofs.places.place_all.Goals.{After-find-place}
-
-pub loop-k-init : goal.loop-k-init
-loop-k-init c =
-    (c.requires.0, c.index_of-index.ensures, c.count_of-count.ensures, omega arith, record { size = c.requires.1; at = λ i l. absurd (omega arith) })
+use Rattle.join.proofs.places.place_all.Goals.{After-unwrap_or}
 
 pub digest_at-requires : goal.digest_at-requires
-digest_at-requires c =
-    let inv = c.loop-k.invariant in
-    let f = table_form _ inv.0.right_formed in
-    record { size = f.size; place = omega (arith, f.held.fits, inv.2) }
+digest_at-requires c = let f = table_form _ c.requires.right_formed in omega (arith, f.held.fits, c.count_of-k-end.ensures)
 
-pub find-place-requires : goal.find-place-requires
-find-place-requires c = let inv = c.loop-k.invariant in record { formed = inv.0.left_formed; indexed = inv.1 }
+-- the place found, or the count
+or_count : (k place : ℕ) → place ≤ k → unwrap_or (below k place) k ≡ place
+or_count k place h = by_test (ltb place k)
+    (λ y. rw y refl)
+    (λ n. rw n (omega (arith, ltb-false place k n)))
 
--- the place found is below or at the count
-found : (c : After-find-place) → c.find-place.result ≤ 64
+found : (c : After-unwrap_or) → c.unwrap_or.result ≡ place_in (view_of c.args.table.now) (digest_at c.args.other.now c.loop-k.k)
 found c =
-    let inv = c.loop-k.invariant in
-    found_few _ inv.0.left_formed _ _ c.find-place.ensures
+    let v = view_of c.args.table.now in
+    let d = digest_at c.args.other.now c.loop-k.k in
+    let e : c.find-place.result ≡ below (count_of c.args.table.now) (place_in v d) = rw c.digest_at.ensures at c.find-place.ensures in
+    c.unwrap_or.ensures ∙ ap₂ unwrap_or e c.count_of-held.ensures ∙ or_count (count_of c.args.table.now) (place_in v d) (first_le (has_digest v d) (count_of c.args.table.now))
 
 pub bounds-places-k : goal.bounds-places-k
 bounds-places-k c =
-    let inv = c.loop-k.invariant in
-    let h = inv.4.size in
-    let l = (table_form _ inv.0.right_formed).held.fits in
+    let h = c.loop-k.invariant.size in
+    let l = (table_form _ c.requires.right_formed).held.fits in
     search rules
 
 pub loop-k-preserved : goal.loop-k-preserved
 loop-k-preserved c =
-    let l = c.loop-k in
-    let a = c.args in
-    let few = (table_form _ l.invariant.0.right_formed).held.fits in (
-      l.invariant.0,
-      l.invariant.1,
-      l.invariant.2,
-      omega arith,
-      held_next _ _ l.k _ l.places l.invariant.4 (omega (arith, few, l.invariant.2))
-          (c.find-place.ensures ∙ ap (place_of (view_of a.table.now) (count_of a.table.now)) c.digest_at.ensures),
-    )
-
-pub returns : goal.returns
-returns c =
-    let l = c.loop-k in
-    record { size = l.invariant.4.size; at = λ i h. l.invariant.4.at i (omega (arith, l.invariant.2)) }
-
-pub index_of-index-requires : goal.index_of-index-requires
-index_of-index-requires c = c.requires.0.left_formed
-
-pub count_of-count-requires : goal.count_of-count-requires
-count_of-count-requires c = (table_form _ c.requires.0.right_formed).size
-
-pub overflow_cast-places : goal.overflow_cast-places
-overflow_cast-places c = let h = found (goal.at.overflow_cast-places c).After-find-place in search rules
+    let few = (table_form _ c.requires.right_formed).held.fits in
+    held_next _ _ c.loop-k.k _ c.loop-k.places c.loop-k.invariant (omega (arith, few, c.count_of-k-end.ensures)) (found (goal.at.loop-k-preserved c).After-unwrap_or)

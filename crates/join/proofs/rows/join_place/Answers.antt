@@ -4,6 +4,7 @@ use Prim.Native.Nat.{ℕ, ◌≤◌, ◌<◌}
 use native.Mathlib.Omega.{arith}
 use lib.ListN.{get_or}
 use borrow.Author.Rules.{rules}
+use borrow.Author.Tests.{eqb-true, eqb-false}
 use Rattle.table.specs.Layout.{count_of, with_row}
 use Rattle.table.specs.Steps.{row_with}
 use Rattle.join.specs.Steps.{renumbered_by}
@@ -14,16 +15,13 @@ use Rattle.join.proofs.rows.join_place.Goals.{Else-count_of-place, Then-count_of
 pub bounds-places-j : goal.bounds-places-j
 bounds-places-j c =
     let h = c.requires.numbered.size in
-    let l = (right_place _ _ _ _ c.requires).place in
+    let l = right_place _ _ _ _ c.requires in
     search rules
-
-pub count_of-requires : goal.count_of-requires
-count_of-requires c = (table_sized _ _ _ _ c.requires).size
 
 -- ---- the block is not held
 
 behind : (c : Then-count_of-place) → let a = c.args in count_of a.table.now ≤ get_or a.places.now a.j 0
-behind c = omega (arith, c.count_of.ensures, c.wide-place.ensures, c.if-count_of-place.true)
+behind c = omega (arith, c.count_of.ensures, c.from-place.ensures, c.if-count_of-place.true)
 
 pub renumbered-references-requires : goal.renumbered-references-requires
 renumbered-references-requires c =
@@ -43,30 +41,30 @@ returns-then-count_of-place c =
 -- ---- the block is held
 
 low : (c : Else-count_of-place) → let a = c.args in get_or a.places.now a.j 0 < count_of a.table.now
-low c = omega (arith, c.count_of.ensures, c.wide-place.ensures, c.if-count_of-place.false)
+low c = omega (arith, c.count_of.ensures, c.from-place.ensures, c.if-count_of-place.false)
 
 -- its place in numbers
-bound : (c : Else-count_of-place) → c.wide-place.result < 64
+bound : (c : Else-count_of-place) → c.from-place.result < 64
 bound c =
-    omega (arith, low c, c.wide-place.ensures, (table_sized _ _ _ _ c.requires).bound)
+    omega (arith, low c, c.from-place.ensures, table_sized _ _ _ _ c.requires)
 
-pub mark_at-requires : goal.mark_at-requires
-mark_at-requires c = right_place _ _ _ _ c.requires
+pub is_interpreted-requires : goal.is_interpreted-requires
+is_interpreted-requires c = right_place _ _ _ _ c.requires
 
 pub set_mark-requires : goal.set_mark-requires
 set_mark-requires c =
-    record { size = (table_sized _ _ _ _ c.requires).size; place = bound (goal.at.set_mark-requires c).Else-count_of-place }
+    bound (goal.at.set_mark-requires c).Else-count_of-place
 
-pub returns-then-mark_at-eq1 : goal.returns-then-mark_at-eq1
-returns-then-mark_at-eq1 c =
+pub returns-then-is_interpreted : goal.returns-then-is_interpreted
+returns-then-is_interpreted c =
     let a = c.args in
-    mark_is a.table.now a.right.now a.j a.places.now c.requires (low (goal.at.returns-then-mark_at-eq1 c).Else-count_of-place) (sym c.mark_at.ensures ∙ c.if-mark_at-eq1.true) _
-    (rw (sym c.wide-place.ensures) c.set_mark.ensures)
+    mark_is a.table.now a.right.now a.j a.places.now c.requires (low (goal.at.returns-then-is_interpreted c).Else-count_of-place) (eqb-true _ 1 (sym c.is_interpreted.ensures ∙ c.if-is_interpreted.true)) _
+    (rw (sym c.from-place.ensures) c.set_mark.ensures)
 
-pub returns-else-mark_at-eq1 : goal.returns-else-mark_at-eq1
-returns-else-mark_at-eq1 c =
+pub returns-else-is_interpreted : goal.returns-else-is_interpreted
+returns-else-is_interpreted c =
     let a = c.args in
-    leave_is a.table.now a.right.now a.j a.places.now c.requires (low (goal.at.returns-else-mark_at-eq1 c).Else-count_of-place) (λ e. c.if-mark_at-eq1.false (c.mark_at.ensures ∙ e))
+    leave_is a.table.now a.right.now a.j a.places.now c.requires (low (goal.at.returns-else-is_interpreted c).Else-count_of-place) (eqb-false _ 1 (sym c.is_interpreted.ensures ∙ c.if-is_interpreted.false))
 
 pub references_at-requires : goal.references_at-requires
 references_at-requires c = right_place _ _ _ _ c.requires

@@ -7,14 +7,12 @@ use lib.ListN.{length, length-append}
 use borrow.Author.Rules.{rules}
 use Rattle.base.specs.Bytes.{splice}
 use Rattle.base.proofs.Splice.{stored_behind}
+use Rattle.setup.specs.Setup.{max_sites}
 use Rattle.broadcast.specs.declared.SlotRecord.{SlotRecord}
-use Rattle.broadcast.proofs.Steps.{Sized}
 use Rattle.records.specs.Layout.{echoes_offset, readies_offset, made_offset, sent_numbers, flatten}
-use Rattle.records.proofs.EntryCounts.{held_sized}
 use Rattle.records.proofs.numbers.put_record.Goals as goal
-use Rattle.records.proofs.numbers.put_record.Goals.{After-put_sent}
 
-module _ (out a b c d : List ℕ) (at : ℕ) (s : SlotRecord) (sized : Sized s) (within : at ≤ length out) where
+module _ (out a b c d : List ℕ) (at : ℕ) (s : SlotRecord) (echoes : length s.echoes ≡ max_sites) (readies : length s.readies ≡ max_sites) (within : at ≤ length out) where
   all_put : a ≡ splice out at (sent_numbers s.sent) → b ≡ splice a (at + echoes_offset) s.echoes → c ≡ splice b (at + readies_offset) s.readies
       → d ≡ splice c (at + made_offset) (sent_numbers s.made) → d ≡ splice out at (flatten s)
   unfolding flatten
@@ -24,16 +22,7 @@ module _ (out a b c d : List ℕ) (at : ℕ) (s : SlotRecord) (sized : Sized s) 
       stored_behind out c d ((sent_numbers s.sent ++ s.echoes) ++ s.readies) (sent_numbers s.made) at (at + made_offset) within three (simp length-append (omega arith)) t
       ∙ ap (splice out at) (simp append_assoc)
 
-sized : (c : After-put_sent) → Sized c.args.state
-sized c = held_sized _ c.well_formed.1.1.0
-
 pub returns : goal.returns
 returns c =
-    all_put c.args.out.now _ _ _ _ c.args.at c.args.state (sized (goal.at.returns c).After-put_sent) (omega (arith, c.requires))
+    all_put c.args.out.now _ _ _ _ c.args.at c.args.state (search rules) (search rules) (omega (arith, c.requires))
     c.put_sent.ensures c.put.ensures c.put-2.ensures c.put_sent-2.ensures
-
-pub put-requires : goal.put-requires
-put-requires c = let h = sized (goal.at.put-requires c).After-put_sent in search rules
-
-pub put-requires-2 : goal.put-requires-2
-put-requires-2 c = let h = sized (goal.at.put-requires-2 c).After-put_sent in search rules

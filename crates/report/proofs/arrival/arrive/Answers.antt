@@ -1,78 +1,80 @@
 -- `arrive` meets its contract, one way out after the other. Assumes nothing.
-use mathlib.Core.Path.{◌≡◌, ap, ◌∙◌}
-use Rattle.sha256.specs.Sha256.{sha256}
+use mathlib.Core.Path.{◌≡◌, refl, ◌∙◌}
+use mathlib.Core.Logic.{◌≢◌}
+use Prim.Native.Nat.{◌<◌}
+use native.Mathlib.Omega.{arith}
+use lib.ListN.{length}
+use Rattle.base.proofs.Tests.{true_not_false}
+use Rattle.answer.specs.Refusals.{refusal_number}
+use Rattle.answer.specs.declared.Refusal.{Refusal}
+use Rattle.answer.proofs.Refusals.{numbered}
 use Rattle.block.specs.Promises.{Shaped}
+use Rattle.block.proofs.Shape.{well_shaped_lem}
+use Rattle.table.specs.View.{max_places}
+use Rattle.records.specs.Layout.{buffer_size}
 use Rattle.run.specs.Run.{Site}
-use Rattle.report.specs.Listing.{site_arrived}
-use Rattle.report.specs.Framing.{lines_of}
 use Rattle.report.proofs.ArrivalStep.{refused_table, refused_records, refused_lines, taken_table, taken_records, uninterpreted_lines, shape_there, place_there, delivered_lines}
 use Rattle.report.proofs.arrival.arrive.Goals as goal
-use Rattle.report.proofs.arrival.arrive.Goals.{After-admit-admitted, After-interpret-interpreted}
+use Rattle.report.proofs.arrival.arrive.Goals.{Start, After-interpret, In_default}
 
--- ---- the places of the walk
+some : (refusal : Refusal) → refusal_number refusal ≢ 0
+some refusal e = omega (arith, numbered refusal)
 
-abbrev site : After-admit-admitted → Site
-site c = let a = c.args in record { table = a.table.now; records = a.records.now }
+abbrev site : Start → Site
+site c = record { table = c.args.table.now; records = c.args.records.now }
 
--- ---- what holds where the block was taken
-
--- the site after it
-abbrev arrived : After-interpret-interpreted → Site
-arrived c = site_arrived sha256 (site (goal.at.After-interpret-interpreted c).After-admit-admitted) c.args.block.now c.args.verdict
-
-left : (c : After-interpret-interpreted) → (c.interpret-interpreted.new.table ≡ (arrived c).table) × (c.interpret-interpreted.new.records ≡ (arrived c).records)
-left c =
+pub returns-in-Err : goal.returns-in-Err
+returns-in-Err c =
     let a = c.args in
-    let e = c.admit-admitted.ensures in
-    let i = c.interpret-interpreted in (
-      taken_table (site (goal.at.After-interpret-interpreted c).After-admit-admitted) a.block.now a.verdict a.arrival _ _ e.value e.table_after c.if-admitted-ne0.false _ _ _ i.ensures.value i.ensures.table_after i.ensures.records_after,
-      taken_records (site (goal.at.After-interpret-interpreted c).After-admit-admitted) a.block.now a.verdict a.arrival _ _ e.value e.table_after c.if-admitted-ne0.false _ _ _ i.ensures.value i.ensures.table_after i.ensures.records_after,
-    )
+    let x = site (goal.at.returns-in-Err c).Start in
+    let e = c.in-Err.ensures in record {
+      value = c.refused.ensures ∙ refused_lines x a.block.now a.verdict a.arrival _ _ e.value e.table_after (some _);
+      table_after = refused_table x a.block.now a.verdict a.arrival _ _ e.value e.table_after (some _);
+      records_after = refused_records x a.block.now a.verdict a.arrival _ _ e.value e.table_after (some _);
+    }
 
--- its block has passed check 3
-shape : (c : After-interpret-interpreted) → Shaped c.args.block.now
+pub returns-in-Err-interpret : goal.returns-in-Err-interpret
+returns-in-Err-interpret c =
+    let a = c.args in
+    let x = site (goal.at.returns-in-Err-interpret c).Start in
+    let e = c.in-Ok.ensures in
+    let i = c.in-Err-interpret.ensures in record {
+      value = c.refused-in-Err-interpret.ensures ∙ uninterpreted_lines x a.block.now a.verdict a.arrival _ _ e.value e.table_after refl _ _ _ i.value i.table_after i.records_after (some _);
+      table_after = taken_table x a.block.now a.verdict a.arrival _ _ e.value e.table_after refl _ _ _ i.value i.table_after i.records_after;
+      records_after = taken_records x a.block.now a.verdict a.arrival _ _ e.value e.table_after refl _ _ _ i.value i.table_after i.records_after;
+    }
+
+shape : (c : In_default) → Shaped c.args.block.now
 shape c =
     let a = c.args in
-    let i = c.interpret-interpreted.ensures in
-    shape_there (site (goal.at.After-interpret-interpreted c).After-admit-admitted) a.block.now a.verdict a.arrival _ _ c.admit-admitted.ensures.value c.admit-admitted.ensures.table_after c.if-admitted-ne0.false _ _ _ i.value i.table_after i.records_after
+    let e = c.in-Ok.ensures in
+    let i = c.in_default.ensures in
+    shape_there (site (goal.at.In_default c).Start) a.block.now a.verdict a.arrival _ _ e.value e.table_after refl _ _ _ i.value i.table_after i.records_after
 
-pub returns-then-admitted-ne0 : goal.returns-then-admitted-ne0
-returns-then-admitted-ne0 c = let a = c.args in
-    let e = c.admit-admitted.ensures in
-    let refused = c.if-admitted-ne0.true in record {
-      value = c.refused.ensures ∙ ap lines_of (refused_lines (site (goal.at.returns-then-admitted-ne0 c).After-admit-admitted) a.block.now a.verdict a.arrival _ _ e.value e.table_after refused);
-      table_after = refused_table (site (goal.at.returns-then-admitted-ne0 c).After-admit-admitted) a.block.now a.verdict a.arrival _ _ e.value e.table_after refused;
-      records_after = refused_records (site (goal.at.returns-then-admitted-ne0 c).After-admit-admitted) a.block.now a.verdict a.arrival _ _ e.value e.table_after refused;
-    }
+size_and_place : (c : In_default) → (length c.interpret.new.records ≡ buffer_size) × (c.in-Ok.place < max_places)
+size_and_place c =
+    let a = c.args in
+    let e = c.in-Ok.ensures in
+    let i = c.in_default.ensures in
+    place_there (site (goal.at.In_default c).Start) a.block.now a.verdict a.arrival _ _ e.value e.table_after refl _ _ _ i.value i.table_after i.records_after refl
 
-pub returns-then-interpreted-ne0 : goal.returns-then-interpreted-ne0
-returns-then-interpreted-ne0 c = let a = c.args in
-    let i = c.interpret-interpreted.ensures in
-    let lines = uninterpreted_lines (site (goal.at.returns-then-interpreted-ne0 c).After-admit-admitted) a.block.now a.verdict a.arrival _ _ c.admit-admitted.ensures.value c.admit-admitted.ensures.table_after c.if-admitted-ne0.false _ _ _ i.value i.table_after i.records_after c.if-interpreted-ne0.true in
-    let l = left (goal.at.returns-then-interpreted-ne0 c).After-interpret-interpreted in record {
-      value = c.refused-then-interpreted-ne0.ensures ∙ ap lines_of lines;
-      table_after = l.0;
-      records_after = l.1;
-    }
+pub unreachable-requires : goal.unreachable-requires
+unreachable-requires c = c.in_default-as_array.ensures.cases (size_and_place (goal.at.unreachable-requires c).In_default).0
+
+pub unreachable-requires-in_default-new : goal.unreachable-requires-in_default-new
+unreachable-requires-in_default-new c = true_not_false (well_shaped_lem _ (shape (goal.at.unreachable-requires-in_default-new c).In_default)) c.in_default-new.ensures
 
 pub delivery_lines-requires : goal.delivery_lines-requires
-delivery_lines-requires c =
-    let a = c.args in
-    let i = c.interpret-interpreted.ensures in
-    place_there (site (goal.at.delivery_lines-requires c).After-admit-admitted) a.block.now a.verdict a.arrival _ _ c.admit-admitted.ensures.value c.admit-admitted.ensures.table_after c.if-admitted-ne0.false _ _ _ i.value i.table_after i.records_after c.if-interpreted-ne0.false
+delivery_lines-requires c = (size_and_place (goal.at.delivery_lines-requires c).In_default).1
 
 pub returns : goal.returns
-returns c = let a = c.args in
-    let i = c.interpret-interpreted.ensures in
-    let lines = delivered_lines (site (goal.at.returns c).After-admit-admitted) a.block.now a.verdict a.arrival _ _ c.admit-admitted.ensures.value c.admit-admitted.ensures.table_after c.if-admitted-ne0.false _ _ _ i.value i.table_after i.records_after c.if-interpreted-ne0.false in
-    let l = left (goal.at.returns c).After-interpret-interpreted in record {
-      value = c.delivery_lines.ensures ∙ rw (c.site_of.ensures, c.sequence_of.ensures) (ap lines_of lines);
-      table_after = l.0;
-      records_after = l.1;
+returns c =
+    let a = c.args in
+    let x = site (goal.at.returns c).Start in
+    let e = c.in-Ok.ensures in
+    let i = c.in_default.ensures in record {
+      value = c.delivery_lines.ensures ∙ rw (c.site.ensures, c.sequence.ensures, c.in-Some-new.ensures.0, c.in-Some.ensures.cases.same)
+          (delivered_lines x a.block.now a.verdict a.arrival _ _ e.value e.table_after refl _ _ _ i.value i.table_after i.records_after refl);
+      table_after = taken_table x a.block.now a.verdict a.arrival _ _ e.value e.table_after refl _ _ _ i.value i.table_after i.records_after;
+      records_after = taken_records x a.block.now a.verdict a.arrival _ _ e.value e.table_after refl _ _ _ i.value i.table_after i.records_after;
     }
-
-pub site_of-requires : goal.site_of-requires
-site_of-requires c = shape (goal.at.site_of-requires c).After-interpret-interpreted
-
-pub sequence_of-requires : goal.sequence_of-requires
-sequence_of-requires c = shape (goal.at.sequence_of-requires c).After-interpret-interpreted

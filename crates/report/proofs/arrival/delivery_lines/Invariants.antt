@@ -1,15 +1,13 @@
 -- `delivery_lines` meets its contract: each turn puts the line of one slot behind those of the lower ones. Assumes nothing.
 use mathlib.Core.Path.{◌≡◌}
 use mathlib.Core.List.{List}
-use Prim.Native.Nat.{ℕ, ◌-◌, ◌*◌, ◌≤◌}
+use Prim.Native.Nat.{ℕ, ◌*◌, ◌≤◌}
 use lib.ListN.{length}
 use Rattle.base.specs.Bytes.{Bytes, concat}
 use Rattle.base.specs.List.{list_below}
-use Rattle.setup.specs.Setup.{slot_count}
 use Rattle.report.specs.Text.{delivery_text}
 use Rattle.report.specs.Listing.{delivery}
-use Rattle.report.specs.Framing.{line_size, lines_size}
-use Rattle.report.proofs.LinesOut.{Front}
+use Rattle.report.specs.Framing.{line_size}
 use Rattle.report.proofs.arrival.delivery_lines.Given as goal
 
 -- the text of a slot, and that of the slots below k
@@ -20,8 +18,4 @@ abbrev pub lower_text : List ℕ → ℕ → ℕ → ℕ → ℕ → ℕ → Byt
 lower_text records arrival place site sequence k = concat (list_below (slot_text records arrival place site sequence) k)
 
 abbrev pub invariant-loop-slot : goal.invariant-loop-slot
-invariant-loop-slot l =
-    Front (lower_text l.records l.arrival l.place l.site l.sequence l.slot) l.bytes l.length × (l.slot ≤ slot_count) × (l.length ≤ line_size * l.slot) × (length l.bytes ≡ lines_size)
-
-abbrev pub decreases-loop-slot : goal.decreases-loop-slot
-decreases-loop-slot l = slot_count - l.slot
+invariant-loop-slot l = (l.lines ≡ lower_text l.records l.arrival l.place l.site l.sequence l.slot) × (length l.lines ≤ line_size * l.slot)

@@ -1,5 +1,6 @@
 -- `block_step` meets its contract: an arrival that is cut, or one that is whole. Assumes nothing.
 use mathlib.Core.Path.{sym, ap, ◌∙◌}
+use native.Mathlib.Numerals.{add-one}
 use native.Mathlib.Omega.{arith}
 use Rattle.base.proofs.Parts.{part_size_lem}
 use Rattle.sha256.specs.Sha256.{sha256}
@@ -31,7 +32,7 @@ returns c = let a = c.args in
     let cut = part_size_lem 1 a.size in
     let e = site_whole sha256 a.size a.arrivals x a.piece.now (omega arith) in record {
       value = c.stepped-2.ensures
-          ∙ rw (rw cut at r.value, c.following.ensures) (ap handed (sym (block_whole sha256 a.size a.arrivals x a.piece.now (omega arith))));
+          ∙ rw (rw cut at r.value, add-one) (ap handed (sym (block_whole sha256 a.size a.arrivals x a.piece.now (omega arith))));
       table_after = rw cut at r.table_after ∙ sym (ap (λ (y : Site). y.table) e);
       records_after = rw cut at r.records_after ∙ sym (ap (λ (y : Site). y.records) e);
     }

@@ -13,10 +13,10 @@ more s₀ m i s r e₁ e₂ = rw add-one (cc)
 
 pub loop-i-init : goal.loop-i-init
 unfolding hash
-loop-i-init c = (omega arith, refl)
+loop-i-init c = refl
 
 pub loop-i-preserved : goal.loop-i-preserved
-loop-i-preserved c = let l = c.loop-i in (omega arith, more _ _ l.i l.v _ l.invariant.1 c.compress_of-v.ensures)
+loop-i-preserved c = let l = c.loop-i in more _ _ l.i l.v _ l.invariant c.compress_of-v.ensures
 
 pub returns : goal.returns
-returns c = let l = c.loop-i in let e : l.i ≡ c.args.n = omega arith in rw e at l.invariant.1
+returns c = let l = c.loop-i in let e : l.i ≡ c.args.n = omega arith in rw e at l.invariant

@@ -41,7 +41,7 @@ pub put-requires : goal.put-requires
 put-requires c = let l = long (goal.at.put-requires c).Start in simp (length-take, length-drop) (omega arith)
 
 pub bounds-tail-n : goal.bounds-tail-n
-bounds-tail-n c = let l = long (goal.at.bounds-tail-n c).Start in omega (arith, c.put.auto.bytes, l, c.requires.1)
+bounds-tail-n c = let l = long (goal.at.bounds-tail-n c).Start in omega (arith, c.put.auto.items, l, c.requires.1)
 
 pub returns : goal.returns
 returns c = rest c.args.message.now c.args.tail.now _ c.args.at _ c.requires.0 c.requires.1 c.requires.2 refl c.put.ensures

@@ -43,15 +43,15 @@ finish M w t e l h = sym (take_all t w (omega arith)) ∙ h ∙ ap (λ (n : ℕ)
 
 pub loop-t-init : goal.loop-t-init
 unfolding schedule
-loop-t-init c = (omega arith, omega arith, search rules, refl, refl, refl)
+loop-t-init c = (search rules, refl, refl, refl)
 
 pub loop-t-preserved : goal.loop-t-preserved
 unfolding next
 loop-t-preserved c =
     let l = c.loop-t in
     let v = c.next_of-c.result in
-    let n : v ≡ next l.w l.t = rw l.invariant.3 at c.next_of-c.ensures in
-    (omega arith, omega arith, simp length-set l.invariant.2, older l.w l.t v l.b l.invariant.0 l.invariant.4, newer l.w l.t v (omega arith), step _ l.w l.t v l.invariant.0 (omega arith) l.invariant.5 n)
+    let n : v ≡ next l.w l.t = rw l.invariant.1 at c.next_of-c.ensures in
+    (simp length-set l.invariant.0, older l.w l.t v l.b (omega arith) l.invariant.2, newer l.w l.t v (omega arith), step _ l.w l.t v (omega arith) (omega arith) l.invariant.3 n)
 
 pub returns : goal.returns
-returns c = let l = c.loop-t in finish _ l.w l.t (omega arith) l.invariant.2 l.invariant.5
+returns c = let l = c.loop-t in finish _ l.w l.t (omega arith) l.invariant.0 l.invariant.3

@@ -15,12 +15,12 @@ step m w at t v l e n = rw (add-one, take-suc-set w t v l, n, e)
 
 pub loop-t-init : goal.loop-t-init
 unfolding words
-loop-t-init c = (omega arith, refl, refl)
+loop-t-init c = (refl, refl)
 
 pub loop-t-preserved : goal.loop-t-preserved
 loop-t-preserved c =
     let l = c.loop-t in
-    (omega arith, simp length-set l.invariant.1, step _ l.w _ l.t c.word_at.result (omega arith) l.invariant.2 c.word_at.ensures)
+    (simp length-set l.invariant.0, step _ l.w _ l.t c.word_at.result (omega arith) l.invariant.1 c.word_at.ensures)
 
 pub returns : goal.returns
-returns c = let e : c.loop-t.t ≡ 16 = omega arith in rw e at c.loop-t.invariant.2
+returns c = let e : c.loop-t.t ≡ 16 = omega arith in rw e at c.loop-t.invariant.1

@@ -13,7 +13,7 @@ unfolding each_sound
 loop-i-init c =
     let e = c.count_of-i.ensures in (
       omega arith,
-      record { sized = c.requires; within = λ j l h. absurd (omega arith) },
+      record { few = c.requires; within = λ j l h. absurd (omega arith) },
       ap each_sound (waiting_end c.args.shelf.now c.count_of-i.result (omega arith)),
     )
 
@@ -30,12 +30,6 @@ loop-i-preserved c =
     let y = sym c.is_sound.ensures ∙ c.if-not-is_sound.false in
     let e : l.i - 1 + 1 ≡ l.i = omega arith in (
       omega arith,
-      record { sized = l.invariant.1.sized; within = λ j h k. elim (eq-or-lt_of_le h) [ inl q ↦ rw (← q) (sound_short s (l.i - 1) y) | inr q ↦ l.invariant.1.within j (omega arith) k ] },
+      record { few = l.invariant.1.few; within = λ j h k. elim (eq-or-lt_of_le h) [ inl q ↦ rw (← q) (sound_short s (l.i - 1) y) | inr q ↦ l.invariant.1.within j (omega arith) k ] },
       sound_turn s (l.i - 1) (omega arith) ∙ rw (y, e) l.invariant.2,
     )
-
-pub is_sound-requires : goal.is_sound-requires
-is_sound-requires c = let l = c.loop-i in let e : l.i - 1 + 1 ≡ l.i = omega arith in (rw e l.invariant.1, omega arith)
-
-pub returns : goal.returns
-returns c = let l = c.loop-i in let z : l.i ≡ 0 = omega arith in sym (rw z at l.invariant.2)

@@ -10,6 +10,3 @@ use Rattle.shelf.proofs.form.each_sound.Given as goal
 
 abbrev pub invariant-loop-i : goal.invariant-loop-i
 invariant-loop-i l = (l.i ≤ waiting_count l.shelf) × Fits l.shelf l.i × (each_sound (drop l.i (waiting_in l.shelf)) ≡ true)
-
-abbrev pub decreases-loop-i : goal.decreases-loop-i
-decreases-loop-i l = l.i

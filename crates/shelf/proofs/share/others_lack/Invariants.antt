@@ -1,16 +1,12 @@
 -- `others_lack` meets its contract. The loop's invariant: the sum is what the others passed lack. Assumes nothing.
 use mathlib.Core.Path.{◌≡◌}
 use mathlib.Core.Bool.{cond}
-use Prim.Native.Nat.{◌-◌, ◌*◌, ◌≤◌}
+use Prim.Native.Nat.{◌*◌, ◌≤◌}
 use lib.Dec.{eqb}
 use Rattle.base.specs.Count.{sum_below}
 use Rattle.shelf.specs.Layout.{waiting_in}
-use Rattle.shelf.specs.Rules.{campaign_count, reserved, lack}
-use Rattle.shelf.specs.Steps.{ShelfSized}
+use Rattle.shelf.specs.Rules.{reserved, lack}
 use Rattle.shelf.proofs.share.others_lack.Given as goal
 
 abbrev pub invariant-loop-c : goal.invariant-loop-c
-invariant-loop-c l = (l.c ≤ campaign_count) × ShelfSized l.shelf × (l.sum ≤ reserved * l.c) × (l.sum ≡ sum_below (λ d. cond (eqb d l.campaign) 0 (lack d (waiting_in l.shelf))) l.c)
-
-abbrev pub decreases-loop-c : goal.decreases-loop-c
-decreases-loop-c l = campaign_count - l.c
+invariant-loop-c l = (l.sum ≤ reserved * l.c) × (l.sum ≡ sum_below (λ d. cond (eqb d l.campaign) 0 (lack d (waiting_in l.shelf))) l.c)

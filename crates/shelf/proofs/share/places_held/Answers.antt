@@ -1,38 +1,27 @@
-use mathlib.Core.Path.{sym, ap, ◌∙◌}
+-- `places_held` meets its contract. Assumes nothing.
+use mathlib.Core.Path.{◌≡◌, ◌∙◌}
+use Prim.Native.Nat.{ℕ}
 use native.Mathlib.Omega.{arith}
-use borrow.Author.Tests.{eq-eqb, ne_eqb}
-use Rattle.base.specs.List.{count_in}
-use Rattle.shelf.specs.Rules.{holds}
-use Rattle.shelf.proofs.Turns.{waiting_end, holds_turn}
+use lib.Dec.{eqb}
+use borrow.Author.Rules.{rules}
+use Rattle.std.specs.List.{count_by, range_with_len}
+use Rattle.std.proofs.lemmas.Iterator.{YieldsList-from_range}
+use Rattle.std.proofs.lemmas.Iterator.Consumers.{count_from_yields_List, YieldsList-from_filter}
+use Rattle.std.proofs.lemmas.List.FromFn.{length-range_with_len}
+use Rattle.std.proofs.lemmas.List.Sums.{length-filter, count_by-le-length}
+use Rattle.shelf.specs.Layout.{campaign_at}
+use Rattle.shelf.proofs.Turns.{holds_over}
 use Rattle.shelf.proofs.share.places_held.Goals as goal
-use Rattle.shelf.proofs.share.places_held.Goals.{then-campaign_at-campaign, else-campaign_at-campaign}
-
-pub loop-i-preserved : goal.loop-i-preserved
-loop-i-preserved c =
-    let l = c.loop-i in
-    let a = c.args in
-    let i = l.invariant in
-    let turn = holds_turn a.shelf.now l.i (omega (arith, i.1)) a.campaign in
-    let e = c.campaign_at.ensures in
-    elim c.if-campaign_at-campaign.branch [
-      | then-campaign_at-campaign w ↦
-          let y = eq-eqb _ _ (sym e ∙ w.if-campaign_at-campaign.true) in
-          let t = rw y at turn in
-          (omega arith, i.1, i.2, omega (arith, w.held-is), omega (arith, w.held-is, i.4))
-      | else-campaign_at-campaign w ↦
-          let n = ne_eqb _ _ (λ q. w.if-campaign_at-campaign.false (e ∙ q)) in
-          let t = rw n at turn in
-          (omega arith, i.1, i.2, omega (arith, w.held-is), omega (arith, w.held-is, i.4))
-    ]
 
 pub returns : goal.returns
-unfolding holds count_in
 returns c =
-    let l = c.loop-i in
     let a = c.args in
-    let i = l.invariant in
-    let e = ap (holds a.campaign) (waiting_end a.shelf.now l.i (omega (arith, i.1))) in
-    (omega (arith, i.4), omega (arith, i.1, i.2.few, i.3))
-
-pub loop-i-init : goal.loop-i-init
-loop-i-init c = (omega arith, c.count_of-k.ensures, c.requires, omega arith, omega arith)
+    let k = c.count_of.result in
+    let test = λ (j : ℕ). eqb (campaign_at a.shelf.now j) a.campaign in
+    let counted : c.count.result ≡ count_by test (range_with_len 0 k) =
+    count_from_yields_List _ _ c.count.ensures.ran
+    (YieldsList-from_filter _ test (YieldsList-from_range 0 k k c.filter.ensures.source (omega arith)) c.filter.ensures.closure (λ x b q e. search rules))
+    ∙ length-filter test (range_with_len 0 k) in (
+      counted ∙ holds_over a.shelf.now a.campaign 0 k (omega (arith, c.count_of.ensures)),
+      omega (arith, counted, count_by-le-length test (range_with_len 0 k), length-range_with_len 0 k, c.count_of.ensures, c.requires),
+    )

@@ -14,7 +14,7 @@ use Rattle.table.proofs.form.held_in_form.Goals.{After-lawful, Else-not-lawful, 
 
 -- what the call of `lawful` says of the table's setup
 judged : (c : After-lawful) → c.lawful.result ≡ lawful (setup_of c.args.table.now)
-judged c = rw c.sites_of.ensures at c.lawful.ensures
+judged c = rw (c.sites_of.ensures, c.owners_of.ensures) at c.lawful.ensures
 
 setup : (c : Else-not-lawful) → lawful (setup_of c.args.table.now) ≡ true
 setup c = sym (judged (goal.at.Else-not-lawful c).After-lawful) ∙ c.if-not-lawful.false

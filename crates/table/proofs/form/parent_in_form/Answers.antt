@@ -1,5 +1,5 @@
 -- `parent_in_form` meets its contract: one test after the other, on one count of the parents. Assumes nothing.
-use mathlib.Core.Path.{◌≡◌, sym, ◌∙◌}
+use mathlib.Core.Path.{◌≡◌, sym}
 use mathlib.Core.Bool.{false}
 use lib.Dec.{eqb}
 use borrow.Author.Tests.{eq-eqb, ne_eqb}
@@ -28,12 +28,12 @@ returns-then-parents-eq1 c = rw (later (goal.at.returns-then-parents-eq1 c).Afte
 other : (c : Else-parents-eq1) → eqb c.parents_among-parents.result 1 ≡ false
 other c = ne_eqb _ 1 c.if-parents-eq1.false
 
-pub returns-then-not-may_lack_parent : goal.returns-then-not-may_lack_parent
+pub returns-then-may_lack_parent : goal.returns-then-may_lack_parent
 unfolding parent_in_form parent_rule
-returns-then-not-may_lack_parent c =
-    rw (later (goal.at.returns-then-not-may_lack_parent c).After-parents_among-parents, counted (goal.at.returns-then-not-may_lack_parent c).After-parents_among-parents, other (goal.at.returns-then-not-may_lack_parent c).Else-parents-eq1, sym c.may_lack_parent.ensures ∙ c.if-not-may_lack_parent.true)
+returns-then-may_lack_parent c =
+    rw (later (goal.at.returns-then-may_lack_parent c).After-parents_among-parents, counted (goal.at.returns-then-may_lack_parent c).After-parents_among-parents, other (goal.at.returns-then-may_lack_parent c).Else-parents-eq1, ← c.may_lack_parent.ensures, c.if-may_lack_parent.true)
 
-pub returns : goal.returns
+pub returns-else-may_lack_parent : goal.returns-else-may_lack_parent
 unfolding parent_in_form parent_rule
-returns c =
-    rw (later (goal.at.returns c).After-parents_among-parents, counted (goal.at.returns c).After-parents_among-parents, other (goal.at.returns c).Else-parents-eq1, sym c.may_lack_parent.ensures ∙ c.if-not-may_lack_parent.false)
+returns-else-may_lack_parent c =
+    rw (later (goal.at.returns-else-may_lack_parent c).After-parents_among-parents, counted (goal.at.returns-else-may_lack_parent c).After-parents_among-parents, other (goal.at.returns-else-may_lack_parent c).Else-parents-eq1, ← c.may_lack_parent.ensures, c.if-may_lack_parent.false)

@@ -128,9 +128,3 @@ returns c =
       ← c.references_at-references.ensures,
     )
     c.parent_in_form.ensures
-
-pub is_repeated-requires : goal.is_repeated-requires
-is_repeated-requires c = let p = c.requires.row_context.met in search rules
-
-pub marks_closed-requires : goal.marks_closed-requires
-marks_closed-requires c = let m = c.requires.row_context.marks in search rules

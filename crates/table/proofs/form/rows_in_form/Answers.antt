@@ -12,7 +12,6 @@ use Rattle.base.specs.Bytes.{Bytes}
 use Rattle.base.specs.Search.{first_below, any_below}
 use Rattle.base.specs.List.{list_below}
 use Rattle.base.specs.Mask.{mask_below}
-use Rattle.base.specs.Steps.{print_count}
 use Rattle.base.proofs.Tests.{one_more_lem}
 use Rattle.base.proofs.Search.{all_true, all_false}
 use Rattle.base.proofs.List.{list_at, set_list}
@@ -24,7 +23,7 @@ use Rattle.table.specs.Rules.{row_in_form}
 use Rattle.table.specs.Steps.{RowContext, site_below, sites_below, group_count, group_at, print_at}
 use Rattle.table.proofs.Prints.{group_lt, print_lt}
 use Rattle.table.proofs.form.rows_in_form.Goals as goal
-use Rattle.table.proofs.form.rows_in_form.Goals.{then-mark_at-eq1, else-mark_at-eq1, After-group_at-group, After-print_at, After-wide-site, At-loop-i, Else-n-site}
+use Rattle.table.proofs.form.rows_in_form.Goals.{then-is_interpreted, else-is_interpreted, After-group_at-group, After-print_at, After-from-site, At-loop-i, Else-n-site}
 
 -- the mask of one site, and one place more in the mask of its site
 module _ (t : Bytes) (k site : ℕ) (masks : List ℕ) (l : site < max_sites) (e : masks ≡ sites_below t k) where
@@ -45,42 +44,35 @@ no_site t i h = rw (le-ltb (site_at t i) (setup_of t).sites h)
 
 pub loop-i-init : goal.loop-i-init
 unfolding mask_below list_below any_below first_below
-loop-i-init c = (omega arith, search rules, refl, refl, refl, λ j h. absurd (omega arith))
+loop-i-init c = (refl, refl, refl, λ j h. absurd (omega arith))
 
 -- the row's site, the count of sites, and what the row's check asks
-site : (c : After-wide-site) → c.wide-site.result ≡ site_at c.args.table.now c.loop-i.i
-site c = c.wide-site.ensures ∙ c.site_at.ensures
+site : (c : After-from-site) → c.from-site.result ≡ site_at c.args.table.now c.loop-i.i
+site c = c.from-site.ensures ∙ c.site_at.ensures
 
-count : (c : At-loop-i) → c.wide-n.result ≡ (setup_of c.args.table.now).sites
-count c = c.wide-n.ensures ∙ c.sites_of.ensures
+count : (c : At-loop-i) → c.from-n.result ≡ (setup_of c.args.table.now).sites
+count c = c.from-n.ensures ∙ c.sites_of.ensures
 
-group : (c : After-group_at-group) → c.group_at-group.result < group_count
-group c = rw c.group_at-group.ensures (group_lt c.args.table.now c.loop-i.i)
-
-print : (c : After-print_at) → c.print_at.result < print_count
-print c =
-    rw c.print_at.ensures (print_lt c.args.table.now c.loop-i.i)
-
-entered : (c : Else-n-site) → c.wide-site.result < max_sites
+entered : (c : Else-n-site) → c.from-site.result < max_sites
 entered c = omega (arith, c.if-n-site.false, count (goal.at.Else-n-site c).At-loop-i, c.requires.table_bound)
 
-met : (g : After-group_at-group) → RowContext g.args.table.now g.loop-i.i g.loop-i.marked (get_or g.loop-i.of_site g.wide-site.result 0)
+met : (g : After-group_at-group) → RowContext g.args.table.now g.loop-i.i g.loop-i.marked (get_or g.loop-i.of_site g.from-site.result 0)
     (get_or g.loop-i.of_group g.group_at-group.result 0)
 met g =
     let t = g.args.table.now in
     record {
-      site = omega (arith, g.if-n-site.false, count (goal.at.After-group_at-group g).At-loop-i, site (goal.at.After-group_at-group g).After-wide-site);
-      marks = g.loop-i.invariant.2;
-      same = site_mask t g.loop-i.i _ _ (entered (goal.at.After-group_at-group g).Else-n-site) g.loop-i.invariant.3 ∙ ap (λ (p : ℕ). site_below t p g.loop-i.i) (site (goal.at.After-group_at-group g).After-wide-site);
+      site = omega (arith, g.if-n-site.false, count (goal.at.After-group_at-group g).At-loop-i, site (goal.at.After-group_at-group g).After-from-site);
+      marks = g.loop-i.invariant.0;
+      same = site_mask t g.loop-i.i _ _ (entered (goal.at.After-group_at-group g).Else-n-site) g.loop-i.invariant.1 ∙ ap (λ (p : ℕ). site_below t p g.loop-i.i) (site (goal.at.After-group_at-group g).After-from-site);
       met = ap (λ (n : ℕ). get_or g.loop-i.of_group n 0) g.group_at-group.ensures
-          ∙ group_mask (group_at t) (print_at t) g.loop-i.i group_count _ (group_lt t g.loop-i.i) g.loop-i.invariant.4;
+          ∙ group_mask (group_at t) (print_at t) g.loop-i.i group_count _ (group_lt t g.loop-i.i) g.loop-i.invariant.2;
     }
 
 pub returns-then-n-site : goal.returns-then-n-site
 returns-then-n-site c =
     let a = c.args in
     sym (all_false (row_in_form (setup_of a.table.now) (view_of a.table.now)) a.k c.loop-i.i (omega arith)
-    (no_site a.table.now c.loop-i.i (omega (arith, c.if-n-site.true, count (goal.at.returns-then-n-site c).At-loop-i, site (goal.at.returns-then-n-site c).After-wide-site))))
+    (no_site a.table.now c.loop-i.i (omega (arith, c.if-n-site.true, count (goal.at.returns-then-n-site c).At-loop-i, site (goal.at.returns-then-n-site c).After-from-site))))
 
 pub returns-then-not-row_in_form : goal.returns-then-not-row_in_form
 returns-then-not-row_in_form c =
@@ -93,52 +85,19 @@ loop-i-preserved c =
     let l = c.loop-i in
     let t = c.args.table.now in
     let f : ℕ → Bool = λ p. eqb (mark_at t p) 1 in (
-      omega arith,
-      search rules,
-      elim c.if-mark_at-eq1.branch [
-        | then-mark_at-eq1 w ↦ w.marked-is ∙ ap (λ (x : ℕ). bit_or x (1 * 2 ^ l.i % 2 ^ 64)) l.invariant.2
-            ∙ mask_put 64 f l.i (omega arith) (eq-eqb _ 1 (sym c.mark_at.ensures ∙ w.if-mark_at-eq1.true))
-        | else-mark_at-eq1 w ↦ w.marked-is ∙ l.invariant.2 ∙ mask_skip f l.i (ne_eqb _ 1 (λ e. w.if-mark_at-eq1.false (c.mark_at.ensures ∙ e)))
+      elim c.if-is_interpreted.branch [
+        | then-is_interpreted w ↦ w.marked-is ∙ ap (λ (x : ℕ). bit_or x (1 * 2 ^ l.i % 2 ^ 64)) l.invariant.0
+            ∙ mask_put 64 f l.i (omega arith) (sym c.is_interpreted.ensures ∙ w.if-is_interpreted.true)
+        | else-is_interpreted w ↦ w.marked-is ∙ l.invariant.0 ∙ mask_skip f l.i (sym c.is_interpreted.ensures ∙ w.if-is_interpreted.false)
       ],
-      site_more t l.i _ _ (entered (goal.at.loop-i-preserved c).Else-n-site) l.invariant.3 (omega arith) (site (goal.at.loop-i-preserved c).After-wide-site),
-      group_more (group_at t) (print_at t) l.i group_count _ (group_lt t l.i) l.invariant.4 _ _ c.group_at-group.ensures c.print_at.ensures (print_lt t l.i),
+      site_more t l.i _ _ (entered (goal.at.loop-i-preserved c).Else-n-site) l.invariant.1 (omega arith) (site (goal.at.loop-i-preserved c).After-from-site),
+      group_more (group_at t) (print_at t) l.i group_count _ (group_lt t l.i) l.invariant.2 _ _ c.group_at-group.ensures c.print_at.ensures (print_lt t l.i),
       one_more_lem (λ p. row_in_form (setup_of t) (view_of t) p ≡ true) l.i
-          (sym c.row_in_form.ensures ∙ c.if-not-row_in_form.false) l.invariant.5,
+          (sym c.row_in_form.ensures ∙ c.if-not-row_in_form.false) l.invariant.3,
     )
-
-pub offset_bounds-of_site-site : goal.offset_bounds-of_site-site
-offset_bounds-of_site-site c =
-    let h : c.wide-site.result < max_sites = omega (arith, c.if-n-site.false, c.wide-n.ensures, c.sites_of.ensures, c.requires.table_bound) in
-    search rules
-
-pub bounds-of_site-site : goal.bounds-of_site-site
-bounds-of_site-site c =
-    let h : c.wide-site.result < max_sites = omega (arith, c.if-n-site.false, c.wide-n.ensures, c.sites_of.ensures, c.requires.table_bound) in
-    search rules
-
-pub offset_bounds-of_group-group : goal.offset_bounds-of_group-group
-offset_bounds-of_group-group c = let h = group (goal.at.offset_bounds-of_group-group c).After-group_at-group in search rules
-
-pub bounds-of_group-group : goal.bounds-of_group-group
-bounds-of_group-group c = let h = group (goal.at.bounds-of_group-group c).After-group_at-group in search rules
 
 pub row_in_form-requires : goal.row_in_form-requires
 row_in_form-requires c = let m = met (goal.at.row_in_form-requires c).After-group_at-group in search rules
 
-pub offset_bounds-of_site-site-in-loop-i : goal.offset_bounds-of_site-site-in-loop-i
-offset_bounds-of_site-site-in-loop-i c = let h = entered (goal.at.offset_bounds-of_site-site-in-loop-i c).Else-n-site in search rules
-
-pub bounds-of_site-site-in-loop-i : goal.bounds-of_site-site-in-loop-i
-bounds-of_site-site-in-loop-i c = let h = entered (goal.at.bounds-of_site-site-in-loop-i c).Else-n-site in search rules
-
-pub overflow_shl-of_group : goal.overflow_shl-of_group
-overflow_shl-of_group c = let h = print (goal.at.overflow_shl-of_group c).After-print_at in search rules
-
-pub offset_bounds-of_group-group-in-loop-i : goal.offset_bounds-of_group-group-in-loop-i
-offset_bounds-of_group-group-in-loop-i c = let h = group (goal.at.offset_bounds-of_group-group-in-loop-i c).After-group_at-group in search rules
-
-pub bounds-of_group-group-in-loop-i : goal.bounds-of_group-group-in-loop-i
-bounds-of_group-group-in-loop-i c = let h = group (goal.at.bounds-of_group-group-in-loop-i c).After-group_at-group in search rules
-
 pub returns : goal.returns
-returns c = sym (all_true _ c.args.k (λ j h. c.loop-i.invariant.5 j (omega arith)))
+returns c = sym (all_true _ c.args.k (λ j h. c.loop-i.invariant.3 j (omega arith)))

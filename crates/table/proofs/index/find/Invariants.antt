@@ -5,14 +5,10 @@ use Prim.Native.Nat.{ℕ, ◌≤◌, ◌<◌}
 use Rattle.base.specs.Bytes.{Bytes}
 use Rattle.table.specs.Layout.{count_of, view_of}
 use Rattle.table.specs.Rules.{has_digest}
-use Rattle.table.specs.Steps.{Indexed}
 use Rattle.table.proofs.index.find.Given as goal
 
 abbrev pub NotFrom : Bytes → Bytes → ℕ → Type 0
 NotFrom t d j = (i : ℕ) → j ≤ i → i < count_of t → has_digest (view_of t) d i ≡ false
 
 abbrev pub invariant-loop-j : goal.invariant-loop-j
-invariant-loop-j l = (l.j ≤ count_of l.table) × Indexed l.table l.index × NotFrom l.table l.digest l.j
-
-abbrev pub decreases-loop-j : goal.decreases-loop-j
-decreases-loop-j l = l.j
+invariant-loop-j l = (l.j ≤ count_of l.table) × NotFrom l.table l.digest l.j

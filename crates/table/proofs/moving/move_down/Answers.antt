@@ -4,4 +4,4 @@ use Rattle.table.proofs.moving.move_down.Goals as goal
 
 pub returns : goal.returns
 returns c =
-    down_is c.args.table.now c.args.left c.requires _ _ _ c.move_rows.ensures c.put.ensures c.put-2.ensures
+    down_is c.args.table.now c.args.left c.told-table c.requires.0 c.requires.1 _ _ _ c.move_rows.ensures c.put.ensures c.put-2.ensures

@@ -6,6 +6,7 @@ use lib.ListN.{length, take, drop, length-drop}
 use lib.Seq.{length-take-le}
 use Rattle.base.specs.Bytes.{Bytes}
 use Rattle.base.proofs.Parts.{part_size_lem}
+use Rattle.base.proofs.Words.{low_first_of_word}
 use Rattle.table.specs.Layout.{row_size, row_start}
 use Rattle.table.proofs.RowBytes.{row_part}
 use Rattle.table.proofs.MoveSteps.{moved_is}
@@ -20,5 +21,5 @@ lent_length t i h = ap length (lent t i) ∙ length-take-le row_size (drop (row_
 pub returns : goal.returns
 returns c =
     moved_is c.args.table.now c.args.i c.references_at-references.result c.references_at-references.ensures c.references_at-references.type_inv _ _ _ _
-    (lent c.args.table.now c.args.i) (lent_length c.args.table.now c.args.i (omega (arith, c.requires.size, c.requires.place)))
-    c.put.ensures c.low_first_bytes.ensures c.put-2.ensures
+    (lent c.args.table.now c.args.i) (lent_length c.args.table.now c.args.i (omega (arith, c.told-table, c.requires)))
+    c.put.ensures (c.to_le_bytes.ensures ∙ low_first_of_word _) c.put-2.ensures

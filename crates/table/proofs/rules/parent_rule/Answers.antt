@@ -7,6 +7,6 @@ pub returns-then-sequence-eq0 : goal.returns-then-sequence-eq0
 unfolding parent_rule
 returns-then-sequence-eq0 c = rw (eq-eqb _ 0 c.if-sequence-eq0.true)
 
-pub returns : goal.returns
+pub returns-else-sequence-eq0 : goal.returns-else-sequence-eq0
 unfolding parent_rule
-returns c = rw (ne_eqb _ 0 c.if-sequence-eq0.false, c.parents_among.ensures)
+returns-else-sequence-eq0 c = rw (ne_eqb _ 0 c.if-sequence-eq0.false, c.parents_among.ensures)

@@ -4,4 +4,4 @@ use Rattle.table.proofs.writing.clear_last.Goals as goal
 
 pub returns : goal.returns
 returns c =
-    cleared_is c.args.table.now c.args.last c.requires _ _ c.put.ensures c.put-2.ensures
+    cleared_is c.args.table.now c.args.last c.requires.0 _ _ c.put.ensures c.put-2.ensures

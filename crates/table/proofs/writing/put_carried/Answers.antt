@@ -15,5 +15,5 @@ returns c =
     row_counted _ _ _ _ (row_with a.other.now a.j a.references) c.count_of-place.ensures
     (c.write_carried.ensures ∙ ap (splice a.table.now (row_start c.count_of-place.result))
     (ap (λ (n : ℕ). with_references (take n (drop (row_start a.j) a.other.now)) a.references) (part_size_lem (row_start a.j) row_size)
-    ∙ carried_bytes a.other.now a.j (λ i. (c.shared_slice_known-1.given i).fits) c.requires.1 a.references c.ranges.references.fits))
+    ∙ carried_bytes a.other.now a.j c.fits-other c.told-other c.requires.1 a.references c.ranges.references.fits))
     c.put.ensures

@@ -3,12 +3,12 @@ use mathlib.Core.List.{◌++◌}
 use Prim.Native.Nat.{ℕ, ◌+◌, ◌*◌, ◌≤◌, ◌<◌}
 use native.Mathlib.Omega.{arith}
 use lib.ListN.{length}
-use borrow.Author.Rules.{rules}
 use Rattle.base.specs.List.{list_below}
 use Rattle.base.specs.Bytes.{Bytes, concat, splice}
 use Rattle.base.specs.Number.{pair}
 use Rattle.base.proofs.Parts.{length_joined_list, concat_list_more}
-use Rattle.base.proofs.Splice.{splice_nothing, splice_append, length_splice}
+use Rattle.base.proofs.Splice.{splice_nothing, splice_append}
+use Rattle.base.proofs.Words.{pair_of_number}
 use Rattle.setup.specs.Setup.{slot_count}
 use Rattle.block.specs.Layout.{requests_in, counted_request}
 use Rattle.table.proofs.writing.put_requests.Invariants.{pairs}
@@ -28,25 +28,14 @@ module _ (t₀ t t' : Bytes) (at slot x : ℕ) (list : Bytes) (fits : at + 2 * s
       ∙ ap (λ (n : ℕ). splice t₀ at (pairs list slot ++ pair n)) f
       ∙ ap (splice t₀ at) (sym (concat_list_more (λ slot. pair (counted_request (requests_in list) slot)) slot))
 
-  same_length : length t ≡ length t₀ → t' ≡ splice t (at + 2 * slot) (pair x) → length t' ≡ length t₀
-  same_length l g = ap length g ∙ length_splice t (at + 2 * slot) (pair x) (omega arith) ∙ l
-
 pub loop-slot-init : goal.loop-slot-init
 unfolding concat list_below
-loop-slot-init c = (omega arith, search rules, refl, sym (splice_nothing _ c.args.at))
+loop-slot-init c = sym (splice_nothing _ c.args.at)
 
 pub loop-slot-preserved : goal.loop-slot-preserved
 loop-slot-preserved c =
     let l = c.loop-slot in
-    let a = c.args in (
-      omega arith,
-      search rules,
-      same_length a.table.now l.table _ a.at l.slot _ a.list.now (search rules) (search rules) l.invariant.2 c.put.ensures,
-      more a.table.now l.table _ a.at l.slot _ a.list.now (search rules) (search rules) l.invariant.3 c.counted_request-number.ensures c.put.ensures,
-    )
-
-pub returns : goal.returns
-returns c =
-    let l = c.loop-slot in
-    let e : l.slot ≡ slot_count = omega arith in
-    rw e at l.invariant.3
+    let a = c.args in
+    let n = c.counted_request-number in
+    more a.table.now l.table _ a.at l.slot _ a.list.now c.requires (omega arith) l.invariant n.ensures
+    (c.put.ensures ∙ ap (splice l.table (a.at + 2 * l.slot)) (c.to_be_bytes.ensures ∙ pair_of_number n.result n.type_inv))

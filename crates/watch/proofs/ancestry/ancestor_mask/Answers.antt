@@ -48,6 +48,3 @@ returns c =
     let l = c.loop-i in
     let e : l.i ≡ 0 = omega arith in
     rw e at l.invariant.2
-
-pub loop-i-init : goal.loop-i-init
-loop-i-init c = let a = c.args in (omega arith, search rules, ap (gathered a.table.now a.place) c.references_at-mask.ensures)

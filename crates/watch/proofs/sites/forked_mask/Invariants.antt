@@ -1,7 +1,6 @@
 -- `forked_mask` meets its contract. The loop's invariant: `mask` is that of the sites which the places passed show to be forked, and `of_site` has
 -- the masks of their prints. Assumes nothing.
 use mathlib.Core.Path.{◌≡◌}
-use Prim.Native.Nat.{◌≤◌, ◌-◌}
 use Rattle.base.specs.Steps.{groups_below}
 use Rattle.setup.specs.Setup.{max_sites}
 use Rattle.table.specs.Layout.{setup_of, count_of, site_at}
@@ -11,8 +10,5 @@ use Rattle.watch.proofs.sites.forked_mask.Given as goal
 
 abbrev pub invariant-loop-i : goal.invariant-loop-i
 invariant-loop-i l =
-    (l.i ≤ l.k) × (l.k ≡ count_of l.table) × Watchable l.table × (l.mask ≡ forked_below l.table (setup_of l.table).sites l.i)
+    (l.k ≡ count_of l.table) × Watchable l.table × (l.mask ≡ forked_below l.table (setup_of l.table).sites l.i)
     × (l.of_site ≡ groups_below (site_at l.table) (sequence_print l.table) max_sites l.i)
-
-abbrev pub decreases-loop-i : goal.decreases-loop-i
-decreases-loop-i l = l.k - l.i

@@ -1,9 +1,0 @@
--- `refers_to_parent` meets its contract: one test after the other. Assumes nothing.
-use mathlib.Core.Path.{sym, ◌∙◌}
-use Rattle.table.proofs.rules.refers_to_parent.Goals as goal
-
-pub returns-then-not-in_mask : goal.returns-then-not-in_mask
-returns-then-not-in_mask c = rw (sym c.in_mask.ensures ∙ c.if-not-in_mask.true)
-
-pub returns : goal.returns
-returns c = rw (sym c.in_mask.ensures ∙ c.if-not-in_mask.false) c.parent_at.ensures
