@@ -65,7 +65,7 @@ demo: host
 # One crate and those that it needs, as far as they changed since they were last proved.
 check: prerequisites
 	@$(if $(filter $(CRATE),$(CRATES)),,echo "make check: CRATE is '$(CRATE)', which is none of: $(CRATES)" >&2; exit 1)
-	rt check $(CRATE)
+	cd crates/$(CRATE) && rt check
 
 # The gate: layout, proofs, must-fail edits, host tests, memory. The last line is 'N passed, M failed'.
 test: prerequisites

@@ -8,7 +8,9 @@ from programs import ROOT, expect, make
 def test_a_listed_crate_is_proved():
     for crate in ["base", "c_interface"]:
         ended = make("-n", "check", f"CRATE={crate}")  # only shown, not run
-        expect(ended.returncode == 0 and ended.stdout.decode().splitlines()[-1] == f"rt check {crate}", f"{ended}")
+        expect(ended.returncode == 0 and ended.stdout.decode().splitlines()[-1] == f"cd crates/{crate} && rt check", f"{ended}")
+    ended = make("check", "CRATE=base")
+    expect(ended.returncode == 0 and b"\nlogic=proved " in ended.stdout, f"{ended}")
 
 
 def test_another_name_is_refused():

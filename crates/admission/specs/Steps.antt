@@ -12,7 +12,6 @@ use Rattle.block.specs.Promises.{Shaped}
 use Rattle.table.specs.View.{View}
 use Rattle.table.specs.Layout.{count_of, digest_at, view_of, with_row}
 use Rattle.table.specs.Rules.{has_digest}
-use Rattle.table.specs.Steps.{Indexed}
 use Rattle.admission.specs.declared.held.Found.{Found}
 use Rattle.admission.specs.Admission.{row_for, held_checks}
 
@@ -27,10 +26,9 @@ first_missing v k list = first_below (λ i. not (any_below (has_digest v (refere
 abbrev pub places_listed : Bytes → ℕ → Bytes → ℕ
 places_listed t k list = mask_below (λ j. among list (digest_at t j)) k
 
--- a table in form with its index, a block that passes check 3, and what was found for its references: the mask of the places that the block refers
--- to, and the index of its first missing reference
-pub record LookedUp (t index b : Bytes) (found : Found) : Type 0 where
-  pub indexed : Indexed t index
+-- a block that passes check 3, and what was found for its references in a table: the mask of the places that the block refers to, and the index of
+-- its first missing reference
+pub record LookedUp (t b : Bytes) (found : Found) : Type 0 where
   pub shaped : Shaped b
   pub places : found.places ≡ places_listed t (count_of t) (reference_list b)
   pub missing : found.missing ≡ below (length (reference_list b) / reference_size) (first_missing (view_of t) (count_of t) (reference_list b))

@@ -5,12 +5,11 @@ ghost use Rattle.sha256.specs.Sha256.{sha256};
 ghost use Rattle.answer.specs.Refusals.{answer_of};
 ghost use Rattle.block.specs.Limits.{reference_size};
 ghost use Rattle.table.specs.Layout.{count_of, view_of};
-ghost use Rattle.table.specs.Steps.{Indexed};
 ghost use Rattle.admission.specs.Steps.{LookedUp, first_missing, places_listed, held_answer};
 
 use answer::Refusal;
 use block::ShapedBlock;
-use table::TableBytes;
+use table::index::Index;
 
 // What is found for a list of references: the mask of the places that hold them, and the index of the first reference that no place holds.
 #[derive(Clone, Copy, Debug, PartialEq, Eq)]
@@ -19,16 +18,15 @@ pub struct Found {
     pub missing: Option<usize>,
 }
 
-// Looks up each reference of the list in the table, by the table's index.
-pub fn look_up(table: &TableBytes, index: &[u8], list: &[u8]) -> Found
-    requires { Indexed table.now index.now }
-    ensures places_value { result.places ≡ places_listed table.now (count_of table.now) list.now }
-    ensures missing_value { result.missing ≡ below (length list.now / reference_size) (first_missing (view_of table.now) (count_of table.now) list.now) }
+// Looks up each reference of the list in a table, by the table's index.
+pub fn look_up(index: &Index, list: &[u8]) -> Found
+    ensures places_value { result.places ≡ places_listed index.now.table.now (count_of index.now.table.now) list.now }
+    ensures missing_value { result.missing ≡ below (length list.now / reference_size) (first_missing (view_of index.now.table.now) (count_of index.now.table.now) list.now) }
 {
     let mut places: u64 = 0;
     let mut missing = None;
     for i in 0..list.len() / block::REFERENCE_SIZE {
-        match table::index::find(table, index, block::references::reference(list, i)) {
+        match index.find(block::references::reference(list, i)) {
             Some(place) => {
                 places |= 1u64 << place;
             }
@@ -40,23 +38,22 @@ pub fn look_up(table: &TableBytes, index: &[u8], list: &[u8]) -> Found
 
 // Checks 8, 9, 10 and 11 of a block that has this digest, and for whose references this was found. A success answers with the next place.
 pub fn held_answer(
-    table: &TableBytes,
-    index: &[u8],
+    index: &Index,
     block: &ShapedBlock,
     digest: &[u8],
     found: Found,
 ) -> Result<usize, Refusal>
-    requires { LookedUp table.now index.now block.now found × (digest.now ≡ sha256 block.now) }
-    ensures { answer_of result ≡ held_answer table.now block.now }
+    requires { LookedUp index.now.table.now block.now found × (digest.now ≡ sha256 block.now) }
+    ensures { answer_of result ≡ held_answer index.now.table.now block.now }
 {
-    if let Some(place) = table::index::find(table, index, digest) {
+    if let Some(place) = index.find(digest) {
         return Err(Refusal::Held(place));
     }
     if let Some(missing) = found.missing {
         return Err(Refusal::NotHeld(missing));
     }
-    let k = table::rows::count_of(table);
-    if !table::rules::parent_rule(table, k, found.places, block.site(), block.sequence()) {
+    let k = table::rows::count_of(index.table);
+    if !table::rules::parent_rule(index.table, k, found.places, block.site(), block.sequence()) {
         return Err(Refusal::ParentRule);
     }
     if table::MAX_PLACES <= k {

@@ -16,6 +16,7 @@ ghost use Rattle.admission.specs.Steps.{held_answer, entered};
 use answer::Refusal;
 use block::{Fields, ShapedBlock};
 use table::TableBytes;
+use table::index::Index;
 
 // Makes checks 8 to 11 of a block that the reader accepts, and puts the block at the next place if they hold.
 fn enter(table: &mut TableBytes, block: &ShapedBlock, fields: Fields) -> Result<usize, Refusal>
@@ -24,9 +25,9 @@ fn enter(table: &mut TableBytes, block: &ShapedBlock, fields: Fields) -> Result<
     ensures table_after { table.new ≡ entered table.old block.now }
 {
     let digest = sha256::digest(block.bytes());
-    let index = table::index::index_of(table);
-    let found = held::look_up(table, &index, block.references());
-    let place = held::held_answer(table, &index, block, &digest, found)?;
+    let index = Index::new(table);
+    let found = held::look_up(&index, block.references());
+    let place = held::held_answer(&index, block, &digest, found)?;
     table::writing::put_row(
         table,
         &digest,

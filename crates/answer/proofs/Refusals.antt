@@ -1,5 +1,5 @@
 -- Every refusal has a number, and 0 is none of them. Assumes nothing.
-use Prim.Native.Nat.{ℕ, ◌<◌}
+use Prim.Native.Nat.{◌<◌}
 use native.Mathlib.Omega.{arith}
 use Rattle.answer.specs.Refusals.{refusal_number}
 use Rattle.answer.specs.declared.Refusal.{Refusal}

@@ -1,6 +1,6 @@
-// What a call answers: its value, or why it is refused; the numbers that the documents and programs in C have for that; and answers in a lent buffer, two numbers for each. Promises: where the checks of
-// a call have different numbers, the answer has a check's number exactly if all checks before that one hold and that one does not, and then the
-// answer has that check's value (specs/Promises.antt). Assumes nothing.
+// What a call answers: its value, or why it is refused; the numbers that the documents and programs in C have for that; and answers in a lent
+// buffer, two numbers for each. Promises: where the checks of a call have different numbers, the answer has a check's number exactly if all checks
+// before that one hold and that one does not, and then the answer has that check's value (specs/Promises.antt). Assumes nothing.
 
 #![tactic(auto)]
 

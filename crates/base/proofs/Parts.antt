@@ -6,6 +6,7 @@ use native.Mathlib.Nat.{mul-suc, mul-zero, add_comm, le_of_eq, le_of_suc-le-suc}
 use native.Mathlib.Omega.{arith}
 use lib.ListN.{length, get_or, take, drop, length-append, length-drop, take-append-drop}
 use lib.Seq.{take_at, drop_at, take-add, take_all, take-take, drop-drop, ext_get_or}
+use Rattle.std.specs.Array.{IsWholeChunk}
 use Rattle.base.specs.Bytes.{Bytes, part_at, parts, concat}
 use Rattle.base.specs.List.{list_below}
 use Rattle.base.proofs.List.{length_list, list_at, list_more}
@@ -13,6 +14,10 @@ use Rattle.base.proofs.List.{length_list, list_at, list_more}
 -- the length of a part from a to a + s, as the code asks it
 pub part_size_lem : (a s : ℕ) → (a + s) - a ≡ s
 part_size_lem a s = omega arith
+
+-- a part from a to a + s that came as an array
+pub array_part : (l part : List ℕ) (a s : ℕ) → IsWholeChunk (take ((a + s) - a) (drop a l)) part s → part ≡ take s (drop a l)
+array_part l part a s w = w.same ∙ ap (λ (n : ℕ). take n (drop a l)) (part_size_lem a s)
 
 -- a part up to the end
 pub rest_part : (b : Bytes) (at : ℕ) → take (length b - at) (drop at b) ≡ drop at b

@@ -32,6 +32,9 @@ pub const MAX_BLOCK_SIZE: usize = HEADER_SIZE
     + REFERENCE_SIZE * MAX_REFERENCES
     + MAX_REQUEST_LIST_SIZE;
 
+// A digest, by which a block is referred to.
+pub type Digest = [u8; REFERENCE_SIZE];
+
 // A slot, and the amendment number that is requested in it.
 #[derive(Clone, Copy, Debug, PartialEq, Eq)]
 pub struct Request {

@@ -6,15 +6,15 @@ ghost use Rattle.block.specs.Layout.{reference_at};
 ghost use Rattle.block.specs.Reading.{reference_repeated_at};
 ghost use Rattle.block.specs.Steps.{first_same, first_repeated};
 
-use crate::REFERENCE_SIZE;
+use crate::{Digest, REFERENCE_SIZE};
 
 // Reference i of the list.
-pub fn reference(list: &[u8], i: usize) -> &[u8]
+pub fn reference(list: &[u8], i: usize) -> &Digest
     requires { reference_size * i + reference_size ≤ length list.now }
     ensures { result.now ≡ reference_at list.now i }
 {
     let at = REFERENCE_SIZE * i;
-    &list[at..at + REFERENCE_SIZE]
+    list[at..at + REFERENCE_SIZE].as_array().unwrap()
 }
 
 // The index of the first of the references before k that equals the key.

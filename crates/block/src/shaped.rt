@@ -54,17 +54,25 @@ impl<'a> ShapedBlock<'a> {
         ensures { MatchOption result (well_shaped bytes.now ≡ false) (λ block. (block ≡ bytes.now) × Shaped bytes.now) }
     {
         if well_shaped(bytes) {
-            Some(ShapedBlock { bytes })
+            Some(ShapedBlock::tested(bytes))
         } else {
             None
         }
+    }
+
+    // The block, where its bytes are known to pass check 3.
+    pub fn tested(bytes: &'a [u8]) -> ShapedBlock<'a>
+        requires { Shaped bytes.now }
+        ensures { result ≡ bytes.now }
+    {
+        ShapedBlock { bytes }
     }
 
     pub fn bytes(&self) -> &'a [u8]
         ensures bytes { result.now ≡ self.now }
         ensures shape { Shaped self.now }
     {
-        self.bytes
+        &self.bytes[..]
     }
 
     pub fn site(&self) -> u8

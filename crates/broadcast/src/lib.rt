@@ -6,7 +6,7 @@
 mod heard;
 mod record;
 
-ghost use Rattle.std.specs.Prelude.{◌≡◌, ◌&&◌, ◌+◌, ◌≤◌, ◌<◌, eqb, leb, length};
+ghost use Rattle.std.specs.Prelude.{◌≡◌, ◌&&◌, ◌+◌, ◌≤◌, ◌<◌, eqb, leb};
 ghost use Rattle.setup.specs.Setup.{max_sites};
 ghost use Rattle.broadcast.specs.Record.{blank};
 ghost use Rattle.broadcast.specs.Process.{support, take_send, take_echo, take_ready, received, take_request};
@@ -61,8 +61,8 @@ pub fn blank() -> SlotRecord
 // being taken, reach the threshold. `heard` is what was heard before that message: to read it right behind the store of the message's number would
 // make the processor wait. The entry comes by itself, so that no record is copied to decide.
 #[tactic(auto, using(crate::proofs::Support::support_le))]
-fn is_due(entry: u16, heard: &[u16], n: u8, number: u16, threshold: u32) -> bool
-    requires { (n ≤ max_sites) × (length heard.now ≡ max_sites) }
+fn is_due(entry: u16, heard: &[u16; MAX_SITES], n: u8, number: u16, threshold: u32) -> bool
+    requires { n ≤ max_sites }
     ensures { result ≡ (eqb entry 0 && leb threshold (support n heard.now number + 1)) }
 {
     if entry != 0 {

@@ -6,7 +6,7 @@ pub mod Greatest
 pub mod Sequence
 -- the places that the next block refers to
 pub mod PickedPlaces
--- references put into a list as long as there is room
+-- references put one after the other, as long as there is room
 pub mod Digests
 -- the content of the next block fits a block's fields
 pub mod NextContent
@@ -22,9 +22,7 @@ pub mod Admission
 pub mod Promises
 -- the code gathers what the site's blocks refer to
 pub mod ReferredMask
--- the code puts the digests of the places that pass a test
-pub mod Putting
 -- what the code puts are the references of the next block
-pub mod References
+pub mod PickedReferences
 -- the code writes the encoding of the next block
 pub mod NextBytes

@@ -1,5 +1,5 @@
 -- What the contracts of inner functions cite: what an entry point has tested. Nothing here need be believed.
-use Rattle.std.specs.Prelude.{◌≡◌, Bool, true, false, cond, List, map, ℕ, ◌-◌, ◌*◌, ◌/◌, ◌≤◌, eqb, length, take, drop}
+use Rattle.std.specs.Prelude.{◌≡◌, Bool, true, false, cond, List, [], ◌∷◌, ◌++◌, map, ℕ, ◌*◌, ◌/◌, ◌≤◌, eqb, ltb, length, drop}
 use Rattle.base.specs.List.{passing_below}
 use Rattle.base.specs.Mask.{mask_below, in_mask}
 use Rattle.base.specs.Bytes.{Bytes, concat, splice}
@@ -10,22 +10,13 @@ use Rattle.table.specs.View.{max_places}
 use Rattle.table.specs.Layout.{setup_of, count_of, digest_at, view_of}
 use Rattle.table.specs.Form.{in_form}
 use Rattle.watch.specs.Forks.{forked_in}
-use Rattle.build.specs.Building.{next_sequence, is_greatest, is_referred, is_other, next_block, building_checks}
+use Rattle.build.specs.Building.{is_greatest, is_referred, is_other, next_block, building_checks}
 
 -- a table in form, and a site that passes check 16
 pub record Buildable (t : Bytes) (seen p : ℕ) : Type 0 where
   pub formed : in_form t ≡ true
   pub held : count_of t ≤ max_places
   pub unforked : forked_in (view_of t) (in_mask seen) p ≡ false
-
--- `next` is the sequence number of the site's next block
-abbrev pub IsNext : Bytes → ℕ → ℕ → ℕ → Type 0
-IsNext t seen p next = next ≡ next_sequence (in_mask seen) (view_of t) p
-
--- a list with room for 16 references, the first `count` of which are there
-pub record Room (list : Bytes) (count : ℕ) : Type 0 where
-  pub size : length list ≡ reference_size * max_references
-  pub few : count ≤ max_references
 
 -- the mask of the places that held blocks of the site refer to directly
 abbrev pub referred_mask : Bytes → ℕ → ℕ → ℕ
@@ -39,17 +30,18 @@ greatest_in t seen p = passing_below (is_greatest (in_mask seen) (view_of t) p) 
 abbrev pub others_in : Bytes → ℕ → ℕ → List ℕ
 others_in t seen p = passing_below (is_other (in_mask seen) (view_of t) p) (count_of t)
 
--- the first of these places, as many as a list that has `count` references has room for
-abbrev pub fitting : List ℕ → ℕ → List ℕ
-fitting places count = take (max_references - count) places
-
 -- the digests of these places, one after the other
 abbrev pub digests_of : Bytes → List ℕ → Bytes
 digests_of t places = concat (map (digest_at t) places)
 
--- the list with the digests of these places put after its first `count` references, as many as it has room for
-unfoldable pub put_digests : Bytes → List ℕ → ℕ → Bytes → Bytes
-put_digests t places count list = splice list (reference_size * count) (digests_of t (fitting places count))
+-- references with one more behind them, if there is room for it
+abbrev pub with_reference : Bytes → Bytes → Bytes
+with_reference references digest = cond (ltb (length references) (reference_size * max_references)) (references ++ digest) references
+
+-- references with the digests of these places behind them, put one after the other as long as there is room
+unfoldable pub with_digests : Bytes → List ℕ → Bytes → Bytes
+with_digests t [] references = references
+with_digests t (i ∷ places) references = with_digests t places (with_reference references (digest_at t i))
 
 -- a request list that passes check 3
 pub record RequestList (requests : Bytes) : Type 0 where

@@ -6,6 +6,7 @@
 
 mod next;
 mod picking;
+mod references;
 
 ghost use Rattle.std.specs.Prelude.{◌≡◌};
 ghost use Rattle.answer.specs.Refusals.{answer_of};
@@ -14,7 +15,8 @@ ghost use Rattle.build.specs.Building.{well_listed, building_from, built_from, b
 ghost use Rattle.build.specs.Steps.{Buildable, RequestList, next_answer, next_output};
 
 use answer::Refusal;
-use block::{HEADER_SIZE, MAX_REFERENCES, REFERENCE_SIZE};
+use block::HEADER_SIZE;
+use picking::NextBlock;
 use watch::sites::SiteBlocks;
 
 // The greatest sequence number that two bytes hold.
@@ -72,8 +74,8 @@ fn write_next(own: SiteBlocks, requests: &[u8], output: &mut [u8]) -> Result<usi
         return Err(Refusal::SequenceSpent);
     }
     let sequence = next as u16;
-    let mut list = [0u8; REFERENCE_SIZE * MAX_REFERENCES];
-    let references = picking::pick(own, sequence, &mut list);
+    let picked = NextBlock { own, sequence }.references();
+    let references = picked.bytes();
     let needed = HEADER_SIZE + references.len() + requests.len();
     if output.len() < needed {
         return Err(Refusal::NoRoom(needed));

@@ -1,107 +1,98 @@
 // The references of a site's next block.
-ghost use Rattle.std.specs.Prelude.{◌≡◌, [], ◌∷◌, ◌+◌, ◌≤◌, ◌<◌, length};
+ghost use Rattle.std.specs.Prelude.{◌≡◌, false, true, ◌≤◌, ◌<◌};
 ghost use Rattle.base.specs.Search.{found_below};
 ghost use Rattle.base.specs.Mask.{in_mask};
 ghost use Rattle.table.specs.View.{max_places};
-ghost use Rattle.table.specs.Layout.{table_size, count_of, view_of};
-ghost use Rattle.build.specs.Building.{is_greatest, is_other, picked};
-ghost use Rattle.build.specs.Steps.{Buildable, IsNext, Room, referred_mask, greatest_in, others_in, fitting, digests_of, put_digests};
+ghost use Rattle.table.specs.Layout.{count_of, view_of};
+ghost use Rattle.table.specs.Form.{in_form};
+ghost use Rattle.watch.specs.Forks.{forked_in};
+ghost use Rattle.build.specs.Building.{next_sequence, is_greatest, is_other, picked};
+ghost use Rattle.build.specs.Steps.{referred_mask, greatest_in, others_in, digests_of, with_digests};
 
-use block::{MAX_REFERENCES, REFERENCE_SIZE};
-use table::{TableBytes, rows};
+use crate::references::References;
+use table::rows;
 use watch::sites::SiteBlocks;
 
-// Whether place i holds the site's block of greatest sequence number, where `next` is one more than that number.
-fn is_greatest(own: SiteBlocks, next: u16, i: usize) -> bool
-    requires { (i < max_places) × IsNext own.table.now own.seen own.site next }
-    ensures { result ≡ is_greatest (in_mask own.entry.seen) (view_of own.entry.table.now) own.entry.site i }
-{
-    own.at(i) && u32::from(rows::sequence_at(own.table, i)) + 1 == u32::from(next)
+// A site's next block: the site's blocks so far, of which no two share a sequence number, and the sequence number behind theirs.
+#[derive(Clone, Copy)]
+pub struct NextBlock<'a> {
+    pub own: SiteBlocks<'a>,
+    pub sequence: u16,
+    ghost formed: { in_form own.table.now ≡ true },
+    ghost held: { count_of own.table.now ≤ max_places },
+    ghost unforked: { forked_in (view_of own.table.now) (in_mask own.seen) own.site ≡ false },
+    ghost numbered: { sequence ≡ next_sequence (in_mask own.seen) (view_of own.table.now) own.site },
 }
 
-// The place of the site's block of greatest sequence number, if the site has a block.
-fn greatest_place(own: SiteBlocks, next: u16) -> Option<usize>
-    requires { (count_of own.table.now ≤ max_places) × IsNext own.table.now own.seen own.site next }
-    ensures { result ≡ found_below (is_greatest (in_mask own.entry.seen) (view_of own.entry.table.now) own.entry.site) (count_of own.entry.table.now) }
-{
-    (0..rows::count_of(own.table)).find(|i| is_greatest(own, next, *i))
-}
+impl NextBlock<'_> {
+    // Whether place i holds the site's block of greatest sequence number.
+    fn is_greatest(self, i: usize) -> bool
+        requires { i < max_places }
+        ensures { result ≡ is_greatest (in_mask self.entry.own.seen) (view_of self.entry.own.table.now) self.entry.own.site i }
+    {
+        self.own.at(i)
+            && u32::from(rows::sequence_at(self.own.table, i)) + 1 == u32::from(self.sequence)
+    }
 
-// The mask of the places that the site's blocks refer to directly.
-fn referred_mask(own: SiteBlocks) -> u64
-    requires { count_of own.table.now ≤ max_places }
-    ensures { result ≡ referred_mask own.entry.table.now own.entry.seen own.entry.site }
-{
-    let mut mask = 0;
-    for i in 0..rows::count_of(own.table) {
-        if own.at(i) {
-            mask |= rows::references_at(own.table, i);
+    // The place of the site's block of greatest sequence number, if the site has a block.
+    fn greatest_place(self) -> Option<usize>
+        ensures { result ≡ found_below (is_greatest (in_mask self.entry.own.seen) (view_of self.entry.own.table.now) self.entry.own.site) (count_of self.entry.own.table.now) }
+    {
+        (0..rows::count_of(self.own.table)).find(|i| self.is_greatest(*i))
+    }
+
+    // The mask of the places that the site's blocks refer to directly.
+    fn referred_mask(self) -> u64
+        ensures { result ≡ referred_mask self.entry.own.table.now self.entry.own.seen self.entry.own.site }
+    {
+        let mut mask = 0;
+        for i in 0..rows::count_of(self.own.table) {
+            if self.own.at(i) {
+                mask |= rows::references_at(self.own.table, i);
+            }
+        }
+        mask
+    }
+
+    // Whether place i is looked at and holds a block of another site, and is not in the mask of the places referred to.
+    fn is_other(self, referred: u64, i: usize) -> bool
+        requires { (i < max_places) × (referred ≡ referred_mask self.own.table.now self.own.seen self.own.site) }
+        ensures { result ≡ is_other (in_mask self.entry.own.seen) (view_of self.entry.own.table.now) self.entry.own.site i }
+    {
+        base::in_mask(self.own.seen, i)
+            && rows::site_at(self.own.table, i) != self.own.site
+            && !base::in_mask(referred, i)
+    }
+
+    // Puts the digests of the other sites' blocks that no block of this site refers to behind the references, in place order and as long as there is
+    // room.
+    fn put_others(self, references: &mut References)
+        ensures { references.new ≡ with_digests self.entry.own.table.now (others_in self.entry.own.table.now self.entry.own.seen self.entry.own.site) references.old }
+    {
+        let referred = self.referred_mask();
+        for i in 0..rows::count_of(self.own.table) {
+            if self.is_other(referred, i) {
+                references.push(rows::digest_at(self.own.table, i));
+            }
         }
     }
-    mask
-}
 
-// Whether place i is looked at and holds a block of another site, and is not in the mask of the places referred to.
-fn is_other(own: SiteBlocks, referred: u64, i: usize) -> bool
-    requires { (i < max_places) × (referred ≡ referred_mask own.table.now own.seen own.site) }
-    ensures { result ≡ is_other (in_mask own.entry.seen) (view_of own.entry.table.now) own.entry.site i }
-{
-    base::in_mask(own.seen, i)
-        && rows::site_at(own.table, i) != own.site
-        && !base::in_mask(referred, i)
-}
-
-// Puts the digest of place i after the list's first `count` references, if there is room, and answers how many references the list has then. The
-// clause `sized` is for a caller whose table is a field of a struct: of a field's array Rattle states no length.
-fn put_place(table: &TableBytes, i: usize, count: usize, list: &mut [u8]) -> usize
-    requires { (i < max_places) × Room list.old count }
-    ensures value { result ≡ count + length (fitting (i ∷ []) count) }
-    ensures list_after { list.new ≡ put_digests table.now (i ∷ []) count list.old }
-    ensures sized { length table.now ≡ table_size }
-{
-    if MAX_REFERENCES <= count {
-        return count;
-    }
-    base::put(list, REFERENCE_SIZE * count, rows::digest_at(table, i));
-    count + 1
-}
-
-// Puts the digests of the other sites' blocks that no block of this site refers to, in place order and as long as there is room, after the list's
-// first `count` references, and answers how many references the list has then.
-fn put_others(own: SiteBlocks, count: usize, list: &mut [u8]) -> usize
-    requires { (count_of own.table.now ≤ max_places) × Room list.old count }
-    ensures value { result ≡ count + length (fitting (others_in own.entry.table.now own.entry.seen own.entry.site) count) }
-    ensures list_after { list.new ≡ put_digests own.entry.table.now (others_in own.entry.table.now own.entry.seen own.entry.site) count list.old }
-{
-    let referred = referred_mask(own);
-    let mut end = count;
-    for i in 0..rows::count_of(own.table) {
-        if is_other(own, referred, i) {
-            end = put_place(own.table, i, end, list);
+    // Puts the digest of the site's block of greatest sequence number behind the references, if the site has a block and if there is room.
+    fn put_greatest(self, references: &mut References)
+        ensures { references.new ≡ with_digests self.entry.own.table.now (greatest_in self.entry.own.table.now self.entry.own.seen self.entry.own.site) references.old }
+    {
+        if let Some(place) = self.greatest_place() {
+            references.push(rows::digest_at(self.own.table, place));
         }
     }
-    end
-}
 
-// Puts the digest of the site's block of greatest sequence number to the front of the list, if the site has a block, and answers how many references
-// the list has then.
-fn put_greatest(own: SiteBlocks, next: u16, list: &mut [u8]) -> usize
-    requires { Buildable own.table.now own.seen own.site × IsNext own.table.now own.seen own.site next × Room list.old 0 }
-    ensures value { result ≡ length (fitting (greatest_in own.entry.table.now own.entry.seen own.entry.site) 0) }
-    ensures list_after { list.new ≡ put_digests own.entry.table.now (greatest_in own.entry.table.now own.entry.seen own.entry.site) 0 list.old }
-{
-    match greatest_place(own, next) {
-        Some(place) => put_place(own.table, place, 0, list),
-        None => 0,
+    // The references of the block.
+    pub fn references(self) -> References
+        ensures { result ≡ digests_of self.entry.own.table.now (picked (in_mask self.entry.own.seen) (view_of self.entry.own.table.now) self.entry.own.site) }
+    {
+        let mut references = References::new();
+        self.put_greatest(&mut references);
+        self.put_others(&mut references);
+        references
     }
-}
-
-// The references of the next block, which are put to the front of the list.
-pub fn pick<'a>(own: SiteBlocks, next: u16, list: &'a mut [u8]) -> &'a [u8]
-    requires { Buildable own.table.now own.seen own.site × IsNext own.table.now own.seen own.site next × Room list.old 0 }
-    ensures { result.now ≡ digests_of own.entry.table.now (picked (in_mask own.entry.seen) (view_of own.entry.table.now) own.entry.site) }
-{
-    let greatest = put_greatest(own, next, list);
-    let count = put_others(own, greatest, list);
-    &list[..REFERENCE_SIZE * count]
 }

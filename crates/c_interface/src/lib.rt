@@ -6,13 +6,12 @@
 
 pub mod core_calls;
 
-ghost use Rattle.std.specs.Prelude.{◌≡◌, length};
+ghost use Rattle.std.specs.Prelude.{◌≡◌};
 ghost use Rattle.answer.specs.Refusals.{done_of};
-ghost use Rattle.block.specs.Limits.{reference_size};
 ghost use Rattle.c_interface.specs.Calls.{digest_answer, put_output, digest_output, read_as, block_reading, reference_answer, reference_output, requested_as, requested};
 
 use answer::{Answer, Refusal};
-use block::{Fields, REFERENCE_SIZE, Request, ShapedBlock};
+use block::{Digest, Fields, REFERENCE_SIZE, Request, ShapedBlock};
 
 // What reading a block answers: a success and the block's fields, or the refusal beside fields that are all 0.
 #[repr(C)]
@@ -61,8 +60,7 @@ impl From<Result<Request, Refusal>> for Requested {
 }
 
 // Puts a digest at the front of the output, or refuses with 17 and the length needed if there is no room.
-fn put_digest(digest: &[u8], output: &mut [u8]) -> Result<(), Refusal>
-    requires { length digest.now ≡ reference_size }
+fn put_digest(digest: &Digest, output: &mut [u8]) -> Result<(), Refusal>
     ensures value { done_of result ≡ digest_answer output.old }
     ensures output_after { output.new ≡ put_output digest.now output.old }
 {

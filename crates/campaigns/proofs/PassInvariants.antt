@@ -14,8 +14,8 @@ use Rattle.base.proofs.Tests.{by_test}
 use Rattle.base.proofs.Selection.{count_in_append}
 use Rattle.shelf.specs.Layout.{Waiting}
 use Rattle.shelf.specs.Rules.{is_for, holds}
-use Rattle.shelf.specs.Steps.{AllFit}
 use Rattle.shelf.proofs.InForm.{RulesHold}
+use Rattle.shelf.proofs.ShelfLayout.{AllFit}
 use Rattle.shelf.proofs.Rules.{ruled_without}
 use Rattle.admission.specs.Admission.{admission}
 use Rattle.campaigns.specs.Passes.{PassResult, waits_on, outcomes_of, pass, settled}

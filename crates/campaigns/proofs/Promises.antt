@@ -18,10 +18,10 @@ use Rattle.block.specs.Limits.{reference_size}
 use Rattle.shelf.specs.Layout.{Waiting, waiting_in, shelf_bytes}
 use Rattle.shelf.specs.Rules.{reserved, max_share, is_for, holds, has_place, is_same, waits}
 use Rattle.shelf.specs.Form.{shelf_in_form}
-use Rattle.shelf.specs.Steps.{AllFit}
 use Rattle.shelf.proofs.InForm.{RulesHold, of_ruled, shelf_form_lem, formed_bytes}
 use Rattle.shelf.proofs.Rules.{fair_of, ruled_with, place_for_two}
-use Rattle.shelf.proofs.ShelfLayout.{fit_append, waiting_laid}
+use Rattle.shelf.proofs.ShelfLayout.{AllFit, fit_append, waiting_laid}
+use Rattle.shelf.proofs.Turns.{shown_fit}
 use Rattle.table.specs.Form.{in_form}
 use Rattle.admission.specs.Admission.{admission, admitted}
 use Rattle.admission.proofs.Effect.{kept}
@@ -66,7 +66,7 @@ module _ (digest : Bytes → Bytes) (t s : Bytes) (c : ℕ) (b : Bytes) (verdict
         (rw (nine_accepted digest t b verdict g.missing)) new place
 
     nine_fit : AllFit (waiting_last ws c b)
-    nine_fit = fit_append ws (record { campaign = c; block = b } ∷ []) (shelf_form_lem s g.tested.formed).laid.fit (nine_short digest t b verdict g.missing, tt)
+    nine_fit = fit_append ws (record { campaign = c; block = b } ∷ []) (shown_fit s) (nine_short digest t b verdict g.missing, tt)
 
     nine_waiting : waiting_in (shelf_bytes (waiting_last ws c b)) ≡ waiting_last ws c b
     nine_waiting = waiting_laid (waiting_last ws c b) nine_ruled.few nine_fit
@@ -76,7 +76,7 @@ module _ (digest : Bytes → Bytes) (t s : Bytes) (c : ℕ) (b : Bytes) (verdict
     after_ruled = settled_ruled digest c (admitted digest t b verdict) ws (shelf_form_lem s k.formed).rules
 
     after_fit : AllFit passes.waiting
-    after_fit = settled_fit digest c (admitted digest t b verdict) ws (shelf_form_lem s k.formed).laid.fit
+    after_fit = settled_fit digest c (admitted digest t b verdict) ws (shown_fit s)
 
     after_waiting : waiting_in (shelf_bytes passes.waiting) ≡ passes.waiting
     after_waiting = waiting_laid passes.waiting after_ruled.few after_fit

@@ -83,7 +83,7 @@ module _ (digest : Bytes → Bytes) (t s : Bytes) (c : ℕ) (b : Bytes) (verdict
 
   module _ (k : Tested digest t s c b verdict room) where
     laid : s ≡ shelf_bytes ws
-    laid = (shelf_form_lem s k.formed).laid.bytes
+    laid = (shelf_form_lem s k.formed).laid
 
     -- over what waits
     by_list : (x : Arrived) → arrived digest (has_place c ws) t ws c b verdict ≡ x → (y : Bytes) → shelf_bytes x.waiting ≡ y

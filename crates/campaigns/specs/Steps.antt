@@ -1,41 +1,24 @@
 -- What the contracts of inner functions cite. Nothing here need be believed.
-use Rattle.std.specs.Prelude.{Result, Ok, Err, cond, ◌||◌, List, ℕ, ◌+◌, ◌≤◌, ◌<◌, eqb, length, get_or}
+use Rattle.std.specs.Prelude.{cond, ◌||◌, List, ℕ, ◌+◌, eqb, get_or}
 use Rattle.base.specs.Bytes.{Bytes}
 use Rattle.answer.specs.Buffer.{put_answer}
 use Rattle.answer.specs.declared.Answer.{Answer}
-use Rattle.answer.specs.declared.Refusal.{Refusal}
-use Rattle.answer.specs.declared.Refusal.TheVariants.{Waiting as Waits, ShelfFull}
-use Rattle.block.specs.Limits.{max_block_size}
-use Rattle.shelf.specs.Layout.{max_waiting, Waiting, waiting_in}
+use Rattle.answer.specs.Checks.{refused}
+use Rattle.shelf.specs.Layout.{Waiting}
 use Rattle.shelf.specs.Rules.{is_for, has_place, waits}
-use Rattle.shelf.specs.Steps.{no_waiting, Laid, without}
+use Rattle.shelf.specs.Steps.{no_waiting, without}
 use Rattle.admission.specs.Admission.{admission, admitted}
 use Rattle.campaigns.specs.Passes.{waits_on, outcome}
 use Rattle.campaigns.specs.Arriving.{waiting_last}
 use Rattle.campaigns.specs.declared.Pass.{Pass}
 
--- what `shelve` asks of a caller: the shelf is the layout of what waits, and the block fits into an entry
-pub record Shelvable (s b : Bytes) : Type 0 where
-  pub laid : Laid s (waiting_in s)
-  pub short : length b ≤ max_block_size
-
--- what the shelf says to the block of an arrival that got 9
-abbrev pub shelving : Bytes → ℕ → Bytes → Result Unit Refusal
-shelving s c b = cond (waits c b (waiting_in s)) (Err Waits) (cond (has_place c (waiting_in s)) (Ok tt) (Err ShelfFull))
+-- what an arrival is answered that admission answered a, ws being what waits: one that got 9 may get 20 or 19 by the shelf
+abbrev pub shelving : Answer → List Waiting → ℕ → Bytes → Answer
+shelving a ws c b = cond (waits_on a) (cond (waits c b ws) (refused 20 0) (cond (has_place c ws) a (refused 19 0))) a
 
 -- and what waits then
-abbrev pub waiting_then : Bytes → ℕ → Bytes → List Waiting
-waiting_then s c b = cond (waits c b (waiting_in s)) (waiting_in s) (cond (has_place c (waiting_in s)) (waiting_last (waiting_in s) c b) (waiting_in s))
-
--- what a pass asks of a caller: the shelf is the layout of what waits, and so few blocks have ended that the count of those that end cannot overflow
-pub record Passable (s : Bytes) (ended : ℕ) : Type 0 where
-  pub laid : Laid s (waiting_in s)
-  pub few : ended + length (waiting_in s) ≤ max_waiting
-
--- the pass p stands at an entry of the shelf s
-pub record AtEntry (s : Bytes) (p : Pass) : Type 0 where
-  pub passable : Passable s p.ended
-  pub below : p.at < length (waiting_in s)
+abbrev pub waiting_then : Answer → List Waiting → ℕ → Bytes → List Waiting
+waiting_then a ws c b = cond (waits_on a) (cond (waits c b ws) ws (cond (has_place c ws) (waiting_last ws c b) ws)) ws
 
 -- what one turn of a pass leaves
 pub record Turned : Type 0 where

@@ -6,17 +6,19 @@
 
 mod passing;
 
-ghost use Rattle.std.specs.Prelude.{◌≡◌, length};
+ghost use Rattle.std.specs.Prelude.{◌≡◌, true, ◌≤◌, length};
 ghost use Rattle.sha256.specs.Sha256.{sha256};
 ghost use Rattle.answer.specs.Buffer.{put_answers};
-ghost use Rattle.shelf.specs.Layout.{waiting_in, shelf_bytes};
-ghost use Rattle.shelf.specs.Steps.{Laid};
-ghost use Rattle.campaigns.specs.Passes.{outcomes_of, settled};
+ghost use Rattle.answer.specs.Refusals.{answer_of};
+ghost use Rattle.block.specs.Limits.{max_block_size};
+ghost use Rattle.shelf.specs.Layout.{waiting_in};
+ghost use Rattle.shelf.specs.Steps.{Becomes};
+ghost use Rattle.campaigns.specs.Passes.{waits_on, outcomes_of, settled};
 ghost use Rattle.campaigns.specs.Arriving.{arrival_answer, listed, arrival};
-ghost use Rattle.campaigns.specs.Steps.{Shelvable, shelving, waiting_then};
+ghost use Rattle.campaigns.specs.Steps.{shelving, waiting_then};
 
 use answer::{Answer, Refusal};
-use shelf::{MAX_SHARE, ShelfBytes};
+use shelf::{MAX_SHARE, Shelf};
 
 // How many numbers the buffer for the outcomes of an arrival must have.
 pub const OUTCOMES_SIZE: usize = 2 * MAX_SHARE;
@@ -65,30 +67,38 @@ pub struct Pass {
     pub ended: usize,
 }
 
-// Puts the block of an arrival that got 9 on the shelf. Refuses it if its bytes wait already, and then if there is no place for it.
-#[tactic(auto, using(shelf::proofs::ShelfLayout::laid_few, shelf::proofs::ShelfLayout::laid_fits))]
-fn shelve(shelf: &mut ShelfBytes, campaign: u8, block: &[u8]) -> Result<(), Refusal>
-    requires { Shelvable shelf.old block.now }
-    ensures value { result ≡ shelving shelf.old campaign block.now }
-    ensures shelf_after { shelf.new ≡ shelf_bytes (waiting_then shelf.old campaign block.now) }
+// What an arrival is answered that admission answered with `tried`. The block of one that got 9 is put on the shelf, or refused if its bytes wait
+// already, and then if there is no place for it.
+fn shelve(
+    shelf: &mut Shelf<'_>,
+    campaign: u8,
+    block: &[u8],
+    tried: Result<usize, Refusal>,
+) -> Result<usize, Refusal>
+    requires { waits_on (answer_of tried) ≡ true → length block.now ≤ max_block_size }
+    ensures value { answer_of result ≡ shelving (answer_of tried) (waiting_in shelf.old.bytes.now) campaign block.now }
+    ensures shelf_after { Becomes shelf.old.bytes shelf.new.bytes (waiting_then (answer_of tried) (waiting_in shelf.old.bytes.now) campaign block.now) }
 {
-    if shelf::entries::waits_from(shelf, 0, campaign, block) {
+    if !passing::waits_on(tried) {
+        return tried;
+    }
+    if shelf.waits(campaign, block) {
         return Err(Refusal::Waiting);
     }
-    if !shelf::share::has_place(shelf, campaign) {
+    if !shelf.has_place(campaign) {
         return Err(Refusal::ShelfFull);
     }
-    shelf::put_on(shelf, campaign, block);
-    Ok(())
+    shelf.put_on(campaign, block);
+    // A block that waits now still gets 9.
+    tried
 }
 
 // Tries the campaign's waiting blocks in passes, until a pass admits none, and answers how many blocks were let in or dropped.
-fn settle(table: &mut [u8], shelf: &mut ShelfBytes, campaign: u8, outcomes: &mut [u64]) -> usize
-    requires { Laid shelf.old (waiting_in shelf.old) }
-    ensures value { result ≡ length (outcomes_of (settled sha256 table.old campaign (waiting_in shelf.old)).tries) }
-    ensures table_after { table.new ≡ (settled sha256 table.old campaign (waiting_in shelf.old)).table }
-    ensures shelf_after { shelf.new ≡ shelf_bytes (settled sha256 table.old campaign (waiting_in shelf.old)).waiting }
-    ensures outcomes_after { outcomes.new ≡ put_answers outcomes.old 0 (outcomes_of (settled sha256 table.old campaign (waiting_in shelf.old)).tries) }
+fn settle(table: &mut [u8], shelf: &mut Shelf<'_>, campaign: u8, outcomes: &mut [u64]) -> usize
+    ensures value { result ≡ length (outcomes_of (settled sha256 table.old campaign (waiting_in shelf.old.bytes.now)).tries) }
+    ensures table_after { table.new ≡ (settled sha256 table.old campaign (waiting_in shelf.old.bytes.now)).table }
+    ensures shelf_after { Becomes shelf.old.bytes shelf.new.bytes (settled sha256 table.old campaign (waiting_in shelf.old.bytes.now)).waiting }
+    ensures outcomes_after { outcomes.new ≡ put_answers outcomes.old 0 (outcomes_of (settled sha256 table.old campaign (waiting_in shelf.old.bytes.now)).tries) }
 {
     let mut ended = 0;
     // How many passes there are shows only in what each pass lets in.
@@ -124,15 +134,12 @@ pub fn arrive(
     if outcomes.len() < OUTCOMES_SIZE {
         return Err(Refusal::NoRoom(OUTCOMES_SIZE));
     }
-    let Some(shelf) = shelf::formed_mut(shelf) else {
+    let Some(bytes) = shelf::formed_mut(shelf) else {
         return Err(Refusal::OutOfForm);
     };
+    let mut shelf = Shelf { bytes };
     let tried = admission::admit(table, block, verdict);
-    if passing::waits_on(tried) {
-        shelve(shelf, campaign, block)?;
-    }
-    // A block that waits now still gets 9.
-    let place = tried?;
-    let ended = settle(table, shelf, campaign, outcomes);
+    let place = shelve(&mut shelf, campaign, block, tried)?;
+    let ended = settle(table, &mut shelf, campaign, outcomes);
     Ok(Admitted { place, ended })
 }

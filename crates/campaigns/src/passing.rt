@@ -1,15 +1,16 @@
 // A pass over the blocks that wait on the shelf.
-ghost use Rattle.std.specs.Prelude.{◌≡◌, ◌+◌, length};
+ghost use Rattle.std.specs.Prelude.{◌≡◌, ◌+◌, ◌≤◌, ◌<◌, length};
 ghost use Rattle.sha256.specs.Sha256.{sha256};
 ghost use Rattle.answer.specs.Buffer.{put_answers};
 ghost use Rattle.answer.specs.Refusals.{answer_of};
-ghost use Rattle.shelf.specs.Layout.{waiting_in, shelf_bytes};
+ghost use Rattle.shelf.specs.Layout.{max_waiting, waiting_in};
+ghost use Rattle.shelf.specs.Steps.{Becomes};
 ghost use Rattle.campaigns.specs.Passes.{waits_on, outcome, outcomes_of, admits, pass};
-ghost use Rattle.campaigns.specs.Steps.{Passable, AtEntry, turned};
+ghost use Rattle.campaigns.specs.Steps.{turned};
 
 use crate::Pass;
 use answer::{Answer, Refusal};
-use shelf::ShelfBytes;
+use shelf::Shelf;
 
 // Whether a block that was tried waits on: a reference of it is not held.
 pub fn waits_on(tried: Result<usize, Refusal>) -> bool
@@ -37,26 +38,26 @@ fn outcome_of(tried: Result<usize, Refusal>) -> Answer
 // Tries the block of the entry at which the pass stands, if it waits for the campaign. A block that is let in or dropped is taken off the shelf.
 fn turn(
     table: &mut [u8],
-    shelf: &mut ShelfBytes,
+    shelf: &mut Shelf<'_>,
     campaign: u8,
     outcomes: &mut [u64],
     p: Pass,
 ) -> Pass
-    requires { AtEntry shelf.old p }
-    ensures value { result ≡ (turned sha256 table.old (waiting_in shelf.old) outcomes.old campaign p).next }
-    ensures table_after { table.new ≡ (turned sha256 table.old (waiting_in shelf.old) outcomes.old campaign p).table }
-    ensures shelf_after { shelf.new ≡ shelf_bytes (turned sha256 table.old (waiting_in shelf.old) outcomes.old campaign p).waiting }
-    ensures outcomes_after { outcomes.new ≡ (turned sha256 table.old (waiting_in shelf.old) outcomes.old campaign p).outcomes }
+    requires { (p.at < length (waiting_in shelf.old.bytes.now)) × (p.ended + length (waiting_in shelf.old.bytes.now) ≤ max_waiting) }
+    ensures value { result ≡ (turned sha256 table.old (waiting_in shelf.old.bytes.now) outcomes.old campaign p).next }
+    ensures table_after { table.new ≡ (turned sha256 table.old (waiting_in shelf.old.bytes.now) outcomes.old campaign p).table }
+    ensures shelf_after { Becomes shelf.old.bytes shelf.new.bytes (turned sha256 table.old (waiting_in shelf.old.bytes.now) outcomes.old campaign p).waiting }
+    ensures outcomes_after { outcomes.new ≡ (turned sha256 table.old (waiting_in shelf.old.bytes.now) outcomes.old campaign p).outcomes }
 {
     let next = Pass { at: p.at + 1, ..p };
-    if shelf::entries::campaign_at(shelf, p.at) != campaign {
+    if shelf.campaign_at(p.at) != campaign {
         return next;
     }
-    let tried = admission::admit(table, shelf::entries::block_at(shelf, p.at), 1);
+    let tried = admission::admit(table, shelf.block_at(p.at), 1);
     if waits_on(tried) {
         return next;
     }
-    shelf::take_out(shelf, p.at);
+    shelf.take_out(p.at);
     answer::put_answer(outcomes, p.ended, outcome_of(tried));
     Pass {
         admitted: p.admitted || tried.is_ok(),
@@ -68,17 +69,17 @@ fn turn(
 // Tries every waiting block of the campaign once, in the order they came. `ended` blocks have been let in or dropped before.
 pub fn pass_over(
     table: &mut [u8],
-    shelf: &mut ShelfBytes,
+    shelf: &mut Shelf<'_>,
     campaign: u8,
     outcomes: &mut [u64],
     ended: usize,
 ) -> Pass
-    requires { Passable shelf.old ended }
-    ensures admitted_value { result.admitted ≡ admits (pass sha256 table.old campaign (waiting_in shelf.old)).tries }
-    ensures ended_value { result.ended ≡ ended + length (outcomes_of (pass sha256 table.old campaign (waiting_in shelf.old)).tries) }
-    ensures table_after { table.new ≡ (pass sha256 table.old campaign (waiting_in shelf.old)).table }
-    ensures shelf_after { shelf.new ≡ shelf_bytes (pass sha256 table.old campaign (waiting_in shelf.old)).waiting }
-    ensures outcomes_after { outcomes.new ≡ put_answers outcomes.old ended (outcomes_of (pass sha256 table.old campaign (waiting_in shelf.old)).tries) }
+    requires { ended + length (waiting_in shelf.old.bytes.now) ≤ max_waiting }
+    ensures admitted_value { result.admitted ≡ admits (pass sha256 table.old campaign (waiting_in shelf.old.bytes.now)).tries }
+    ensures ended_value { result.ended ≡ ended + length (outcomes_of (pass sha256 table.old campaign (waiting_in shelf.old.bytes.now)).tries) }
+    ensures table_after { table.new ≡ (pass sha256 table.old campaign (waiting_in shelf.old.bytes.now)).table }
+    ensures shelf_after { Becomes shelf.old.bytes shelf.new.bytes (pass sha256 table.old campaign (waiting_in shelf.old.bytes.now)).waiting }
+    ensures outcomes_after { outcomes.new ≡ put_answers outcomes.old ended (outcomes_of (pass sha256 table.old campaign (waiting_in shelf.old.bytes.now)).tries) }
 {
     let mut p = Pass {
         at: 0,
@@ -86,7 +87,7 @@ pub fn pass_over(
         ended,
     };
     // An entry that is taken out leaves the next one in its place, so the turns are no count over a range.
-    while p.at < shelf::entries::count_of(shelf) {
+    while p.at < shelf.count() {
         p = turn(table, shelf, campaign, outcomes, p);
     }
     p

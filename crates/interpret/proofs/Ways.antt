@@ -17,7 +17,8 @@ use Rattle.answer.specs.declared.Answer.{Answer}
 use Rattle.answer.specs.Checks.{success, refused, answer_to}
 use Rattle.setup.specs.Setup.{max_sites}
 use Rattle.setup.proofs.Thresholds.{sites_lawful, sites_few}
-use Rattle.table.specs.Layout.{setup_of, count_of, references_at, mark_at, row_at, view_of, with_mark}
+use Rattle.table.specs.View.{interpreted}
+use Rattle.table.specs.Layout.{setup_of, count_of, references_at, row_at, view_of, with_mark}
 use Rattle.table.specs.Rules.{refers_uninterpreted}
 use Rattle.table.specs.Form.{in_form}
 use Rattle.table.specs.Steps.{row_of}
@@ -64,11 +65,11 @@ module _ (t : Bytes) (buffer : List ℕ) (i : ℕ) where
       way13 n = refuses 13 0 refl (rw (e₂, eq-eqb (length buffer) buffer_size e₁₂, le-ltb i (count_of t) n))
 
       module _ (e₁₃ : i < count_of t) where
-        pub way14 : mark_at t i ≡ 1 → Leaves (refused 14 0) t buffer
+        pub way14 : interpreted (row_at t i) ≡ true → Leaves (refused 14 0) t buffer
         unfolding interpretation answer_to
-        way14 n = refuses 14 0 refl (rw (e₂, eq-eqb (length buffer) buffer_size e₁₂, lt-ltb i (count_of t) e₁₃, eq-eqb (mark_at t i) 1 n))
+        way14 n = refuses 14 0 refl (rw (e₂, eq-eqb (length buffer) buffer_size e₁₂, lt-ltb i (count_of t) e₁₃, n))
 
-        module _ (e₁₄ : mark_at t i ≢ 1) (references : ℕ) (m : references ≡ references_at t i) where
+        module _ (e₁₄ : interpreted (row_at t i) ≡ false) (references : ℕ) (m : references ≡ references_at t i) where
           -- whether a place is referred to and not interpreted, by the row and by its references alone
           abbrev missing : ℕ → Bool
           missing = refers_uninterpreted (view_of t) (row_at t i)
@@ -84,11 +85,11 @@ module _ (t : Bytes) (buffer : List ℕ) (i : ℕ) where
           way15 first e =
               let w = some_found missing i first (found (Some first) e) in
               refuses 15 first refl
-              (rw (e₂, eq-eqb (length buffer) buffer_size e₁₂, lt-ltb i (count_of t) e₁₃, ne_eqb (mark_at t i) 1 e₁₄, w.0, ← w.1))
+              (rw (e₂, eq-eqb (length buffer) buffer_size e₁₂, lt-ltb i (count_of t) e₁₃, e₁₄, w.0, ← w.1))
 
           succeeds : Found None → success 0 ≡ interpretation t buffer i
           unfolding interpretation answer_to
-          succeeds e = rw (e₂, eq-eqb (length buffer) buffer_size e₁₂, lt-ltb i (count_of t) e₁₃, ne_eqb (mark_at t i) 1 e₁₄, none_found missing i (found None e))
+          succeeds e = rw (e₂, eq-eqb (length buffer) buffer_size e₁₂, lt-ltb i (count_of t) e₁₃, e₁₄, none_found missing i (found None e))
 
           pub way0 : Found None → (t' : Bytes) (buffer' part : List ℕ) → t' ≡ with_mark t i → part ≡ written (setup_of t) (view_of t) buffer i
               → buffer' ≡ splice buffer (part_start i) part → Leaves (success 0) t' buffer'

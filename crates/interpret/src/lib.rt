@@ -28,8 +28,8 @@ use setup::SLOTS;
 use table::{TableBytes, rows, rules};
 
 // Puts the places that are in the mask and below `place` to the front of the list, lower places first, and hands out that front.
-fn list_places(references: u64, place: usize, list: &mut [u8]) -> &[u8]
-    requires { (place ≤ max_places) × (length list.old ≡ max_references) × (count_below (in_mask references) max_places ≤ max_references) }
+fn list_places(references: u64, place: usize, list: &mut [u8; MAX_REFERENCES]) -> &[u8]
+    requires { (place ≤ max_places) × (count_below (in_mask references) max_places ≤ max_references) }
     ensures { result.now ≡ passing_below (in_mask references) place }
 {
     let mut count = 0;
@@ -132,7 +132,7 @@ pub fn interpret(table: &mut [u8], place: usize, records: &mut [u16]) -> Result<
     if rows::count_of(table) <= place {
         return Err(Refusal::UnknownPlace);
     }
-    if rows::mark_at(table, place) == 1 {
+    if rows::is_interpreted(table, place) {
         return Err(Refusal::Interpreted);
     }
     let references = rows::references_at(table, place);

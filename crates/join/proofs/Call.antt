@@ -147,3 +147,11 @@ passed left right o a e z =
       apart = not-true _ h.0.1;
       fits = leb-true (joined_count (view_of left) (view_of right)) max_places h.1;
     }
+
+module _ (left right : Bytes) (left_records right_records third : List ℕ) (a : Answer) (e : a ≡ blocks_answer left right) where
+  pub blocks_refused : a.refusal ≢ 0 → (left ≡ blocks_table left right) × (third ≡ blocks_records left right left_records right_records third)
+  blocks_refused n = let z = ne_eqb (blocks_answer left right).refusal 0 (λ o. n (number_of e ∙ o)) in (rw z, rw z)
+
+  pub blocks_joined : a.refusal ≡ 0
+      → (joined_table left right ≡ blocks_table left right) × (joined_records left right left_records right_records third ≡ blocks_records left right left_records right_records third)
+  blocks_joined y = let z = eq-eqb (blocks_answer left right).refusal 0 (number_of (sym e) ∙ y) in (rw z, rw z)

@@ -1,13 +1,12 @@
 -- Check 24 by places: each block was looked up once, so its references are compared as places. Assumes nothing.
 use mathlib.Core.Path.{◌≡◌, sym, ap, ◌∙◌}
 use mathlib.Core.Bool.{Bool, true, false, not, ◌&&◌, ◌||◌}
-use mathlib.Core.Logic.{◌≢◌}
 use mathlib.Core.List.{List}
 use Prim.Native.Nat.{ℕ, ◌^◌, ◌≤◌, ◌<◌}
 use native.Mathlib.Omega.{arith}
 use lib.Dec.{eqb}
 use lib.ListN.{get_or}
-use borrow.Author.Tests.{eq-eqb, ne_eqb, not-true, not-false}
+use borrow.Author.Tests.{eq-eqb, not-true, not-false}
 use Rattle.base.specs.Search.{all_below}
 use Rattle.base.specs.Mask.{in_mask}
 use Rattle.base.specs.Bytes.{Bytes}
@@ -51,37 +50,13 @@ module _ (t u : Bytes) (f : in_form t ≡ true) (g : in_form u ≡ true) (i j : 
       rw (z, o))
       (λ z. rw z))))
 
--- ---- the tests in their order
+-- ---- where the other fields are equal, the references tell
 
-module _ (left : Bytes) (i : ℕ) (right : Bytes) (j : ℕ) where
-  abbrev same : Bool
-  same = same_block (view_of left) i (view_of right) j
-
-  pub other_site_lem : site_at left i ≢ site_at right j → false ≡ same
-  unfolding same_block
-  other_site_lem n = rw (ne_eqb (site_at left i) (site_at right j) n)
-
-  module _ (site : site_at left i ≡ site_at right j) where
-    pub other_sequence : sequence_at left i ≢ sequence_at right j → false ≡ same
-    unfolding same_block
-    other_sequence n = rw (eq-eqb (site_at left i) (site_at right j) site, ne_eqb (sequence_at left i) (sequence_at right j) n)
-
-    module _ (sequence : sequence_at left i ≡ sequence_at right j) where
-      abbrev requests : Bool
-      requests = all_below (λ slot. eqb (counted_request_at left i slot) (counted_request_at right j slot)) slot_count
-
-      pub other_request : requests ≡ false → false ≡ same
-      unfolding same_block
-      other_request n = rw (eq-eqb (site_at left i) (site_at right j) site, eq-eqb (sequence_at left i) (sequence_at right j) sequence, n)
-
-      module _ (request : requests ≡ true) where
-        pub other_reference : refers_within (view_of left) i (view_of right) j ≡ false → false ≡ same
-        unfolding same_block
-        other_reference n = rw (eq-eqb (site_at left i) (site_at right j) site, eq-eqb (sequence_at left i) (sequence_at right j) sequence, request, n)
-
-        pub last_test : refers_within (view_of left) i (view_of right) j ≡ true → refers_within (view_of right) j (view_of left) i ≡ same
-        unfolding same_block
-        last_test y = rw (eq-eqb (site_at left i) (site_at right j) site, eq-eqb (sequence_at left i) (sequence_at right j) sequence, request, y)
+pub by_references : (left : Bytes) (i : ℕ) (right : Bytes) (j : ℕ) → site_at left i ≡ site_at right j → sequence_at left i ≡ sequence_at right j
+    → all_below (λ slot. eqb (counted_request_at left i slot) (counted_request_at right j slot)) slot_count ≡ true
+    → (refers_within (view_of left) i (view_of right) j && refers_within (view_of right) j (view_of left) i) ≡ same_block (view_of left) i (view_of right) j
+unfolding same_block
+by_references left i right j site sequence requests = rw (eq-eqb (site_at left i) (site_at right j) site, eq-eqb (sequence_at left i) (sequence_at right j) sequence, requests)
 
 -- ---- a clash is one with the place of that digest
 

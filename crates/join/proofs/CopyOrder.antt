@@ -14,13 +14,13 @@ use Rattle.table.specs.Rules.{has_digest}
 use Rattle.records.specs.Layout.{part_start}
 use Rattle.join.specs.Join.{is_extra, place_in, handed_back, part_for, copied_below, joined_table, joined_records}
 use Rattle.join.specs.Promises.{place_behind}
-use Rattle.join.specs.Steps.{JoinableSides, extras_below}
+use Rattle.join.specs.Steps.{Joinable, extras_below}
 use Rattle.join.proofs.References.{place_is}
 use Rattle.join.proofs.PlaceLists.{extra_is}
 use Rattle.join.proofs.PlacesInvariant.{extra_at}
-use Rattle.join.proofs.ThirdBuffer.{whole}
+use Rattle.join.proofs.TableInvariant.{TableInvariant, joining}
 
-module _ (left right : Bytes) (left_records right_records third : List ℕ) (p : JoinableSides left right left_records right_records third) where
+module _ (left right : Bytes) (left_records right_records third : List ℕ) (both : Joinable left right) where
   abbrev t : Bytes
   t = joined_table left right
 
@@ -29,6 +29,9 @@ module _ (left right : Bytes) (left_records right_records third : List ℕ) (p :
 
   abbrev m : ℕ
   m = count_of right
+
+  whole : TableInvariant left right both m t
+  whole = joining left right both m (omega arith)
 
   abbrev extra : ℕ → Bool
   extra j = is_extra (view_of left) (view_of right) j
@@ -44,7 +47,7 @@ module _ (left right : Bytes) (left_records right_records third : List ℕ) (p :
   unfolding copied_below
   left_same zero h = refl
   left_same (suc k) h = ap₂ (λ (b : List ℕ) (d : Bytes). splice b (part_start k) (part d))
-      (left_same k (omega arith)) (sym ((whole left right left_records right_records third p).kept k h).digest)
+      (left_same k (omega arith)) (sym (whole.kept k h).digest)
 
   -- the part of a block that is not in the left
   extra_part : (k : ℕ) → k < m → extra k ≡ true
@@ -52,8 +55,8 @@ module _ (left right : Bytes) (left_records right_records third : List ℕ) (p :
   extra_part k h y =
       let d : Bytes = digest_at right k in
       let i : place_in (view_of left) d ≡ n = omega (arith, first_le (has_digest (view_of left) d) n, ltb-false (place_in (view_of left) d) n (not-true _ (sym (extra_is left right k) ∙ y))) in
-      ap₂ (handed_back (view_of left) (view_of right) left_records right_records) (sym i) (sym (place_is right p.joinable.formed.right_formed d k h refl))
-      ∙ ap part (sym (extra_at left right p.joinable m t (whole left right left_records right_records third p) k h y))
+      ap₂ (handed_back (view_of left) (view_of right) left_records right_records) (sym i) (sym (place_is right both.formed.right_formed d k h refl))
+      ∙ ap part (sym (extra_at left right both m t whole k h y))
 
   abbrev more : ℕ → List ℕ
   more k = extras_below left right left_records right_records (to left n) k
@@ -69,4 +72,4 @@ module _ (left right : Bytes) (left_records right_records third : List ℕ) (p :
   pub all_copied : (x y : List ℕ) → x ≡ to left n → y ≡ extras_below left right left_records right_records x m → y ≡ joined_records left right left_records right_records third
   all_copied x y e f =
       f ∙ ap (λ (b : List ℕ). extras_below left right left_records right_records b m) e ∙ extras_same m (omega arith)
-      ∙ ap (to t) (sym (whole left right left_records right_records third p).count)
+      ∙ ap (to t) (sym whole.count)

@@ -1,7 +1,7 @@
 -- One law for each step of the code that hands parts back and copies them. Assumes nothing.
 use mathlib.Core.Path.{◌≡◌, refl, sym, ap, ap₂, ◌∙◌}
 use mathlib.Core.Bool.{true, false}
-use mathlib.Core.List.{List, []}
+use mathlib.Core.List.{List}
 use Prim.Native.Nat.{ℕ, ◌+◌, ◌≤◌, ◌<◌}
 use native.Mathlib.Numerals.{add-one}
 use native.Mathlib.Omega.{arith}
@@ -14,7 +14,7 @@ use Rattle.base.proofs.Tests.{by_test}
 use Rattle.base.proofs.Count.{count_rises}
 use Rattle.table.specs.View.{max_places, View}
 use Rattle.table.specs.Layout.{count_of, digest_at, view_of}
-use Rattle.records.specs.Layout.{part_size, part_start, part_of}
+use Rattle.records.specs.Layout.{part_size, part_start}
 use Rattle.join.specs.Join.{is_extra, place_in, interpreted_at, handed_back, copied_below}
 use Rattle.join.specs.Promises.{place_behind}
 use Rattle.join.specs.Steps.{Joinable, result_place, extras_below}
@@ -24,18 +24,6 @@ use Rattle.join.proofs.PlaceLists.{extra_is}
 -- ---- whose part it is
 
 module _ (v w : View) (left right : List ℕ) (i j : ℕ) where
-  pub from_left : interpreted_at v i ≡ true → part_of left i ≡ handed_back v w left right i j
-  unfolding handed_back
-  from_left y = rw y
-
-  pub from_right : interpreted_at v i ≡ false → interpreted_at w j ≡ true → part_of right j ≡ handed_back v w left right i j
-  unfolding handed_back
-  from_right n y = rw (n, y)
-
-  pub from_neither : interpreted_at v i ≡ false → interpreted_at w j ≡ false → [] ≡ handed_back v w left right i j
-  unfolding handed_back
-  from_neither n m = rw (n, m)
-
   short : (b : List ℕ) (k : ℕ) → length (take part_size (drop (part_start k) b)) ≤ part_size
   short b k = by_test (ltb (length (drop (part_start k) b)) part_size)
       (λ y. let l : length (drop (part_start k) b) < part_size = ltb-true _ _ y in

@@ -51,10 +51,10 @@ pub record NumberedBelow (left right : Bytes) (j next : ℕ) (places : List ℕ)
   pub rest : (i : ℕ) → j ≤ i → i < count_of right → get_or places i 0 ≡ place_in (view_of left) (digest_at right i)
 
 module _ (left right : Bytes) where
-  pub number_start : (next : ℕ) (places : List ℕ) → PlacesFound left right places → next ≡ count_of left → NumberedBelow left right 0 next places
+  pub number_start : (next : ℕ) (places : List ℕ) → length places ≡ max_places → PlacesFound left right places → next ≡ count_of left → NumberedBelow left right 0 next places
   unfolding count_below
-  number_start next places a e =
-      record { size = a.size; free = omega (arith, e); few = omega (arith, e); done = λ i l. absurd (omega arith); rest = λ i h l. a.at i l }
+  number_start next places s a e =
+      record { size = s; free = omega (arith, e); few = omega (arith, e); done = λ i l. absurd (omega arith); rest = λ i h l. a.at i l }
 
   module _ (j next : ℕ) (places : List ℕ) (a : NumberedBelow left right j next places) (below : j < count_of right) where
     pub number_held : get_or places j 0 < count_of left → NumberedBelow left right (j + 1) next places

@@ -109,7 +109,7 @@ module _ (left right : Bytes) (both : Joinable left right) (k : ℕ) (t : Bytes)
           (l, omega (arith, u.0), ap (digest_at t) e ∙ u.1)
 
       each_placed : EachPlaced (references_at right k) places
-      each_placed = record { size = numbered.size; below = λ i h y. omega (arith, (reference_at_lem i h y).1, few) }
+      each_placed = record { below = λ i h y. omega (arith, (reference_at_lem i h y).1, few) }
 
       abbrev refers : ℕ → ℕ → Bool
       refers p i = in_mask (references_at right k) i && eqb (get_or places i 0) p

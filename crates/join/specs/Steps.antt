@@ -67,14 +67,7 @@ pub record JoinableSides (left right : Bytes) (left_records right_records third 
 
 -- the list `places` has, for each place of `other`, the place in the table that holds the same block, or the table's count
 pub record PlacesFound (table other : Bytes) (places : List ℕ) : Type 0 where
-  pub size : length places ≡ max_places
   pub at : (k : ℕ) → k < count_of other → get_or places k 0 ≡ place_in (view_of table) (digest_at other k)
-
--- where the blocks of each of two tables stand in the other
-pub record BothFound (left right : Bytes) (in_right in_left : List ℕ) : Type 0 where
-  pub formed : BothFormed left right
-  pub there : PlacesFound right left in_right
-  pub back : PlacesFound left right in_left
 
 -- the place in the result of the block at the right's place j
 abbrev pub result_place : Bytes → Bytes → ℕ → ℕ
@@ -82,7 +75,6 @@ result_place left right j = cond (is_extra (view_of left) (view_of right) j) (pl
 
 -- the list `places` has, for each place of the right, the place of its block in the result
 pub record Numbered (left right : Bytes) (places : List ℕ) : Type 0 where
-  pub size : length places ≡ max_places
   pub at : (j : ℕ) → j < count_of right → get_or places j 0 ≡ result_place left right j
 
 -- the blocks of these references, whose places in the other table the list tells, all stand at places of the mask
@@ -91,7 +83,6 @@ within_by references places mask = not (any_below (λ k. in_mask references k &&
 
 -- the blocks of these references all have a place in the list
 pub record EachPlaced (references : ℕ) (places : List ℕ) : Type 0 where
-  pub size : length places ≡ max_places
   pub below : (k : ℕ) → k < max_places → in_mask references k ≡ true → get_or places k 0 < max_places
 
 -- the mask of the places that the list tells for the blocks of these references
@@ -99,12 +90,6 @@ abbrev pub renumbered_by : ℕ → List ℕ → ℕ
 renumbered_by references places = mask_below (λ p. any_below (λ k. in_mask references k && eqb (get_or places k 0) p) max_places) max_places
 
 -- ---- steps
-
--- place i of the left, place j of the right, and where the blocks of each side stand in the other
-pub record Pair (left : Bytes) (i : ℕ) (right : Bytes) (j : ℕ) (in_right in_left : List ℕ) : Type 0 where
-  pub found : BothFound left right in_right in_left
-  pub first : i < count_of left
-  pub second : j < count_of right
 
 -- t is the left's table after the right's places below j, and place j is the next
 pub record Next (t right : Bytes) (j : ℕ) (places : List ℕ) : Type 0 where

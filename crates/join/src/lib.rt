@@ -10,16 +10,15 @@ mod places;
 mod rows;
 
 ghost use Rattle.std.specs.Prelude.{◌≡◌};
-ghost use Rattle.std.specs.Result.{IsOk};
 ghost use Rattle.answer.specs.Checks.{answer_to};
 ghost use Rattle.answer.specs.Refusals.{answer_of, done_of};
 ghost use Rattle.table.specs.Layout.{setup_of};
-ghost use Rattle.join.specs.Join.{neither_retired, same_setup, join_answer, joined_table, joined_records, joined, copied};
-ghost use Rattle.join.specs.Steps.{tables_checks, blocks_answer, blocks_table, blocks_records, SameSetup, Joinable, PlacesFound, BothFound, Numbered};
+ghost use Rattle.join.specs.Join.{neither_retired, same_setup, join_answer, joined, copied};
+ghost use Rattle.join.specs.Steps.{tables_checks, blocks_answer, blocks_table, blocks_records, SameSetup};
 
 use answer::Refusal;
 use clash::Matched;
-use parts::Side;
+use parts::Sides;
 use records::RecordBuffer;
 use table::{MAX_PLACES, TableBytes};
 
@@ -51,65 +50,8 @@ fn check_sides(left: &TableBytes, right: &TableBytes) -> Result<(), Refusal>
     Ok(())
 }
 
-// The checks of the blocks: 24 and 25. If they hold, the answer is how many blocks the result has, and `places` has for each place of the right the
-// place of its block in the result.
-fn check_blocks(
-    left: &TableBytes,
-    right: &TableBytes,
-    in_right: &[u8],
-    places: &mut [u8],
-) -> Result<usize, Refusal>
-    requires { BothFound left.now right.now in_right.now places.old }
-    ensures value { answer_of result ≡ blocks_answer left.now right.now }
-    ensures numbered { IsOk result → Numbered left.now right.now places.new }
-{
-    let left_matched = Matched {
-        table: left,
-        there: in_right,
-    };
-    let right_matched = Matched {
-        table: right,
-        there: places,
-    };
-    if let Some(i) = clash::first_clash(&left_matched, &right_matched) {
-        return Err(Refusal::Clash(i));
-    }
-    let count = places::number_extras(left, right, places);
-    if MAX_PLACES < count {
-        return Err(Refusal::TooManyBlocks);
-    }
-    Ok(count)
-}
-
-// Makes the left's table that of both sides, and copies the record parts to the third buffer, where `places` has the place of each block in the
-// result.
-fn join_sides(
-    left: &mut TableBytes,
-    right: &TableBytes,
-    left_records: &RecordBuffer,
-    right_records: &RecordBuffer,
-    in_right: &[u8],
-    places: &[u8],
-    third: &mut RecordBuffer,
-)
-    requires { Joinable left.old right.now × PlacesFound right.now left.old in_right.now × Numbered left.old right.now places.now }
-    ensures left_after { left.new ≡ joined_table left.old right.now }
-    ensures third_after { third.new ≡ joined_records left.old right.now left_records.now right_records.now third.old }
-{
-    let left_side = Side {
-        table: left,
-        records: left_records,
-    };
-    let right_side = Side {
-        table: right,
-        records: right_records,
-    };
-    parts::copy_left(&left_side, &right_side, in_right, third);
-    parts::copy_extras(&left_side, &right_side, places, third);
-    rows::join_rows(left, right, places);
-}
-
-// Joins two sides of one setup: looks up each block of either side in the other, makes the checks of the blocks, and joins the sides if they hold.
+// Joins two sides of one setup: looks up each block of either side in the other, makes the checks of the blocks, 24 and 25, and if they hold copies
+// the record parts to the third buffer and makes the left's table that of both sides. The answer is how many blocks the result has.
 fn join_blocks(
     left: &mut TableBytes,
     right: &TableBytes,
@@ -122,19 +64,30 @@ fn join_blocks(
     ensures left_after { left.new ≡ blocks_table left.old right.now }
     ensures third_after { third.new ≡ blocks_records left.old right.now left_records.now right_records.now third.old }
 {
-    let in_right = places::place_all(right, left);
-    let mut places = places::place_all(left, right);
-    let count = check_blocks(left, right, &in_right, &mut places)?;
-    join_sides(
+    let matched = Matched {
+        left,
+        right,
+        in_right: places::place_all(right, left),
+        in_left: places::place_all(left, right),
+    };
+    if let Some(i) = matched.first_clash() {
+        return Err(Refusal::Clash(i));
+    }
+    let numbering = places::number_extras(&matched);
+    if MAX_PLACES < numbering.count {
+        return Err(Refusal::TooManyBlocks);
+    }
+    let sides = Sides {
         left,
         right,
         left_records,
         right_records,
-        &in_right,
-        &places,
-        third,
-    );
-    Ok(count)
+        in_right: &matched.in_right,
+        in_result: &numbering.places,
+    };
+    sides.copy_parts(third);
+    rows::join_rows(left, right, &numbering.places);
+    Ok(numbering.count)
 }
 
 // Makes the left's table that of both sides, and copies the record parts of its interpreted places to the third buffer, whose rest stays. Answers

@@ -5,10 +5,10 @@ ghost use Rattle.join.specs.Join.{join_place, joined_table};
 ghost use Rattle.join.specs.Steps.{Joinable, Numbered, Next, EachPlaced, renumbered_by};
 
 use base::masks::Members;
-use table::{TableBytes, rows, writing};
+use table::{MAX_PLACES, TableBytes, rows, writing};
 
 // The mask of the places that the blocks of these references have in the result, by the list `places`.
-fn renumbered(references: u64, places: &[u8]) -> u64
+fn renumbered(references: u64, places: &[u8; MAX_PLACES]) -> u64
     requires { EachPlaced references places.now }
     ensures { result ≡ renumbered_by references places.now }
 {
@@ -21,7 +21,7 @@ fn renumbered(references: u64, places: &[u8]) -> u64
 
 // Joins the right's place j to the table. If the table does not hold its block, its row is put at the next place; else the block is marked where it
 // stands, if the right has interpreted it.
-fn join_place(table: &mut TableBytes, right: &TableBytes, j: usize, places: &[u8])
+fn join_place(table: &mut TableBytes, right: &TableBytes, j: usize, places: &[u8; MAX_PLACES])
     requires { Next table.old right.now j places.now }
     ensures { table.new ≡ join_place table.old (view_of right.now) j }
 {
@@ -37,7 +37,7 @@ fn join_place(table: &mut TableBytes, right: &TableBytes, j: usize, places: &[u8
 }
 
 // Joins all places of the right to the left's table, in their order.
-pub fn join_rows(left: &mut TableBytes, right: &TableBytes, places: &[u8])
+pub fn join_rows(left: &mut TableBytes, right: &TableBytes, places: &[u8; MAX_PLACES])
     requires { Joinable left.old right.now × Numbered left.old right.now places.now }
     ensures { left.new ≡ joined_table left.old right.now }
 {

@@ -53,11 +53,11 @@ pub fn arrive(
     if let Err(refusal) = interpret::interpret(table, place, records) {
         return lines::refused(arrival, refusal);
     }
+    // Interpretation has tested the buffer's length.
     let Some(records) = records.as_array() else {
         unreachable!();
     };
-    let Some(shaped) = ShapedBlock::new(block) else {
-        unreachable!();
-    };
+    // Admission has tested the block's shape.
+    let shaped = ShapedBlock::tested(block);
     delivery_lines(records, arrival, place, shaped.site(), shaped.sequence())
 }

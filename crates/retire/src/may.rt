@@ -13,7 +13,7 @@ fn waits(table: &TableBytes, i: usize) -> bool
     requires { i < max_places }
     ensures { result ≡ waits_for_first (view_of table.now) i }
 {
-    base::in_mask(rows::references_at(table, i), 0) && rows::mark_at(table, i) != 1
+    base::in_mask(rows::references_at(table, i), 0) && !rows::is_interpreted(table, i)
 }
 
 // Whether place i holds an interpreted block of this site, with a sequence number greater than this one.
@@ -22,7 +22,7 @@ fn follows(table: &TableBytes, i: usize, site: u8, sequence: u16) -> bool
     ensures { result ≡ follows_one table.now site sequence i }
 {
     rows::site_at(table, i) == site
-        && rows::mark_at(table, i) == 1
+        && rows::is_interpreted(table, i)
         && sequence < rows::sequence_at(table, i)
 }
 
@@ -50,5 +50,5 @@ pub fn may_retire(table: &TableBytes, k: usize) -> bool
 {
     let site = rows::site_at(table, 0);
     let sequence = rows::sequence_at(table, 0);
-    rows::mark_at(table, 0) == 1 && !any_waits(table, k) && any_follows(table, k, site, sequence)
+    rows::is_interpreted(table, 0) && !any_waits(table, k) && any_follows(table, k, site, sequence)
 }

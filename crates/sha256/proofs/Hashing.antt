@@ -33,7 +33,7 @@ hash_split s l n (suc k) =
     (ap₂ (λ (v : State) (i : ℕ). compress v l i) (hash_split s l n k) e
     ∙ sym (of_words (hash (hash s l n) (drop (64 * n) l) k) (drop (64 * n) l) l (64 * k) (64 * n + 64 * k) (words_drop l (64 * n) (64 * k) 16)))
 
--- ---- what stands behind the last block
+-- ---- what stands behind the last block, and behind a block
 
 word_take : (l : List ℕ) (j i : ℕ) → i + 4 ≤ j → word (take j l) i ≡ word l i
 word_take l j i h =
@@ -47,6 +47,10 @@ words_take : (l : List ℕ) (j i t : ℕ) → i + 4 * t ≤ j → words (take j 
 unfolding words
 words_take l j i zero h = refl
 words_take l j i (suc t) h = rw (words_take l j i t (omega arith), word_take l j (i + 4 * t) (omega arith))
+
+-- a block by itself
+pub one_block : (s : State) (l : List ℕ) (i : ℕ) → compress s (take 64 (drop i l)) 0 ≡ compress s l i
+one_block s l i = of_words s (take 64 (drop i l)) l 0 i (words_take (drop i l) 64 0 16 (omega arith) ∙ rw add-zero at (words_drop l i 0 16))
 
 pub hash_take : (s : State) (l : List ℕ) (j n : ℕ) → 64 * n ≤ j → hash s (take j l) n ≡ hash s l n
 unfolding hash

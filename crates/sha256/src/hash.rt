@@ -1,7 +1,8 @@
 // The hash value, block by block: 5.3.3 and 6.2.2 of FIPS 180-4.
-ghost use Rattle.std.specs.Prelude.{◌≡◌, ◌+◌, ◌*◌, ◌≤◌, length};
+ghost use Rattle.std.specs.Prelude.{◌≡◌, ◌*◌, ◌≤◌, length};
 ghost use Rattle.sha256.specs.Sha256.{H0, plus, compress, hash};
 
+use crate::Block;
 use crate::rounds::{State, rounds_of};
 use crate::schedule::schedule_of;
 
@@ -28,17 +29,17 @@ pub fn hash_of(s: State, m: &[u8], n: usize) -> State
 {
     let mut v = s;
     for i in 0..n {
-        v = compress_of(v, m, 64 * i);
+        let block = m[64 * i..64 * i + 64].as_array().unwrap();
+        v = compress_of(v, block);
     }
     v
 }
 
-// The hash value that follows s by the block of m that starts at byte `at`.
-fn compress_of(s: State, m: &[u8], at: usize) -> State
-    requires { at + 64 ≤ length m.now }
-    ensures { result ≡ compress s m.now at }
+// The hash value that follows s by a block.
+fn compress_of(s: State, block: &Block) -> State
+    ensures { result ≡ compress s block.now 0 }
 {
-    let w = schedule_of(m, at);
+    let w = schedule_of(block);
     plus_of(rounds_of(s, &w), s)
 }
 

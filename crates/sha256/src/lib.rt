@@ -18,6 +18,9 @@ use hash::{hash_of, initial};
 use padding::{put_tail, tail_blocks};
 use rounds::State;
 
+// A block of the message: 512 bits.
+type Block = [u8; 64];
+
 // The digest of the message, which is read in place: first its whole blocks, then one or two blocks with the message's rest and the padding.
 pub fn digest(message: &[u8]) -> [u8; 32]
     ensures { result ≡ sha256 message.now }

@@ -11,7 +11,7 @@ pub fn tail_blocks(len: usize) -> usize
 }
 
 // Puts what the padded message has after the message's whole blocks into two blocks of zeros: it fills the first of them, or both.
-pub fn put_tail(message: &[u8], tail: &mut [u8])
+pub fn put_tail(message: &[u8], tail: &mut [u8; 128])
     requires { tail.old ≡ replicate 128 0 }
     ensures { take (64 * tail_blocks (length message.now)) tail.new ≡ drop (64 * (length message.now / 64)) (pad message.now) }
 {
@@ -22,7 +22,7 @@ pub fn put_tail(message: &[u8], tail: &mut [u8])
 }
 
 // Puts the message from byte `at` on, then the byte with the one bit. The bytes behind it stay zeros.
-fn put_rest(message: &[u8], at: usize, tail: &mut [u8])
+fn put_rest(message: &[u8], at: usize, tail: &mut [u8; 128])
     requires { (at ≤ length message.now) × (length message.now < at + 64) × (tail.old ≡ replicate 128 0) }
     ensures { tail.new ≡ drop at message.now ++ (0x80 ∷ replicate (127 - (length message.now - at)) 0) }
 {

@@ -1,25 +1,24 @@
 // The message schedule: 6.2.2 of FIPS 180-4, step 1.
-ghost use Rattle.std.specs.Prelude.{◌≡◌, ◌+◌, ◌%◌, ◌^◌, ◌≤◌, length, take};
+ghost use Rattle.std.specs.Prelude.{◌≡◌, ◌+◌, ◌%◌, ◌^◌, take};
 ghost use Rattle.sha256.specs.Sha256.{σ0, σ1, words, schedule};
 
+use crate::Block;
 use crate::words::{small_sigma0, small_sigma1, word_at};
 
-// The schedule of the block that starts at byte `at` of m.
-pub fn schedule_of(m: &[u8], at: usize) -> [u32; 64]
-    requires { at + 64 ≤ length m.now }
-    ensures { result ≡ schedule (words m.now at 16) 48 }
+// The schedule of a block.
+pub fn schedule_of(block: &Block) -> [u32; 64]
+    ensures { result ≡ schedule (words block.now 0 16) 48 }
 {
-    extend(load(m, at))
+    extend(load(block))
 }
 
 // The block's sixteen words, with room for the other 48 words of the schedule behind them.
-fn load(m: &[u8], at: usize) -> [u32; 64]
-    requires { at + 64 ≤ length m.now }
-    ensures { take 16 result ≡ words m.now at 16 }
+fn load(block: &Block) -> [u32; 64]
+    ensures { take 16 result ≡ words block.now 0 16 }
 {
     let mut w = [0u32; 64];
     for t in 0..16 {
-        w[t] = word_at(m, at + 4 * t);
+        w[t] = word_at(block, 4 * t);
     }
     w
 }

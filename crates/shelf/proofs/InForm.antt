@@ -15,8 +15,7 @@ use Rattle.base.proofs.Bytes.{same_equal, same_refl}
 use Rattle.shelf.specs.Layout.{max_waiting, shelf_size, Waiting, waiting_in, shelf_bytes}
 use Rattle.shelf.specs.Rules.{each_sound, shared, rules_hold}
 use Rattle.shelf.specs.Form.{shelf_in_form}
-use Rattle.shelf.specs.Steps.{AllFit, Laid}
-use Rattle.shelf.proofs.ShelfLayout.{waiting_laid, laid_size}
+use Rattle.shelf.proofs.ShelfLayout.{AllFit, waiting_laid, laid_size}
 use Rattle.shelf.proofs.Turns.{shown_fit}
 
 pub record RulesHold (ws : List Waiting) : Type 0 where
@@ -41,17 +40,19 @@ of_ruled ws r = rw (le-leb (length ws) max_waiting r.few, r.sound, r.fair)
 -- a shelf in form is the layout of what it shows, and the rules hold for that
 pub record ShelfForm (s : Bytes) : Type 0 where
   pub rules : RulesHold (waiting_in s)
-  pub laid : Laid s (waiting_in s)
+  pub laid : s ≡ shelf_bytes (waiting_in s)
 
 pub shelf_form_lem : (s : Bytes) → shelf_in_form s ≡ true → ShelfForm s
 unfolding shelf_in_form
 shelf_form_lem s e =
     let same = same_bytes s (shelf_bytes (waiting_in s)) in
-    let r = ruled_of (waiting_in s) (and_left (rules_hold (waiting_in s)) same e) in
     record {
-      rules = r;
-      laid = record { bytes = same_equal s (shelf_bytes (waiting_in s)) (and_right (rules_hold (waiting_in s)) same e); few = r.few; fit = shown_fit s };
+      rules = ruled_of (waiting_in s) (and_left (rules_hold (waiting_in s)) same e);
+      laid = same_equal s (shelf_bytes (waiting_in s)) (and_right (rules_hold (waiting_in s)) same e);
     }
+
+pub formed_size : (s : Bytes) → shelf_in_form s ≡ true → length s ≡ shelf_size
+formed_size s e = let f = shelf_form_lem s e in laid_size s (waiting_in s) (record { bytes = f.laid; few = f.rules.few; fit = shown_fit s })
 
 -- and the layout of what the rules hold for is in form
 pub formed_bytes : (ws : List Waiting) → AllFit ws → rules_hold ws ≡ true → shelf_in_form (shelf_bytes ws) ≡ true
@@ -62,4 +63,4 @@ formed_bytes ws f e = rw (waiting_laid ws (ruled_of ws e).few f, e, same_refl (s
 pub whole_shelf : {B : Type 0} (s : Bytes) (now : B → Bytes) (r : Option B) → shelf_in_form s ≡ true
     → MatchOption r (length s ≢ shelf_size) (λ y. IsWholeChunk s (now y) shelf_size) → MatchOption r (shelf_in_form s ≡ false) (λ y. (now y ≡ s) × (shelf_in_form s ≡ true))
 whole_shelf s now (Some y) f w = (w.same, f)
-whole_shelf s now None f w = absurd (w (laid_size s (waiting_in s) (shelf_form_lem s f).laid))
+whole_shelf s now None f w = absurd (w (formed_size s f))

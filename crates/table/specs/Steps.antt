@@ -104,11 +104,6 @@ index_below t k = list_below (λ byte. last_of t byte k) byte_count
 abbrev pub index_of : Bytes → List ℕ
 index_of t = index_below t (count_of t)
 
--- what a search by the index asks of a caller
-pub record Indexed (t : Bytes) (index : List ℕ) : Type 0 where
-  pub formed : in_form t ≡ true
-  pub indexed : index ≡ index_of t
-
 -- what `marks_closed` asks of a caller: place i refers to lower places only, and the mask of the lower places that are interpreted is known
 pub record Lower (t : Bytes) (i references marked : ℕ) : Type 0 where
   pub lower : references / 2 ^ i ≡ 0

@@ -8,6 +8,7 @@ use crate::{
     COUNT_OFFSET, MARK_OFFSET, OWNERS_OFFSET, REFERENCES_OFFSET, REQUESTS_OFFSET, RETIRED_OFFSET,
     ROW_SIZE, ROWS_OFFSET, SEQUENCE_OFFSET, SITE_OFFSET, TableBytes,
 };
+use block::{Digest, REFERENCE_SIZE};
 
 pub fn sites_of(table: &TableBytes) -> u8
     ensures { result ≡ (setup_of table.now).sites }
@@ -41,12 +42,12 @@ pub fn count_of(table: &TableBytes) -> usize
     usize::from(table[COUNT_OFFSET])
 }
 
-pub fn digest_at(table: &TableBytes, i: usize) -> &[u8]
+pub fn digest_at(table: &TableBytes, i: usize) -> &Digest
     requires { i < max_places }
     ensures { result.now ≡ digest_at table.now i }
 {
     let at = ROWS_OFFSET + ROW_SIZE * i;
-    &table[at..at + block::REFERENCE_SIZE]
+    table[at..at + REFERENCE_SIZE].as_array().unwrap()
 }
 
 pub fn site_at(table: &TableBytes, i: usize) -> u8

@@ -2,7 +2,6 @@
 ghost use Rattle.std.specs.Prelude.{◌≡◌, suc, ◌+◌, ◌*◌, ◌≤◌, ◌<◌, length};
 ghost use Rattle.base.specs.Bytes.{splice};
 ghost use Rattle.setup.specs.Setup.{slot_count};
-ghost use Rattle.block.specs.Limits.{reference_size};
 ghost use Rattle.table.specs.View.{max_places};
 ghost use Rattle.table.specs.Layout.{count_of, row_size, row_bytes, with_row, with_mark};
 ghost use Rattle.table.specs.Writing.{without_row};
@@ -12,7 +11,7 @@ use crate::{
     COUNT_OFFSET, MARK_OFFSET, REFERENCES_OFFSET, REQUESTS_OFFSET, ROW_SIZE, ROWS_OFFSET,
     SEQUENCE_OFFSET, SITE_OFFSET, TableBytes, rows,
 };
-use block::requests;
+use block::{Digest, requests};
 use setup::SLOTS;
 
 // Puts the counted request of each slot, out of a request list, two bytes each from index `at` on.
@@ -30,13 +29,13 @@ fn put_requests(table: &mut [u8], at: usize, list: &[u8])
 fn write_row(
     table: &mut [u8],
     at: usize,
-    digest: &[u8],
+    digest: &Digest,
     site: u8,
     sequence: u16,
     references: u64,
     requests: &[u8],
 )
-    requires { (at + row_size ≤ length table.old) × (length digest.now ≡ reference_size) }
+    requires { at + row_size ≤ length table.old }
     ensures { table.new ≡ splice table.old at (row_bytes (new_row digest.now site sequence references requests.now)) }
 {
     base::put(table, at, digest);
@@ -50,13 +49,13 @@ fn write_row(
 // Puts an uninterpreted row at the next place, and makes the count one more.
 pub fn put_row(
     table: &mut TableBytes,
-    digest: &[u8],
+    digest: &Digest,
     site: u8,
     sequence: u16,
     references: u64,
     requests: &[u8],
 )
-    requires { (count_of table.old < max_places) × (length digest.now ≡ reference_size) }
+    requires { count_of table.old < max_places }
     ensures { table.new ≡ with_row table.old (new_row digest.now site sequence references requests.now) }
 {
     let place = rows::count_of(table);

@@ -1,15 +1,15 @@
 -- The ways out of the call, one law each. Assumes nothing.
 use mathlib.Core.Path.{◌≡◌, refl}
 use mathlib.Core.Bool.{true, false}
-use mathlib.Core.Logic.{◌≢◌}
 use Prim.Native.Nat.{ℕ, suc, ◌-◌}
 use native.Mathlib.Omega.{arith}
 use lib.Dec.{eqb}
-use borrow.Author.Tests.{ne_eqb, lt-ltb}
+use borrow.Author.Tests.{lt-ltb}
 use Rattle.base.specs.Bytes.{Bytes}
 use Rattle.answer.specs.declared.Answer.{Answer}
 use Rattle.answer.specs.Checks.{success, refused, answer_to}
-use Rattle.table.specs.Layout.{count_of, mark_at}
+use Rattle.table.specs.View.{interpreted}
+use Rattle.table.specs.Layout.{count_of, row_at}
 use Rattle.table.specs.Writing.{without_row}
 use Rattle.table.specs.Form.{in_form}
 use Rattle.take_back.specs.TakingBack.{taking_back, taken_back}
@@ -35,14 +35,14 @@ module _ (t : Bytes) where
       last_is : count_of t - 1 ≡ last
       last_is = omega arith
 
-      pub out33 : mark_at t last ≡ 1 → Out (refused 33 0) t
+      pub out33 : interpreted (row_at t last) ≡ true → Out (refused 33 0) t
       unfolding taking_back answer_to
       out33 m = out_refuses 33 refl (rw (f, lt-ltb 0 (count_of t) (omega arith), last_is, m))
 
-      out_passes : mark_at t last ≢ 1 → success 0 ≡ taking_back t
+      out_passes : interpreted (row_at t last) ≡ false → success 0 ≡ taking_back t
       unfolding taking_back answer_to
-      out_passes n = rw (f, lt-ltb 0 (count_of t) (omega arith), last_is, ne_eqb (mark_at t last) 1 n)
+      out_passes n = rw (f, lt-ltb 0 (count_of t) (omega arith), last_is, n)
 
-      pub out0 : mark_at t last ≢ 1 → (t' : Bytes) → t' ≡ without_row t → Out (success 0) t'
+      pub out0 : interpreted (row_at t last) ≡ false → (t' : Bytes) → t' ≡ without_row t → Out (success 0) t'
       unfolding taken_back
       out0 n t' e = let p = out_passes n in (p, rw (← p) e)

@@ -22,7 +22,7 @@ pub fn take_back(table: &mut [u8]) -> Result<(), Refusal>
     let Some(last) = rows::count_of(table).checked_sub(1) else {
         return Err(Refusal::NothingHeld);
     };
-    if rows::mark_at(table, last) == 1 {
+    if rows::is_interpreted(table, last) {
         return Err(Refusal::LastInterpreted);
     }
     table::writing::clear_last(table, last);

@@ -1,35 +1,31 @@
 -- `enter` meets its contract: it refuses and leaves the table, or puts the row. Assumes nothing.
 use mathlib.Core.Path.{◌≡◌, refl, sym, ap, ◌∙◌}
-use Prim.Native.Nat.{ℕ, ◌/◌, ◌<◌}
+use Prim.Native.Nat.{ℕ, ◌<◌}
 use native.Mathlib.Omega.{arith}
-use lib.ListN.{length}
 use borrow.Author.Tests.{ne_eqb, ltb-true}
 use Rattle.std.specs.Prelude.{Err}
-use Rattle.base.specs.Search.{below}
 use Rattle.base.specs.Mask.{in_mask}
 use Rattle.base.specs.Bytes.{Bytes}
 use Rattle.sha256.specs.Sha256.{sha256}
-use Rattle.sha256.proofs.Promises.{sha256_length}
 use Rattle.answer.proofs.Checks.{number_of}
 use Rattle.answer.specs.Refusals.{refusal_number, answer_of}
 use Rattle.answer.specs.declared.Refusal.{Refusal}
 use Rattle.answer.proofs.Refusals.{numbered}
 use Rattle.answer.specs.Promises.{elsewhere, different}
 use Rattle.answer.proofs.Promises.{all_passed}
-use Rattle.block.specs.Limits.{reference_size}
 use Rattle.block.specs.Layout.{site_of, sequence_of, reference_list, request_list, requests_in, counted_request}
 use Rattle.block.specs.Promises.{Shaped}
 use Rattle.block.specs.declared.Fields.{Fields}
 use Rattle.table.specs.View.{max_places, SameRow}
 use Rattle.table.specs.Layout.{count_of, view_of, with_row}
-use Rattle.table.specs.Steps.{Indexed, new_row}
+use Rattle.table.specs.Steps.{new_row}
 use Rattle.table.proofs.AddedRow.{put_same}
 use Rattle.admission.specs.Admission.{row_for, held_checks}
 use Rattle.admission.specs.declared.held.Found.{Found}
-use Rattle.admission.specs.Steps.{LookedUp, first_missing, places_listed, held_answer, entered}
+use Rattle.admission.specs.Steps.{places_listed, held_answer, entered}
 use Rattle.admission.proofs.HeldReferences.{listed}
 use Rattle.admission.proofs.enter.Goals as goal
-use Rattle.admission.proofs.enter.Goals.{After-digest-digest, After-index_of-index}
+use Rattle.admission.proofs.enter.Goals.{After-digest-digest}
 
 -- where nothing is refused there is room
 room : (t b : Bytes) → (held_answer t b).refusal ≡ 0 → count_of t < max_places
@@ -41,15 +37,6 @@ module _ (t b : Bytes) (shape : Shaped b) (list : Bytes) (el : list ≡ referenc
     (er : found.places ≡ places_listed t (count_of t) list) where
   places : found.places ≡ places_listed t (count_of t) (reference_list b)
   places = er ∙ ap (places_listed t (count_of t)) el
-
-  ready : (index : Bytes) → Indexed t index → found.missing ≡ below (length list / reference_size) (first_missing (view_of t) (count_of t) list) → LookedUp t index b found
-  ready index i e =
-      record {
-        indexed = i;
-        shaped = shape;
-        places = places;
-        missing = e ∙ ap (λ (x : Bytes). below (length x / reference_size) (first_missing (view_of t) (count_of t) x)) el;
-      }
 
   module _ (d requests : Bytes) (site sequence : ℕ) (ed : d ≡ sha256 b) (eq : requests ≡ request_list b) (es : site ≡ site_of b) (en : sequence ≡ sequence_of b) where
     same_row : SameRow (new_row d site sequence found.places requests) (row_for sha256 (view_of t) b)
@@ -75,26 +62,13 @@ table_left t b refusal e = rw (← e, ne_eqb (refusal_number refusal) 0 (λ z. o
 hashed : (c : After-digest-digest) → c.digest-digest.result ≡ sha256 c.args.block.now
 hashed c = c.digest-digest.ensures ∙ ap sha256 c.bytes.ensures.bytes
 
-indexed : (c : After-index_of-index) → Indexed c.args.table.now c.index_of-index.result
-indexed c = record { formed = c.requires.0; indexed = c.index_of-index.ensures }
-
-pub held_answer-requires : goal.held_answer-requires
-held_answer-requires c =
-    (ready _ _ c.references.ensures.shape _ c.references.ensures.list _ c.look_up-found.ensures.places_value _ (indexed (goal.at.held_answer-requires c).After-index_of-index) c.look_up-found.ensures.missing_value, hashed (goal.at.held_answer-requires c).After-digest-digest)
-
 pub returns-in_err-place-clause-table_after : goal.returns-in_err-place-clause-table_after
-returns-in_err-place-clause-table_after c = table_left _ _ _ c.in_err-place.ensures
+returns-in_err-place-clause-table_after c = table_left _ _ _ (rw c.new-index.ensures at c.in_err-place.ensures)
 
 pub put_row-requires : goal.put_row-requires
-put_row-requires c = (room _ _ (number_of (sym c.in_ok-place.ensures)), ap length c.digest-digest.ensures ∙ sha256_length _)
+put_row-requires c = room _ _ (number_of (sym (rw c.new-index.ensures at c.in_ok-place.ensures)))
 
 pub returns-clause-table_after : goal.returns-clause-table_after
 returns-clause-table_after c =
-    table_entered _ _ c.references.ensures.shape _ c.references.ensures.list c.look_up-found.result c.look_up-found.ensures.places_value _ _ _ _ (hashed (goal.at.returns-clause-table_after c).After-digest-digest) c.requests.ensures.list
-    (ap (λ (x : Fields). x.site) c.requires.1) (ap (λ (x : Fields). x.sequence) c.requires.1) _ (number_of c.in_ok-place.ensures) c.put_row.ensures
-
-pub index_of-index-requires : goal.index_of-index-requires
-index_of-index-requires c = c.requires.0
-
-pub look_up-found-requires : goal.look_up-found-requires
-look_up-found-requires c = indexed (goal.at.look_up-found-requires c).After-index_of-index
+    table_entered _ _ c.references.ensures.shape _ c.references.ensures.list c.look_up-found.result (rw c.new-index.ensures at c.look_up-found.ensures.places_value) _ _ _ _ (hashed (goal.at.returns-clause-table_after c).After-digest-digest) c.requests.ensures.list
+    (ap (λ (x : Fields). x.site) c.requires.1) (ap (λ (x : Fields). x.sequence) c.requires.1) _ (number_of (rw c.new-index.ensures at c.in_ok-place.ensures)) c.put_row.ensures

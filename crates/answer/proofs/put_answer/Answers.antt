@@ -12,9 +12,6 @@ fits i n h = omega arith
 lost : (i n : ℕ) → n / 2 ≤ i → n < 2 * i + 2
 lost i n h = omega arith
 
-pub put-requires : goal.put-requires
-put-requires c = fits _ _ c.if-i-answers.true
-
 pub returns-then-i-answers : goal.returns-then-i-answers
 unfolding put_answer
 returns-then-i-answers c = rw (le-leb _ _ (fits _ _ c.if-i-answers.true), ← c.from.ensures) c.put.ensures

@@ -4,8 +4,7 @@ use mathlib.Core.Bool.{false}
 use mathlib.Core.List.{[]}
 use Prim.Native.Nat.{ℕ, ◌+◌, ◌*◌, ◌≤◌, ◌<◌}
 use native.Mathlib.Omega.{arith}
-use lib.ListN.{length, drop, length-drop}
-use lib.Seq.{length-take-le}
+use lib.ListN.{length}
 use borrow.Author.Tests.{le-leb, lt-leb}
 use Rattle.std.specs.Prelude.{Ok, Err}
 use Rattle.std.proofs.lemmas.Result.{err_from_is_err_and}
@@ -47,10 +46,6 @@ module _ (b o : Bytes) (i : ℕ) where
           let read_as = reading_accepted b f (sym e) in
           omega (arith, ap (λ (x : Fields). x.references) read_as.fields, ap length l ∙ reference_list_length b read_as.accepted.shape)
 
-      -- a reference that is there is as long as a digest
-      size : (d : Bytes) → d ≡ reference_at list i → length d ≡ reference_size
-      size d ed = ap length ed ∙ length-take-le reference_size (drop (reference_size * i) list) (omega (arith, within, length-drop (reference_size * i) list))
-
       way_there : (d o' : Bytes) (a : Answer) → d ≡ reference_at list i → a ≡ digest_answer o → o' ≡ put_output d o
           → (a ≡ reference_answer b i o) × (o' ≡ reference_output b i o)
       unfolding reference_answer reference_output
@@ -81,10 +76,6 @@ returns-then-fields-index c = let w = way_none _ _ _ _ (rw c.in-Some.ensures.0 a
 pub reference-requires : goal.reference-requires
 reference-requires c =
     within _ [] _ _ (rw c.in-Some.ensures.0 at c.in_ok-fields.ensures) c.if-fields-index.false _ (rw c.in-Some.ensures.0 at c.references.ensures.list)
-
-pub put_digest-requires : goal.put_digest-requires
-put_digest-requires c =
-    size _ [] _ _ (rw c.in-Some.ensures.0 at c.in_ok-fields.ensures) c.if-fields-index.false _ (rw c.in-Some.ensures.0 at c.references.ensures.list) _ c.reference.ensures
 
 pub returns : goal.returns
 returns c = let w = way_there _ _ _ _ (rw c.in-Some.ensures.0 at c.in_ok-fields.ensures) c.if-fields-index.false _ (rw c.in-Some.ensures.0 at c.references.ensures.list)

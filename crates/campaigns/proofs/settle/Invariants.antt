@@ -6,7 +6,7 @@ use Rattle.campaigns.proofs.LoopInvariants.{PassesInvariant}
 use Rattle.campaigns.proofs.settle.Given as goal
 
 abbrev pub invariant-loop-campaign : goal.invariant-loop-campaign
-invariant-loop-campaign l = PassesInvariant l.campaign l.initial.table l.initial.shelf l.initial.outcomes l.table l.shelf l.outcomes l.ended true
+invariant-loop-campaign l = PassesInvariant l.campaign l.initial.table l.initial.shelf.bytes l.initial.outcomes l.table l.shelf.bytes l.outcomes l.ended true
 
 abbrev pub decreases-loop-campaign : goal.decreases-loop-campaign
-decreases-loop-campaign l = length (waiting_in l.shelf)
+decreases-loop-campaign l = length (waiting_in l.shelf.bytes.now)

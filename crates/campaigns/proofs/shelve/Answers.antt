@@ -7,5 +7,5 @@ use Rattle.campaigns.proofs.shelve.Goals as goal
 
 pub put_on-requires : goal.put_on-requires
 put_on-requires c =
-    let free = place_free c.args.campaign (waiting_in c.args.shelf.now) (sym c.has_place.ensures ∙ c.if-not-has_place.false) in
-    (c.requires.laid, omega (arith, free.1), c.requires.short)
+    let free = place_free c.args.campaign (waiting_in c.args.shelf.now.bytes.now) (sym c.has_place.ensures ∙ c.if-not-has_place.false) in
+    (omega (arith, free.1), c.requires (sym c.waits_on.ensures ∙ c.if-not-waits_on.false))

@@ -11,13 +11,13 @@ use Rattle.interpret.proofs.list_places.Goals as goal
 use Rattle.interpret.proofs.list_places.Goals.{then-in_mask, else-in_mask, After-in_mask}
 
 pub loop-j-init : goal.loop-j-init
-loop-j-init c = put_start _ _ c.requires.1
+loop-j-init c = put_start _ _ c.told-list
 
 -- a place that is listed has room
 has_room : (c : After-in_mask) → c.in_mask.result ≡ true → c.loop-j.count < max_references
 has_room c e =
     let l = c.loop-j in
-    omega (arith, l.invariant.counted, room (in_mask c.args.references) l.j max_places max_references (omega arith) (sym c.in_mask.ensures ∙ e) c.requires.2)
+    omega (arith, l.invariant.counted, room (in_mask c.args.references) l.j max_places max_references (omega arith) (sym c.in_mask.ensures ∙ e) c.requires.1)
 
 pub loop-j-preserved : goal.loop-j-preserved
 loop-j-preserved c =

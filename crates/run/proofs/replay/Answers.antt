@@ -1,10 +1,7 @@
 use mathlib.Core.Path.{ap}
 use Rattle.run.specs.Run.{Site}
-use Rattle.run.proofs.ReplayInvariant.{starts, finished, fewer, goes_on}
+use Rattle.run.proofs.ReplayInvariant.{finished, fewer, goes_on}
 use Rattle.run.proofs.replay.Goals as goal
-
-pub loop-call-init : goal.loop-call-init
-loop-call-init c = starts _ _ _
 
 pub loop-call-smaller : goal.loop-call-smaller
 loop-call-smaller c = let s = c.in-Some.ensures in fewer _ _ _ _ _ _ _ c.loop-call.invariant s.0 _ _ s.1 s.2

@@ -34,10 +34,10 @@ returns-in_default-checked_sub c =
       table_after = rw (← c.in-Some.ensures.table.0) w.1;
     }
 
-pub returns-then-mark_at-eq1 : goal.returns-then-mark_at-eq1
-returns-then-mark_at-eq1 c =
-    let at = goal.at.returns-then-mark_at-eq1 c in
-    let w = out33 _ (formed at.In-Some) _ (counted at.In-Some-checked_sub) (sym c.mark_at.ensures ∙ c.if-mark_at-eq1.true) in record {
+pub returns-then-is_interpreted : goal.returns-then-is_interpreted
+returns-then-is_interpreted c =
+    let at = goal.at.returns-then-is_interpreted c in
+    let w = out33 _ (formed at.In-Some) _ (counted at.In-Some-checked_sub) (sym c.is_interpreted.ensures ∙ c.if-is_interpreted.true) in record {
       value = rw (← c.in-Some.ensures.table.0) w.0;
       table_after = rw (← c.in-Some.ensures.table.0) w.1;
     }
@@ -45,13 +45,13 @@ returns-then-mark_at-eq1 c =
 pub returns : goal.returns
 returns c =
     let at = goal.at.returns c in
-    let w = out0 _ (formed at.In-Some) _ (counted at.In-Some-checked_sub) (λ q. c.if-mark_at-eq1.false (c.mark_at.ensures ∙ q)) _ c.clear_last.ensures in record {
+    let w = out0 _ (formed at.In-Some) _ (counted at.In-Some-checked_sub) (sym c.is_interpreted.ensures ∙ c.if-is_interpreted.false) _ c.clear_last.ensures in record {
       value = rw (← c.in-Some.ensures.table.0) w.0;
       table_after = rw (← c.in-Some.ensures.table.0) w.1;
     }
 
-pub mark_at-requires : goal.mark_at-requires
-mark_at-requires c = place (goal.at.mark_at-requires c).In-Some-checked_sub
+pub is_interpreted-requires : goal.is_interpreted-requires
+is_interpreted-requires c = place (goal.at.is_interpreted-requires c).In-Some-checked_sub
 
 pub clear_last-requires : goal.clear_last-requires
 clear_last-requires c = let at = goal.at.clear_last-requires c in (counted at.In-Some-checked_sub, place at.In-Some-checked_sub)

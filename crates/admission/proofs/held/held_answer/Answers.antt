@@ -34,7 +34,7 @@ record Behind (t b : Bytes) (k : ℕ) (rule : Bool) : Type 0 where
   way11 : rule ≡ true → max_places ≤ k → refused 11 0 ≡ held_answer t b
   way0 : rule ≡ true → k < max_places → success k ≡ held_answer t b
 
-module _ (t index b d : Bytes) (found : Found) (ready : LookedUp t index b found) (ed : d ≡ sha256 b) where
+module _ (t b d : Bytes) (found : Found) (ready : LookedUp t b found) (ed : d ≡ sha256 b) where
   -- the search for the digest, and the first missing reference
   at_place : (o : Option ℕ) → o ≡ below (count_of t) (place_of (view_of t) (count_of t) d) → o ≡ found_below (has_digest (view_of t) (sha256 b)) (count_of t)
   at_place o e = e ∙ ap (λ (x : Bytes). found_below (has_digest (view_of t) x) (count_of t)) ed
@@ -83,18 +83,18 @@ module _ (t index b d : Bytes) (found : Found) (ready : LookedUp t index b found
           }
 
 -- the ways out behind the parent rule, from where it was asked
-behind : (c : After-parent_rule) → Behind c.args.table.now c.args.block.now c.count_of-k.result c.parent_rule.result
+behind : (c : After-parent_rule) → Behind c.args.index.now.table.now c.args.block.now c.count_of-k.result c.parent_rule.result
 behind c =
-    ways _ _ _ _ _ c.requires.0 c.requires.1 c.in_default.ensures c.in_default-missing.is _ _ _ _ c.count_of-k.ensures c.site.ensures c.sequence.ensures c.parent_rule.ensures
+    ways _ _ _ _ c.requires.0 c.requires.1 c.in_default.ensures c.in_default-missing.is _ _ _ _ c.count_of-k.ensures c.site.ensures c.sequence.ensures c.parent_rule.ensures
 
 pub returns-in-Some : goal.returns-in-Some
-returns-in-Some c = way8 _ _ _ _ _ c.requires.0 c.requires.1 _ c.in-Some.ensures
+returns-in-Some c = way8 _ _ _ _ c.requires.0 c.requires.1 _ c.in-Some.ensures
 
 pub returns-in-Some-missing : goal.returns-in-Some-missing
-returns-in-Some-missing c = way9 _ _ _ _ _ c.requires.0 c.requires.1 c.in_default.ensures _ c.in-Some-missing.is
+returns-in-Some-missing c = way9 _ _ _ _ c.requires.0 c.requires.1 c.in_default.ensures _ c.in-Some-missing.is
 
 pub parent_rule-requires : goal.parent_rule-requires
-parent_rule-requires c = rw c.count_of-k.ensures (formed_places _ c.requires.0.indexed.formed)
+parent_rule-requires c = rw c.count_of-k.ensures (formed_places _ c.args.index.now.formed)
 
 pub returns-then-not-parent_rule : goal.returns-then-not-parent_rule
 returns-then-not-parent_rule c = (behind (goal.at.returns-then-not-parent_rule c).After-parent_rule).way10 c.if-not-parent_rule.true

@@ -29,28 +29,28 @@ or_none None = refl
 or_none (Some x) = refl
 
 pub loop-i-init : goal.loop-i-init
-loop-i-init c = let t = c.args.table.now in (some_none (names t c.args.list.now) _, found_none (absent t (count_of t) c.args.list.now) 0 (first_none _))
+loop-i-init c = let t = c.args.index.now.table.now in (some_none (names t c.args.list.now) _, found_none (absent t (count_of t) c.args.list.now) 0 (first_none _))
 
 pub overflow_shl-places : goal.overflow_shl-places
 overflow_shl-places c =
-    let t = c.args.table.now in
-    omega (arith, formed_places t c.requires.formed, (here t c.args.list.now _ c.loop-i.i c.reference.ensures _ c.in-Some.ensures).0)
+    let t = c.args.index.now.table.now in
+    omega (arith, formed_places t c.args.index.now.formed, (here t c.args.list.now _ c.loop-i.i c.reference.ensures _ c.in-Some.ensures).0)
 
 pub loop-i-preserved : goal.loop-i-preserved
 loop-i-preserved c =
     let l = c.loop-i in
-    let t = c.args.table.now in
+    let t = c.args.index.now.table.now in
     let list = c.args.list.now in
     let more = found_step (absent t (count_of t) list) l.i in
     elim c.match-find.branch [
       | in-Some w ↦
           let h = here t list _ l.i c.reference.ensures _ w.in-Some.ensures in (
-            w.places-is ∙ ap (λ (m : ℕ). bit_or m (1 * 2 ^ w.in-Some.place % 2 ^ 64)) l.invariant.0 ∙ named_put t list l.i _ c.requires.formed h.1 h.0,
+            w.places-is ∙ ap (λ (m : ℕ). bit_or m (1 * 2 ^ w.in-Some.place % 2 ^ 64)) l.invariant.0 ∙ named_put t list l.i _ c.args.index.now.formed h.1 h.0,
             w.missing-is ∙ l.invariant.1 ∙ sym (rw (is_there t (count_of t) list l.i _ h.1 h.0) at more ∙ or_none _),
           )
       | in-None w ↦
           let h = nowhere t list _ l.i c.reference.ensures w.in-None.ensures in (
-            w.places-is ∙ l.invariant.0 ∙ named_skip t list l.i _ c.requires.formed refl h,
+            w.places-is ∙ l.invariant.0 ∙ named_skip t list l.i _ c.args.index.now.formed refl h,
             w.missing-is ∙ w.or-missing.ensures ∙ ap (λ (o : Option ℕ). option_or o (Some l.i)) l.invariant.1 ∙ sym (rw (is_absent t (count_of t) list l.i _ refl h) at more),
           )
     ]

@@ -8,4 +8,4 @@ use Rattle.admission.proofs.held.look_up.Given as goal
 
 abbrev pub invariant-loop-i : goal.invariant-loop-i
 invariant-loop-i l =
-    (l.places ≡ named_by l.table (count_of l.table) l.list l.i) × (l.missing ≡ found_below (absent l.table (count_of l.table) l.list) l.i)
+    (l.places ≡ named_by l.index.table.now (count_of l.index.table.now) l.list l.i) × (l.missing ≡ found_below (absent l.index.table.now (count_of l.index.table.now) l.list) l.i)

@@ -1,11 +1,8 @@
 use native.Mathlib.Omega.{arith}
-use mathlib.Core.Path.{refl, sym, ap, ◌∙◌}
+use mathlib.Core.Path.{sym, ap, ◌∙◌}
 use Rattle.block.specs.declared.Request.{Request}
 use Rattle.block.proofs.Counting.{here, past, none}
 use Rattle.block.proofs.requests.counted_request.Goals as goal
-
-pub loop-i-init : goal.loop-i-init
-loop-i-init c = refl
 
 pub returns-then-q-slot : goal.returns-then-q-slot
 returns-then-q-slot c =

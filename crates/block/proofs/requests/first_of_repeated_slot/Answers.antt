@@ -7,7 +7,7 @@ use lib.ListN.{length}
 use Rattle.base.specs.Search.{any_below}
 use Rattle.base.specs.Mask.{in_mask}
 use Rattle.base.specs.Bytes.{Bytes}
-use Rattle.base.proofs.Search.{first_none, first_past, first_before, found_first, found_none}
+use Rattle.base.proofs.Search.{first_none, first_past, first_before, found_first}
 use Rattle.base.proofs.Sets.{mask_has, some_none, some_put}
 use Rattle.setup.specs.Setup.{slot_count}
 use Rattle.block.specs.Limits.{request_size}
@@ -64,8 +64,3 @@ in_mask-requires c = omega (arith, within (goal.at.in_mask-requires c).After-fro
 
 pub overflow_shl-met : goal.overflow_shl-met
 overflow_shl-met c = omega (arith, within (goal.at.overflow_shl-met c).After-from-slot)
-
-pub returns : goal.returns
-returns c =
-    let e : c.loop-i.i ≡ length c.args.list.now / request_size = omega arith in
-    found_none _ _ (rw e at c.loop-i.invariant.2)

@@ -1,4 +1,4 @@
-use mathlib.Core.Path.{◌≡◌, sym, ap, ◌∙◌}
+use mathlib.Core.Path.{sym, ap, ◌∙◌}
 use mathlib.Core.Bool.{Bool}
 use Prim.Native.Nat.{ℕ, ◌*◌, ◌%◌, ◌^◌}
 use native.Mathlib.Omega.{arith}
@@ -26,6 +26,3 @@ loop-p-preserved c =
       | then-heard-from w ↦ w.mask-is ∙ ap (λ (x : ℕ). bit_or x (1 * 2 ^ l.p % 2 ^ 16)) l.invariant ∙ mask_put 16 f l.p (omega arith) (at ∙ eq-eqb _ _ w.if-heard-from.true)
       | else-heard-from w ↦ w.mask-is ∙ l.invariant ∙ mask_skip f l.p (at ∙ ne_eqb _ _ w.if-heard-from.false)
     ]
-
-pub returns : goal.returns
-returns c = let l = c.loop-p in let e : l.p ≡ c.args.n = omega arith in rw e at l.invariant

@@ -6,7 +6,7 @@ use Rattle.campaigns.proofs.LoopInvariants.{PassInvariant}
 use Rattle.campaigns.proofs.passing.pass_over.Given as goal
 
 abbrev pub invariant-loop-p : goal.invariant-loop-p
-invariant-loop-p l = PassInvariant l.campaign l.initial.table l.initial.shelf l.initial.outcomes l.initial.p l.table l.shelf l.outcomes l.p
+invariant-loop-p l = PassInvariant l.campaign l.initial.table l.initial.shelf.bytes l.initial.outcomes l.initial.p l.table l.shelf.bytes l.outcomes l.p
 
 abbrev pub decreases-loop-p : goal.decreases-loop-p
-decreases-loop-p l = length (waiting_in l.shelf) - l.p.at
+decreases-loop-p l = length (waiting_in l.shelf.bytes.now) - l.p.at

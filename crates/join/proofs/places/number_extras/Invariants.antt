@@ -3,4 +3,4 @@ use Rattle.join.proofs.PlaceLists.{NumberedBelow}
 use Rattle.join.proofs.places.number_extras.Given as goal
 
 abbrev pub invariant-loop-j : goal.invariant-loop-j
-invariant-loop-j l = NumberedBelow l.left l.right l.j l.next l.places
+invariant-loop-j l = NumberedBelow l.matched.left.now l.matched.right.now l.j l.next l.places

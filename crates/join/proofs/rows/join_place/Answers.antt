@@ -14,7 +14,6 @@ use Rattle.join.proofs.rows.join_place.Goals.{Else-count_of-place, Then-count_of
 
 pub bounds-places-j : goal.bounds-places-j
 bounds-places-j c =
-    let h = c.requires.numbered.size in
     let l = right_place _ _ _ _ c.requires in
     search rules
 

@@ -4,12 +4,10 @@ use mathlib.Core.Logic.{◌≢◌}
 use Prim.Native.Nat.{◌<◌}
 use native.Mathlib.Omega.{arith}
 use lib.ListN.{length}
-use Rattle.base.proofs.Tests.{true_not_false}
 use Rattle.answer.specs.Refusals.{refusal_number}
 use Rattle.answer.specs.declared.Refusal.{Refusal}
 use Rattle.answer.proofs.Refusals.{numbered}
 use Rattle.block.specs.Promises.{Shaped}
-use Rattle.block.proofs.Shape.{well_shaped_lem}
 use Rattle.table.specs.View.{max_places}
 use Rattle.records.specs.Layout.{buffer_size}
 use Rattle.run.specs.Run.{Site}
@@ -61,8 +59,8 @@ size_and_place c =
 pub unreachable-requires : goal.unreachable-requires
 unreachable-requires c = c.in_default-as_array.ensures.cases (size_and_place (goal.at.unreachable-requires c).In_default).0
 
-pub unreachable-requires-in_default-new : goal.unreachable-requires-in_default-new
-unreachable-requires-in_default-new c = true_not_false (well_shaped_lem _ (shape (goal.at.unreachable-requires-in_default-new c).In_default)) c.in_default-new.ensures
+pub tested-shaped-requires : goal.tested-shaped-requires
+tested-shaped-requires c = shape (goal.at.tested-shaped-requires c).In_default
 
 pub delivery_lines-requires : goal.delivery_lines-requires
 delivery_lines-requires c = (size_and_place (goal.at.delivery_lines-requires c).In_default).1
@@ -73,7 +71,7 @@ returns c =
     let x = site (goal.at.returns c).Start in
     let e = c.in-Ok.ensures in
     let i = c.in_default.ensures in record {
-      value = c.delivery_lines.ensures ∙ rw (c.site.ensures, c.sequence.ensures, c.in-Some-new.ensures.0, c.in-Some.ensures.cases.same)
+      value = c.delivery_lines.ensures ∙ rw (c.site.ensures, c.sequence.ensures, c.tested-shaped.ensures, c.in-Some.ensures.cases.same)
           (delivered_lines x a.block.now a.verdict a.arrival _ _ e.value e.table_after refl _ _ _ i.value i.table_after i.records_after refl);
       table_after = taken_table x a.block.now a.verdict a.arrival _ _ e.value e.table_after refl _ _ _ i.value i.table_after i.records_after;
       records_after = taken_records x a.block.now a.verdict a.arrival _ _ e.value e.table_after refl _ _ _ i.value i.table_after i.records_after;

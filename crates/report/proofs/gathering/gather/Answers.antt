@@ -8,7 +8,7 @@ use Rattle.base.specs.Bytes.{Bytes, splice}
 use Rattle.run.specs.Run.{Site}
 use Rattle.report.specs.Gathering.{lent_site, Gathering, is_due, gathered_of}
 use Rattle.report.specs.declared.Gathered.{Gathered}
-use Rattle.report.proofs.GatheringStep.{so_far, leads_start, leads_end, leads_less, leads_next, same_size, has_room}
+use Rattle.report.proofs.GatheringStep.{so_far, leads_start, leads_end, leads_less, leads_next, has_room}
 use Rattle.report.proofs.Appending.{Put}
 use Rattle.report.proofs.gathering.gather.Goals as goal
 use Rattle.report.proofs.gathering.gather.Goals.{At-loop-table, In-loop-table}
@@ -32,12 +32,6 @@ loop-table-init c =
 
 abbrev site : At-loop-table → Site
 site c = lent_site c.args.table.now c.args.records.now
-
-size_at : (c : At-loop-table) → length c.loop-table.output ≡ length c.args.output.now
-size_at c =
-    let a = c.args in
-    let l = c.loop-table in
-    same_size a.unread.now a.is_ended a.output.now a.state (site c) l.table l.records l.output l.done l.invariant.0
 
 -- a step that is made is due
 due_at : (c : In-loop-table) → let a = c.args in let l = c.loop-table in
@@ -80,15 +74,3 @@ returns c = let a = c.args in
       records_after = w.1.1.0;
       output_after = w.1.1.1;
     }
-
-pub is_due-requires : goal.is_due-requires
-is_due-requires c = (c.loop-table.invariant.0.within, rw (size_at (goal.at.is_due-requires c).At-loop-table) c.loop-table.invariant.0.fits)
-
-pub shape_of-table : goal.shape_of-table
-shape_of-table c = c.loop-table.invariant.1
-
-pub shape_of-records : goal.shape_of-records
-shape_of-records c = c.loop-table.invariant.2
-
-pub shape_of-output : goal.shape_of-output
-shape_of-output c = size_at (goal.at.shape_of-output c).At-loop-table

@@ -4,7 +4,7 @@ use native.Mathlib.Omega.{arith}
 use Prim.Native.Nat.{ℕ, suc, ◌+◌, ◌-◌, ◌<◌, ◌≤◌}
 use mathlib.Core.Path.{◌≡◌, refl, ap, sym, ◌∙◌}
 use mathlib.Core.List.{List, ◌∷◌, ◌++◌}
-use lib.ListN.{length, take, drop, set, length-take, length-drop, length-replicate, replicate-append-replicate}
+use lib.ListN.{length, take, drop, set, length-drop, length-replicate, replicate-append-replicate}
 use lib.Seq.{take_all, drop_at, set_at}
 use Rattle.base.specs.Bytes.{splice}
 use Rattle.sha256.proofs.PaddedMessage.{zs}
@@ -31,17 +31,6 @@ rest m tail out at n a b z e o =
     let l : length (drop at m) ≡ length m - at = length-drop at m in
     let p : take (length m - at) (drop at m) ≡ drop at m = take_all (length m - at) (drop at m) (omega arith) in
     placed (drop at m) out n (omega arith) (e ∙ sym l) (rw (p, z) at o) ∙ rw l
-
--- how long the two blocks stay
-module _ (c : Start) where
-  long : length c.args.tail.now ≡ 128
-  long = ap length c.requires.2
-
-pub put-requires : goal.put-requires
-put-requires c = let l = long (goal.at.put-requires c).Start in simp (length-take, length-drop) (omega arith)
-
-pub bounds-tail-n : goal.bounds-tail-n
-bounds-tail-n c = let l = long (goal.at.bounds-tail-n c).Start in omega (arith, c.put.auto.items, l, c.requires.1)
 
 pub returns : goal.returns
 returns c = rest c.args.message.now c.args.tail.now _ c.args.at _ c.requires.0 c.requires.1 c.requires.2 refl c.put.ensures

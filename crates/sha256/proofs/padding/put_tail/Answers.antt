@@ -1,6 +1,5 @@
 -- `put_tail` meets its contract: the rest of the message, then the length at the end of the last block.
 -- Assumes nothing.
-use native.Mathlib.Omega.{arith}
 use Prim.Native.Nat.{ℕ, ◌-◌, ◌*◌}
 use mathlib.Core.Path.{◌≡◌, ap, ◌∙◌}
 use mathlib.Core.List.{List}
@@ -17,6 +16,3 @@ tail_of m r r' b k er ek eb e = rw (e, er, eb, ek) (tail_is m)
 
 pub returns : goal.returns
 returns c = tail_of c.args.message.now _ _ _ _ c.put_rest.ensures c.tail_blocks-end.ensures (c.to_be_bytes.ensures ∙ eight_bytes _ ∙ ap (bytes_of 8) c.bit_count.ensures) c.put.ensures
-
-pub put-requires : goal.put-requires
-put-requires c = let l : length c.args.tail.now ≡ 128 = ap length c.requires in omega arith

@@ -26,6 +26,3 @@ loop-turn-preserved c =
     let e₂ = more c.args.s _ _ w (t + 1) (t + 2) (omega arith) e₁ c.round_of-v-in-loop-turn.ensures in
     let e₃ = more c.args.s _ _ w (t + 2) (t + 3) (omega arith) e₂ c.round_of-v-in-loop-turn-2.ensures in
     more c.args.s _ _ w (t + 3) (4 * (l.turn + 1)) (omega arith) e₃ c.round_of-v-in-loop-turn-3.ensures
-
-pub returns : goal.returns
-returns c = let e : 4 * c.loop-turn.turn ≡ 64 = omega arith in rw e at c.loop-turn.invariant

@@ -3,10 +3,10 @@ use native.Mathlib.Omega.{arith}
 use Prim.Native.Nat.{ℕ, suc, ◌+◌, ◌-◌, ◌≤◌, ◌<◌}
 use native.Mathlib.Numerals.{add-one}
 use mathlib.Core.Logic.{◌≢◌}
-use mathlib.Core.Path.{◌≡◌, refl, ap, sym, ◌∙◌}
+use mathlib.Core.Path.{◌≡◌, refl}
 use mathlib.Core.List.{List}
 use lib.ListN.{length, take, set, get_or, length-set}
-use lib.Seq.{take-suc-set, get_or-take, get_or-set_same, get_or-set_other, take_all}
+use lib.Seq.{take-suc-set, get_or-take, get_or-set_same, get_or-set_other}
 use Rattle.sha256.specs.Sha256.{next, schedule}
 use Rattle.sha256.proofs.schedule.extend.Goals as goal
 
@@ -38,9 +38,6 @@ newer w t v h =
     let k : t + 1 - 1 ≡ t = omega arith in
     rw (k, get_or-set_same w t v 0 h)
 
-finish : (M w : List ℕ) (t : ℕ) → t ≡ 64 → length w ≡ 64 → take t w ≡ schedule M (t - 16) → w ≡ schedule M 48
-finish M w t e l h = sym (take_all t w (omega arith)) ∙ h ∙ ap (λ (n : ℕ). schedule M (n - 16)) e
-
 pub loop-t-init : goal.loop-t-init
 unfolding schedule
 loop-t-init c = (search rules, refl, refl, refl)
@@ -52,6 +49,3 @@ loop-t-preserved c =
     let v = c.next_of-c.result in
     let n : v ≡ next l.w l.t = rw l.invariant.1 at c.next_of-c.ensures in
     (simp length-set l.invariant.0, older l.w l.t v l.b (omega arith) l.invariant.2, newer l.w l.t v (omega arith), step _ l.w l.t v (omega arith) (omega arith) l.invariant.3 n)
-
-pub returns : goal.returns
-returns c = let l = c.loop-t in finish _ l.w l.t (omega arith) l.invariant.0 l.invariant.3

@@ -6,4 +6,4 @@ use Rattle.sha256.specs.Sha256.{words}
 use Rattle.sha256.proofs.schedule.load.Given as goal
 
 abbrev pub invariant-loop-t : goal.invariant-loop-t
-invariant-loop-t l = (length l.w ≡ 64) × (take l.t l.w ≡ words l.m l.at l.t)
+invariant-loop-t l = (length l.w ≡ 64) × (take l.t l.w ≡ words l.block 0 l.t)

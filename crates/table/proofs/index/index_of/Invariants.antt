@@ -4,4 +4,4 @@ use Rattle.table.specs.Steps.{index_below}
 use Rattle.table.proofs.index.index_of.Given as goal
 
 abbrev pub invariant-loop-j : goal.invariant-loop-j
-invariant-loop-j l = l.index ≡ index_below l.table l.j
+invariant-loop-j l = l.ends ≡ index_below l.table l.j

@@ -38,9 +38,6 @@ loop-i-preserved c =
       omega (arith, l.invariant.1, f.size),
     )
 
-pub push_field-requires : goal.push_field-requires
-push_field-requires c = omega (arith, c.loop-i.invariant.1, c.loop-i-test.true, c.requires)
-
 pub returns : goal.returns
 unfolding line
 returns c =

@@ -1,7 +1,0 @@
--- `copy_extras` meets its contract. The loop's invariant: the parts of the blocks passed that are not in the left are copied. Assumes nothing.
-use mathlib.Core.Path.{◌≡◌}
-use Rattle.join.specs.Steps.{extras_below}
-use Rattle.join.proofs.parts.copy_extras.Given as goal
-
-abbrev pub invariant-loop-j : goal.invariant-loop-j
-invariant-loop-j l = l.third ≡ extras_below l.left.table.now l.right.table.now l.left.records.now l.right.records.now l.initial.third l.j
