@@ -70,10 +70,10 @@ def test_a_wrong_name_in_the_trace_is_found():
 
 def test_every_file_that_a_document_names_exists():
     stored = [f"/{path.relative_to(ROOT)}" for path in ROOT.rglob("*.*") if "target" not in path.parts]
-    port = ROOT / "docs" / "PORT.md"  # tells of the files as they stood after the port
-    for page in [ROOT / "README.md", ROOT / "CONTRIBUTING.md", *sorted(set((ROOT / "docs").glob("*.md")) - {port})]:
+    gone = {"PORT.md": {"proofs/LetElse.antt"}}  # that page tells of the files as they stood after the port
+    for page in [ROOT / "README.md", ROOT / "CONTRIBUTING.md", *sorted((ROOT / "docs").glob("*.md"))]:
         named = set(re.findall(r"`([\w./-]+\.(?:antt|rt|rs|md|py|c|h|sh|txt))`", page.read_text(encoding="utf-8")))
-        missing = sorted(name for name in named if not any(path.endswith(f"/{name}") for path in stored))
+        missing = sorted(name for name in named - gone.get(page.name, set()) if not any(path.endswith(f"/{name}") for path in stored))
         expect(not missing, f"{page.name}: {missing}")
 
 

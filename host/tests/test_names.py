@@ -8,7 +8,7 @@ from programs import ROOT, expect
 # What each crate calls its own promises, the causes of its refusals, and its call's answer.
 OWN = {"Promises", "Causes", "answer"}
 # A definition, and a type of the code, which definitions speak of too.
-DEFINITION = re.compile(r"^ *(?:(?:abbrev|unfoldable) pub|pub (?:record|data)|(?:pub )?(?:struct|enum)) ([^\s:(<]+)", re.MULTILINE)
+DEFINITION = re.compile(r"^ *(?:(?:abbrev|unfoldable) pub|pub (?:record|data)|(?:pub )?(?:struct|enum|type)) ([^\s:(<]+)", re.MULTILINE)
 
 
 def given_twice(sources):

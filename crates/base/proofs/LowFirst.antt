@@ -1,13 +1,13 @@
 -- Laws of numbers and their bytes, the low byte first. Assumes nothing.
 use mathlib.Core.Path.{◌≡◌, refl, ap, ◌∙◌}
-use mathlib.Core.List.{[], ◌∷◌}
+use mathlib.Core.List.{[], ◌∷◌, ◌++◌}
 use Prim.Native.Nat.{ℕ, zero, suc, ◌+◌, ◌*◌, ◌/◌, ◌%◌, ◌^◌, ◌<◌}
 use native.Mathlib.Nat.{mul-suc}
 use native.Mathlib.Numerals.{add-one}
 use native.Mathlib.Omega.{arith}
 use lib.Dec.{lit<}
 use lib.Pow.{pow-add}
-use lib.ListN.{length, get_or, drop}
+use lib.ListN.{length, get_or, drop, replicate}
 use lib.Seq.{drop-cons}
 use Rattle.base.specs.Bytes.{Bytes, AllBytes}
 use Rattle.base.specs.LowFirst.{low_first, low_first_bytes}
@@ -36,6 +36,17 @@ low_first_below (x ∷ b) a = omega (arith, low_first_below b (λ i. a (suc i)),
 pub low_first_drop : (b : Bytes) (i : ℕ) → i < length b → low_first (drop i b) ≡ low_first (drop (i + 1) b) * 256 + get_or b i 0
 unfolding low_first
 low_first_drop b i h = ap low_first (drop-cons b i 0 h) ∙ omega (arith, ap (λ (n : ℕ). low_first (drop n b)) (add-one i))
+
+-- zeros behind the bytes change nothing
+low_first_zeros : (k : ℕ) → low_first (replicate k 0) ≡ 0
+unfolding low_first
+low_first_zeros zero = refl
+low_first_zeros (suc k) = omega (arith, low_first_zeros k)
+
+pub low_first_padded : (b : Bytes) (k : ℕ) → low_first (b ++ replicate k 0) ≡ low_first b
+unfolding low_first
+low_first_padded [] k = low_first_zeros k
+low_first_padded (x ∷ b) k = ap (λ (n : ℕ). x + 256 * n) (low_first_padded b k)
 
 -- the number of a number's bytes
 pub low_first_of_bytes : (k x : ℕ) → x < 2 ^ (8 * k) → low_first (low_first_bytes k x) ≡ x

@@ -33,7 +33,7 @@ pub const MAX_BLOCK_SIZE: usize = HEADER_SIZE
     + MAX_REQUEST_LIST_SIZE;
 
 // A digest, by which a block is referred to.
-pub type Digest = [u8; REFERENCE_SIZE];
+pub type DigestBytes = [u8; REFERENCE_SIZE];
 
 // A slot, and the amendment number that is requested in it.
 #[derive(Clone, Copy, Debug, PartialEq, Eq)]

@@ -6,10 +6,10 @@ ghost use Rattle.block.specs.Layout.{reference_at};
 ghost use Rattle.block.specs.Reading.{reference_repeated_at};
 ghost use Rattle.block.specs.Steps.{first_same, first_repeated};
 
-use crate::{Digest, REFERENCE_SIZE};
+use crate::{DigestBytes, REFERENCE_SIZE};
 
 // Reference i of the list.
-pub fn reference(list: &[u8], i: usize) -> &Digest
+pub fn reference(list: &[u8], i: usize) -> &DigestBytes
     requires { reference_size * i + reference_size ≤ length list.now }
     ensures { result.now ≡ reference_at list.now i }
 {

@@ -2,7 +2,7 @@
 ghost use Rattle.std.specs.Prelude.{◌≡◌, []};
 ghost use Rattle.build.specs.Steps.{with_reference};
 
-use block::{Digest, MAX_REFERENCES, REFERENCE_SIZE};
+use block::{DigestBytes, MAX_REFERENCES, REFERENCE_SIZE};
 use std::marker::Model;
 
 // The digests, one after the other, with room for as many as a block has. In clauses they are their bytes.
@@ -43,7 +43,7 @@ impl References {
     }
 
     // Puts a digest behind the others, if there is room for it.
-    pub fn push(&mut self, digest: &Digest)
+    pub fn push(&mut self, digest: &DigestBytes)
         ensures { self.new ≡ with_reference self.old digest.now }
     {
         let count = self.count;

@@ -38,8 +38,7 @@ no_fields = record { site = 0; sequence = 0; references = 0; requests = 0 }
 
 -- a result of reading, as programs in C get it
 abbrev pub read_as : Result Fields Refusal → BlockReading
-read_as (Ok fields) = record { answer = success 0; fields = fields }
-read_as (Err refusal) = record { answer = refused (refusal_number refusal) (refusal_value refusal); fields = no_fields }
+read_as r = when_read r (λ f. record { answer = success 0; fields = f }) (λ a. record { answer = a; fields = no_fields })
 
 unfoldable pub block_reading : Bytes → BlockReading
 block_reading b = read_as (reading b)

@@ -11,7 +11,7 @@ ghost use Rattle.answer.specs.Refusals.{done_of};
 ghost use Rattle.c_interface.specs.Calls.{digest_answer, put_output, digest_output, read_as, block_reading, reference_answer, reference_output, requested_as, requested};
 
 use answer::{Answer, Refusal};
-use block::{Digest, Fields, REFERENCE_SIZE, Request, ShapedBlock};
+use block::{DigestBytes, Fields, REFERENCE_SIZE, Request, ShapedBlock};
 
 // What reading a block answers: a success and the block's fields, or the refusal beside fields that are all 0.
 #[repr(C)]
@@ -60,7 +60,7 @@ impl From<Result<Request, Refusal>> for Requested {
 }
 
 // Puts a digest at the front of the output, or refuses with 17 and the length needed if there is no room.
-fn put_digest(digest: &Digest, output: &mut [u8]) -> Result<(), Refusal>
+fn put_digest(digest: &DigestBytes, output: &mut [u8]) -> Result<(), Refusal>
     ensures value { done_of result ≡ digest_answer output.old }
     ensures output_after { output.new ≡ put_output digest.now output.old }
 {

@@ -1,5 +1,5 @@
 -- A number's decimal digits with the last one set apart, which is how `digits` finds them, and how many they are. Assumes nothing.
-use mathlib.Core.Path.{◌≡◌, sym, ap, ◌∙◌}
+use mathlib.Core.Path.{◌≡◌, ap, ◌∙◌}
 use mathlib.Core.Bool.{cond}
 use mathlib.Core.List.{[], ◌∷◌, ◌++◌}
 use Prim.Native.Nat.{ℕ, zero, suc, ◌*◌, ◌/◌, ◌%◌, ◌^◌, ◌≤◌, ◌<◌}
@@ -8,8 +8,6 @@ use native.Mathlib.Omega.{arith}
 use borrow.Author.Tests.{ltb-true, ltb-false, lt-ltb, le-ltb, ne_eqb}
 use lib.Dec.{eqb, ltb}
 use lib.ListN.{length, length-append}
-use Rattle.std.specs.Prelude.{decimal as printed}
-use Rattle.std.proofs.lemmas.Fmt.{decimal_by_steps}
 use Rattle.base.specs.Bytes.{Bytes}
 use Rattle.base.proofs.Tests.{by_test}
 use Rattle.report.specs.Text.{digit, digits, decimal}
@@ -56,6 +54,9 @@ last_apart n =
     let many : 10 ≤ n = ltb-false n 10 e in
     decimal_more n many ∙ rw (ne_eqb (n / 10) 0 (λ q. omega arith)))
 
+pub leading_apart : (n : ℕ) → 0 < n → leading n ≡ leading (n / 10) ++ (digit (n % 10) ∷ [])
+leading_apart n h = leading_some n h ∙ last_apart n
+
 -- a number below a power of ten has no more digits than it says
 pub decimal_short : (k n : ℕ) → n < 10 ^ suc k → length (decimal n) ≤ suc k
 decimal_short zero n h = rw (decimal_one n h) (omega arith)
@@ -66,8 +67,3 @@ decimal_short (suc k) n h =
     let p : n < 10 ^ suc k * 10 = rw (← pow-suc 10 (suc k)) h in
     let l : length (decimal (n / 10)) ≤ suc k = decimal_short k (n / 10) (omega arith) in
     rw (decimal_more n (ltb-false n 10 e), length-append) (omega arith))
-
--- what the library prints
-pub decimal_printed : (n : ℕ) → n < 2 ^ 64 → printed n ≡ decimal n
-decimal_printed = decimal_by_steps (λ n ds. ds ≡ decimal n) (λ n h. sym (decimal_one n h))
-    (λ n ds h e. ap (λ (x : Bytes). x ++ (digit (n % 10) ∷ [])) e ∙ sym (decimal_more n h))

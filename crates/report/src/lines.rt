@@ -1,12 +1,11 @@
 // The text of a listing's lines, with room for those of one step.
-ghost use Rattle.std.specs.Prelude.{◌≡◌, [], ◌∷◌, ◌++◌, ◌+◌, ◌≤◌, length};
+ghost use Rattle.std.specs.Prelude.{◌≡◌, [], ◌∷◌, ◌++◌, ◌+◌, ◌≤◌, length, drop};
 ghost use Rattle.answer.specs.Refusals.{refusal_number};
-ghost use Rattle.report.specs.Text.{field_text, ending, line, delivery_text, refusal_line, refused_line, setup_line, names};
-ghost use Rattle.report.specs.Framing.{field_size, line_size, lines_size};
+ghost use Rattle.report.specs.Text.{decimal, field_text, ending, line, delivery_text, refusal_line, refused_line, setup_line, names};
+ghost use Rattle.report.specs.Framing.{max_digits, field_size, line_size, lines_size};
 
-use crate::{Delivery, FIELDS, LINES_SIZE};
+use crate::{Delivery, FIELDS, LINES_SIZE, MAX_DIGITS};
 use answer::Refusal;
-use itoa::Buffer;
 use std::marker::Model;
 
 // Lines of text. In clauses they are their bytes.
@@ -27,6 +26,30 @@ impl Model for Lines {
     ghost view = { λ lines. take lines.length lines.bytes };
 
     ghost invariant = { λ lines. lines.length ≤ lines_size };
+}
+
+// The last bytes of an array, from index `start` on.
+#[derive(Clone, Copy, Debug, PartialEq, Eq)]
+struct Tail {
+    bytes: [u8; MAX_DIGITS],
+    start: usize,
+}
+
+// The decimal digits of a number, without leading zeros.
+fn digits(n: u64) -> Tail
+    ensures start_le_max_digits { result.start ≤ max_digits }
+    ensures bytes_value { drop result.start result.bytes ≡ decimal n }
+{
+    let mut bytes = [0u8; MAX_DIGITS];
+    let mut start = MAX_DIGITS - 1;
+    bytes[start] = b'0' + (n % 10) as u8;
+    let mut rest = n / 10;
+    while 0 < rest {
+        start -= 1;
+        bytes[start] = b'0' + (rest % 10) as u8;
+        rest /= 10;
+    }
+    Tail { bytes, start }
 }
 
 // The byte that ends field i: a space, or a line feed after the last field.
@@ -71,7 +94,10 @@ impl Lines {
         ensures size { length self.new ≤ length self.old + field_size }
     {
         match field {
-            Some(number) => self.push(Buffer::new().format(number).as_bytes()),
+            Some(number) => {
+                let digits = digits(number);
+                self.push(&digits.bytes[digits.start..]);
+            }
             None => self.push(b"-"),
         }
         self.push(&[ending]);

@@ -8,7 +8,7 @@ use crate::{
     COUNT_OFFSET, MARK_OFFSET, OWNERS_OFFSET, REFERENCES_OFFSET, REQUESTS_OFFSET, RETIRED_OFFSET,
     ROW_SIZE, ROWS_OFFSET, SEQUENCE_OFFSET, SITE_OFFSET, TableBytes,
 };
-use block::{Digest, REFERENCE_SIZE};
+use block::{DigestBytes, REFERENCE_SIZE};
 
 pub fn sites_of(table: &TableBytes) -> u8
     ensures { result ≡ (setup_of table.now).sites }
@@ -42,7 +42,7 @@ pub fn count_of(table: &TableBytes) -> usize
     usize::from(table[COUNT_OFFSET])
 }
 
-pub fn digest_at(table: &TableBytes, i: usize) -> &Digest
+pub fn digest_at(table: &TableBytes, i: usize) -> &DigestBytes
     requires { i < max_places }
     ensures { result.now ≡ digest_at table.now i }
 {

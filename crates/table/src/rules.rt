@@ -10,7 +10,8 @@ ghost use Rattle.table.specs.Steps.{row_of, parent_at};
 use crate::{TableBytes, rows};
 use base::masks::Members;
 
-// Whether place j holds the block of this digest.
+// Whether place j holds the block of this digest. A call of it would make its searches wait for the digest.
+#[inline(always)]
 pub fn has_digest(table: &TableBytes, j: usize, digest: &[u8]) -> bool
     requires { j < max_places }
     ensures { result ≡ has_digest (view_of table.now) digest.now j }

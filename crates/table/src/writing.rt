@@ -11,7 +11,7 @@ use crate::{
     COUNT_OFFSET, MARK_OFFSET, REFERENCES_OFFSET, REQUESTS_OFFSET, ROW_SIZE, ROWS_OFFSET,
     SEQUENCE_OFFSET, SITE_OFFSET, TableBytes, rows,
 };
-use block::{Digest, requests};
+use block::{DigestBytes, requests};
 use setup::SLOTS;
 
 // Puts the counted request of each slot, out of a request list, two bytes each from index `at` on.
@@ -29,7 +29,7 @@ fn put_requests(table: &mut [u8], at: usize, list: &[u8])
 fn write_row(
     table: &mut [u8],
     at: usize,
-    digest: &Digest,
+    digest: &DigestBytes,
     site: u8,
     sequence: u16,
     references: u64,
@@ -49,7 +49,7 @@ fn write_row(
 // Puts an uninterpreted row at the next place, and makes the count one more.
 pub fn put_row(
     table: &mut TableBytes,
-    digest: &Digest,
+    digest: &DigestBytes,
     site: u8,
     sequence: u16,
     references: u64,
